@@ -1,0 +1,3 @@
+-- Laws of truth values and lists.
+pub mod Bools
+pub mod Lists

@@ -1,0 +1,3 @@
+-- Lists and truth values, as the definitions of the other crates use them.
+pub mod Lists
+pub mod Hex

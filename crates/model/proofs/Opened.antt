@@ -1,0 +1,47 @@
+-- The lower layer with every definition opened, for cases that the checker computes.
+use Prim.Native.Nat.{ℕ}
+use mathlib.Core.List.{List, [], _∷_}
+use lib.IntN.{ℤ}
+use Rattle.model.specs.Numbers.{mostNesting, rangeEnd}
+use Rattle.model.specs.Values.{Value, value, trouble}
+use Rattle.model.specs.Readers.{Read, read, refused}
+use Rattle.model.specs.Syntax.{Number}
+use Rattle.model.specs.Meaning.{numberValue}
+use Rattle.model.specs.Check.{check}
+use Rattle.laws.specs.Lists as ofLists
+use Rattle.laws.specs.Hex as ofHex
+use Rattle.model.specs.Values as ofValues
+use Rattle.model.specs.Values.{_>>=_ as _bindValues_}
+use Rattle.model.specs.Sets as ofSets
+use Rattle.model.specs.Syntax as ofSyntax
+use Rattle.model.specs.Readers as ofReaders
+use Rattle.model.specs.Readers.{_>>=_ as _bindReaders_}
+use Rattle.model.specs.Readers.{_>>_ as _thenReaders_}
+use Rattle.model.specs.Expressions as ofExpressions
+use Rattle.model.specs.Commands as ofCommands
+use Rattle.model.specs.Meaning as ofMeaning
+use Rattle.model.specs.Steps as ofSteps
+use Rattle.model.specs.Check as ofCheck
+
+unfoldable pub valueRead : Read Number → Value ℤ
+valueRead (read x n) = numberValue rangeEnd [] x []
+valueRead (refused t) = trouble t
+
+pub data Asked : Type 0 where
+  -- the value of the bytes of a number expression, without variables and tables
+  numberOf : List ℕ → Asked
+  -- the plan check of a model and a plan
+  checkOf : (bytes plan : List ℕ) → Asked
+
+pub data Told : Type 0 where
+  valued : Value ℤ → Told
+  checked : Value ℕ → Told
+
+unfoldable pub opened : Asked → Told
+unfolding ofLists.any ofLists.filter ofLists.isEmpty ofHex.hex ofHex.zeros _bindValues_ ofValues.inRange ofValues.floorBy ofValues.floorQuotient ofSets.isMember ofSets.union ofSets.intersection ofSets.difference ofSets.complement ofSets.isSubset ofSets.consIf ofSets.membersFrom ofSets.members ofSyntax.elementCount ofSyntax.setCount ofSyntax.tableAt ofReaders.after ofReaders.continue _bindReaders_ _thenReaders_ ofReaders.give ofReaders.refuse ofReaders.require ofReaders.peek ofReaders.byte ofReaders.word ofReaders.signed ofReaders.one ofReaders.two ofReaders.three ofReaders.integer ofReaders.command ofReaders.many ofReaders.upTo ofExpressions.among ofExpressions.beginsExpression ofExpressions.formOf ofExpressions.noDepth ofExpressions.isCount ofExpressions.objectsAndMembers ofExpressions.objectNumber ofExpressions.kindNumber ofExpressions.declared ofExpressions.elementAndSet ofExpressions.twoSets ofExpressions.variable ofExpressions.tableNumber ofExpressions.inTable ofExpressions.element ofExpressions.set ofExpressions.number ofCommands.ruleOf ofCommands.costRule ofCommands.preferenceOf ofCommands.setVariable ofCommands.elementVariable ofCommands.numberVariable ofCommands.variableOf ofCommands.variables ofCommands.entries ofCommands.sides ofCommands.tableOf ofCommands.tables ofCommands.conditions ofCommands.effectTarget ofCommands.expressionFor ofCommands.effectOn ofCommands.transition ofCommands.nothingMore ofCommands.model ofMeaning.numberAt ofMeaning.naturalAt ofMeaning.elementValue ofMeaning.setValue ofMeaning.equalZ ofMeaning.entryAt ofMeaning.sumOver ofMeaning.two ofMeaning.fit ofMeaning.expressionValue ofMeaning.allHold ofMeaning.someHolds ofMeaning.numberValue ofSteps.target ofSteps.combine ofSteps.statusOf ofSteps.costOf ofSteps.noWorse ofSteps.noneWorse ofSteps.raise ofSteps.status ofSteps.effects ofSteps.attempt ofSteps.constrained ofSteps.moveOf ofSteps.moveBy ofSteps.move ofSteps.greatest ofSteps.bound ofSteps.systemOf ofSteps.costsOf ofSteps.originOf ofCheck.final ofCheck.afterMove ofCheck.afterStatus ofCheck.follow ofCheck.checkModel ofCheck.check ofCheck.answerNumber ofCheck.answerCost valueRead
+opened (numberOf bytes) = valued (valueRead (ofExpressions.number [] [] mostNesting bytes))
+opened (checkOf bytes plan) = checked (check bytes plan)
+
+unfoldable pub allOpened : List Asked → List Told
+allOpened [] = []
+allOpened (q ∷ qs) = opened q ∷ allOpened qs

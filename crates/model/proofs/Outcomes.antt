@@ -1,0 +1,218 @@
+-- What evaluation comes to: every value of a number expression is in range, and every trouble is one of the state's.
+-- One induction over the expressions says both; Ranges and Troubles take from it what they state.
+use Prim.Native.Nat.{ℕ, zero, suc, _-_, _≤_, _<_}
+use mathlib.Core.Path.{_≡_, subst}
+use mathlib.Core.Bool.{Bool, true, false, cond}
+use mathlib.Core.List.{List, [], _∷_}
+use mathlib.Core.Option.{Option}
+use mathlib.Core.Option as O
+use native.Mathlib.Omega.{arith}
+use lib.ListN.{getElem?, set}
+use lib.Dec.{ltb}
+use lib.IntN.{ℤ, pos, negsuc}
+use lib.Signed.{mag}
+use borrow.Author.Tests.{ltb-true}
+use Rattle.laws.proofs.Bools.{by-cond}
+use Rattle.model.specs.Numbers.{divisorZero, negativeCost}
+use Rattle.model.specs.Values.{Value, value, trouble, _>>=_, inRange, floorQuotient}
+use Rattle.model.specs.System.{Status, base, unfinished, noStatus, Move, blocked, moved, troubleBefore, troubleAfter}
+use Rattle.model.specs.Syntax.{Number, literal, numberVariable, plus, minus, times, quotient, lesser, greater, entry, size, total, choice, Condition, equal, less, atMost, same, member, isEmpty, subset, negation, both, either, Expression, ofSet, ofElement, ofNumber, Table, Effect, Transition, Model}
+use Rattle.model.specs.Meaning.{State, two, fit, numberValue, conditionValue, expressionValue, allHold, someHolds}
+use Rattle.model.specs.Steps.{statusOf, costOf, raise, Attempt, notTaken, taken, status, effects, attempt, constrained, moveOf, moveBy, move, greatest, bound}
+
+-- ---- a value with P, or a trouble whose number has Q
+
+module _ {A : Type 0} (P : A → Type 0) (Q : ℕ → Type 0) where
+  pub data Outcome : Value A → Type 0 where
+    a-value : {a : A} → P a → Outcome (value a)
+    a-trouble : {t : ℕ} → Q t → Outcome (trouble t)
+
+-- the numbers of the troubles that a state gives
+abbrev pub StateTrouble : ℕ → Type 0
+StateTrouble t = (11 ≤ t) × (t ≤ 13)
+
+abbrev pub Anything : {A : Type 0} → A → Type 0
+Anything a = Unit {0}
+
+module _ {A : Type 0} {P : A → Type 0} {Q : ℕ → Type 0} where
+  of-value : {a : A} → Outcome P Q (value a) → P a
+  of-value (a-value p) = p
+
+  of-trouble : {t : ℕ} → Outcome P Q (trouble t) → Q t
+  of-trouble (a-trouble q) = q
+
+  pub outcome-value : {x : Value A} {a : A} → Outcome P Q x → x ≡ value a → P a
+  outcome-value o e = of-value (subst (Outcome P Q) e o)
+
+  pub outcome-trouble : {x : Value A} {t : ℕ} → Outcome P Q x → x ≡ trouble t → Q t
+  outcome-trouble o e = of-trouble (subst (Outcome P Q) e o)
+
+  then-outcome : {B : Type 0} {R : B → Type 0} {x : Value A} {next : A → Value B} → Outcome P Q x → ((a : A) → P a → Outcome R Q (next a)) → Outcome R Q (x >>= next)
+  unfolding _>>=_
+  then-outcome (a-value p) f = f _ p
+  then-outcome (a-trouble q) f = a-trouble q
+
+  cond-outcome : (b : Bool) {x y : Value A} → Outcome P Q x → Outcome P Q y → Outcome P Q (cond b x y)
+  cond-outcome true p q = p
+  cond-outcome false p q = q
+
+  pub trouble-outcome : {R : ℕ → Type 0} {x : Value A} → ((t : ℕ) → Q t → R t) → Outcome P Q x → Outcome P R x
+  trouble-outcome f (a-value p) = a-value p
+  trouble-outcome f (a-trouble q) = a-trouble (f _ q)
+
+  -- where the value itself does not matter
+  any-outcome : {x : Value A} → Outcome P Q x → Outcome Anything Q x
+  any-outcome (a-value p) = a-value tt
+  any-outcome (a-trouble q) = a-trouble q
+
+-- ---- expressions
+
+module _ (end : ℕ) where
+  abbrev pub InRange : ℤ → Type 0
+  InRange z = mag z < end
+
+  in-range-outcome : (z : ℤ) → Outcome InRange StateTrouble (inRange end z)
+  unfolding inRange
+  in-range-outcome z = by-cond (Outcome InRange StateTrouble) (ltb (mag z) end) (λ e. a-value (ltb-true (mag z) end e)) (λ e. a-trouble (omega arith))
+
+quotient-outcome : (a b : ℤ) → Outcome Anything StateTrouble (floorQuotient a b)
+unfolding floorQuotient
+quotient-outcome a (pos zero) = a-trouble {t = divisorZero} (omega arith)
+quotient-outcome a (pos (suc m)) = a-value tt
+quotient-outcome a (negsuc m) = a-value tt
+
+module _ (end : ℕ) (tables : List Table) where
+  fit-outcome : (z : ℤ) → Outcome (InRange end) StateTrouble (fit end tables z)
+  unfolding fit
+  fit-outcome z = in-range-outcome end z
+
+  two-outcome : {B : Type 0} {R : B → Type 0} {x y : Value ℤ} {f : ℤ → ℤ → Value B}
+      → Outcome (InRange end) StateTrouble x → Outcome (InRange end) StateTrouble y → ((a b : ℤ) → Outcome R StateTrouble (f a b)) → Outcome R StateTrouble (two x y f)
+  unfolding two
+  two-outcome p q r = then-outcome p (λ a _. then-outcome q (λ b _. r a b))
+
+  mutual
+    unfolding numberValue
+
+    pub number-outcome : (x : Number) (s : State) → Outcome (InRange end) StateTrouble (numberValue end tables x s)
+    number-outcome (literal z) s = fit-outcome _
+    number-outcome (numberVariable v) s = fit-outcome _
+    number-outcome (plus x y) s = two-outcome (number-outcome x s) (number-outcome y s) (λ a b. fit-outcome _)
+    number-outcome (minus x y) s = two-outcome (number-outcome x s) (number-outcome y s) (λ a b. fit-outcome _)
+    number-outcome (times x y) s = two-outcome (number-outcome x s) (number-outcome y s) (λ a b. fit-outcome _)
+    number-outcome (quotient x y) s = two-outcome (number-outcome x s) (number-outcome y s) (λ a b. then-outcome (quotient-outcome a b) (λ q _. fit-outcome q))
+    number-outcome (lesser x y) s = two-outcome (number-outcome x s) (number-outcome y s) (λ a b. fit-outcome _)
+    number-outcome (greater x y) s = two-outcome (number-outcome x s) (number-outcome y s) (λ a b. fit-outcome _)
+    number-outcome (entry t x y) s = fit-outcome _
+    number-outcome (size x) s = fit-outcome _
+    number-outcome (total t x y) s = fit-outcome _
+    number-outcome (choice c x y) s = then-outcome (condition-outcome c s) (λ b _. cond-outcome b (number-outcome x s) (number-outcome y s))
+
+    pub condition-outcome : (c : Condition) (s : State) → Outcome Anything StateTrouble (conditionValue end tables c s)
+    condition-outcome (equal x y) s = two-outcome (number-outcome x s) (number-outcome y s) (λ a b. a-value tt)
+    condition-outcome (less x y) s = two-outcome (number-outcome x s) (number-outcome y s) (λ a b. a-value tt)
+    condition-outcome (atMost x y) s = two-outcome (number-outcome x s) (number-outcome y s) (λ a b. a-value tt)
+    condition-outcome (same x y) s = a-value tt
+    condition-outcome (member x y) s = a-value tt
+    condition-outcome (isEmpty x) s = a-value tt
+    condition-outcome (subset x y) s = a-value tt
+    condition-outcome (negation c) s = then-outcome (condition-outcome c s) (λ b _. a-value tt)
+    condition-outcome (both c d) s = then-outcome (condition-outcome c s) (λ b _. cond-outcome b (condition-outcome d s) (a-value tt))
+    condition-outcome (either c d) s = then-outcome (condition-outcome c s) (λ b _. cond-outcome b (a-value tt) (condition-outcome d s))
+
+  expression-outcome : (x : Expression) (s : State) → Outcome Anything StateTrouble (expressionValue end tables x s)
+  unfolding expressionValue
+  expression-outcome (ofSet x) s = a-value tt
+  expression-outcome (ofElement x) s = a-value tt
+  expression-outcome (ofNumber x) s = any-outcome (number-outcome x s)
+
+  pub all-hold-outcome : (cs : List Condition) (s : State) → Outcome Anything StateTrouble (allHold end tables cs s)
+  unfolding allHold
+  all-hold-outcome [] s = a-value tt
+  all-hold-outcome (c ∷ cs) s = then-outcome (condition-outcome c s) (λ b _. cond-outcome b (all-hold-outcome cs s) (a-value tt))
+
+  pub some-holds-outcome : (bs : List (List Condition)) (s : State) → Outcome Anything StateTrouble (someHolds end tables bs s)
+  unfolding someHolds
+  some-holds-outcome [] s = a-value tt
+  some-holds-outcome (b ∷ bs) s = then-outcome (all-hold-outcome b s) (λ h _. cond-outcome h (a-value tt) (some-holds-outcome bs s))
+
+-- ---- steps
+
+pub data StatusOutcome : Status → Type 0 where
+  is-base : StatusOutcome base
+  is-unfinished : StatusOutcome unfinished
+  no-status : {t : ℕ} → StateTrouble t → StatusOutcome (noStatus t)
+
+pub data MoveOutcome (end : ℕ) : Move State ℕ → Type 0 where
+  no-move : MoveOutcome end blocked
+  a-move : {c : ℕ} {u : State} → c < end → MoveOutcome end (moved c u)
+  trouble-before : {t : ℕ} → StateTrouble t → MoveOutcome end (troubleBefore t)
+  trouble-after : {c t : ℕ} → c < end → StateTrouble t → MoveOutcome end (troubleAfter c t)
+
+-- the cost of a step that is taken is below the range's end
+data AttemptOutcome (end : ℕ) : Attempt → Type 0 where
+  not-taken : AttemptOutcome end notTaken
+  is-taken : {c : ℕ} {new : State} → c < end → AttemptOutcome end (taken c new)
+
+status-of-outcome : {x : Value Bool} → Outcome Anything StateTrouble x → StatusOutcome (statusOf x)
+unfolding statusOf
+status-of-outcome (a-value {a = true} p) = is-base
+status-of-outcome (a-value {a = false} p) = is-unfinished
+status-of-outcome (a-trouble q) = no-status q
+
+module _ (end : ℕ) where
+  cost-outcome : (z : ℤ) → mag z < end → Outcome (λ c. c < end) StateTrouble (costOf z)
+  unfolding costOf
+  cost-outcome (pos c) h = a-value h
+  cost-outcome (negsuc c) h = a-trouble {t = negativeCost} (omega arith)
+
+  raise-below : (h : ℕ) (z : ℤ) → h ≤ end - 1 → mag z < end → raise h z ≤ end - 1
+  unfolding raise
+  raise-below h (pos a) p q = omega arith
+  raise-below h (negsuc a) p q = p
+
+module _ (end : ℕ) (m : Model) where
+  pub status-outcome : (s : State) → StatusOutcome (status end m s)
+  unfolding status
+  status-outcome s = status-of-outcome (some-holds-outcome end (m .tables) (m .baseCases) s)
+
+  effects-outcome : (fs : List Effect) (s new : State) → Outcome Anything StateTrouble (effects end m fs s new)
+  unfolding effects
+  effects-outcome [] s new = a-value tt
+  effects-outcome (f ∷ fs) s new = then-outcome (expression-outcome end (m .tables) (f .result) s) (λ z _. effects-outcome fs s (set new (f .target) z))
+
+  attempt-outcome : (t : Transition) (s : State) → Outcome (AttemptOutcome end) StateTrouble (attempt end m t s)
+  unfolding attempt
+  attempt-outcome t s = then-outcome (all-hold-outcome end (m .tables) (t .conditions) s) (λ b _. cond-outcome b
+      (then-outcome (number-outcome end (m .tables) (t .cost) s) (λ z h. then-outcome (cost-outcome end z h) (λ c k. then-outcome (effects-outcome (t .effects) s s) (λ new _. a-value (is-taken k)))))
+      (a-value not-taken))
+
+  constrained-outcome : (c : ℕ) (new : State) {x : Value Bool} → c < end → Outcome Anything StateTrouble x → MoveOutcome end (constrained end m c new x)
+  unfolding constrained
+  constrained-outcome c new h (a-value {a = true} p) = a-move h
+  constrained-outcome c new h (a-value {a = false} p) = no-move
+  constrained-outcome c new h (a-trouble q) = trouble-after h q
+
+  move-of-outcome : {x : Value Attempt} → Outcome (AttemptOutcome end) StateTrouble x → MoveOutcome end (moveOf end m x)
+  unfolding moveOf
+  move-of-outcome (a-value not-taken) = no-move
+  move-of-outcome (a-value (is-taken {c} {new} h)) = constrained-outcome c new h (all-hold-outcome end (m .tables) (m .constraints) new)
+  move-of-outcome (a-trouble q) = trouble-before q
+
+  move-by-outcome : (o : Option Transition) (s : State) → MoveOutcome end (moveBy end m o s)
+  unfolding moveBy
+  move-by-outcome O.none s = no-move
+  move-by-outcome (O.some t) s = move-of-outcome (attempt-outcome t s)
+
+  pub move-outcome : (s : State) (t : ℕ) → MoveOutcome end (move end m s t)
+  unfolding move
+  move-outcome s t = move-by-outcome (getElem? (m .transitions) t) s
+
+  greatest-outcome : (bs : List Number) (s : State) (h : ℕ) → h ≤ end - 1 → Outcome (λ h. h ≤ end - 1) StateTrouble (greatest end m bs s h)
+  unfolding greatest
+  greatest-outcome [] s h p = a-value p
+  greatest-outcome (b ∷ bs) s h p = then-outcome (number-outcome end (m .tables) b s) (λ z q. greatest-outcome bs s (raise h z) (raise-below end h z p q))
+
+  pub bound-outcome : (s : State) → Outcome (λ h. h ≤ end - 1) StateTrouble (bound end m s)
+  unfolding bound
+  bound-outcome s = greatest-outcome (m .bounds) s 0 (omega arith)

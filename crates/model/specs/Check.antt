@@ -1,0 +1,55 @@
+-- The plan check: step by step, to the first trouble; then on bytes.
+use Prim.Native.Nat.{ℕ}
+use mathlib.Core.Bool.{Bool, true, false, cond}
+use mathlib.Core.List.{List, [], _∷_}
+use lib.ListN.{length}
+use lib.Dec.{ltb}
+use Rattle.model.specs.Numbers.{modelTooLong, badSetting, notAPlan, mostModelBytes, mostSteps, rangeEnd}
+use Rattle.model.specs.Values.{Value, value, trouble}
+use Rattle.model.specs.System.{Costs, System, Status, base, unfinished, noStatus, Move, blocked, moved, troubleBefore, troubleAfter}
+use Rattle.model.specs.Readers.{Read, read, refused}
+use Rattle.model.specs.Syntax.{Model}
+use Rattle.model.specs.Commands.{model}
+use Rattle.model.specs.Steps.{target, costsOf, systemOf}
+
+module _ {S C : Type 0} (K : Costs C) (M : System S C) where
+  -- "last the final state"
+  unfoldable pub final : Status → (g : C) → Value C
+  final base g = value g
+  final unfinished g = trouble notAPlan
+  final (noStatus t) g = trouble t
+
+  -- "conditions, cost, effects, constraints"
+  unfoldable pub afterMove : Move S C → (C → S → Value C) → Value C
+  afterMove blocked rest = trouble notAPlan
+  afterMove (moved c u) rest = rest c u
+  afterMove (troubleBefore t) rest = trouble t
+  afterMove (troubleAfter c t) rest = trouble t
+
+  -- "base before the end, number too high", then the step
+  unfoldable pub afterStatus : Status → (declared : Bool) → Move S C → (C → S → Value C) → Value C
+  afterStatus base declared move rest = trouble notAPlan
+  afterStatus unfinished declared move rest = cond declared (afterMove move rest) (trouble notAPlan)
+  afterStatus (noStatus t) declared move rest = trouble t
+
+  -- the cost of a plan from s, g being spent on the way there
+  unfoldable pub follow : List ℕ → S → (g : C) → Value C
+  follow [] s g = final (M .status s) g
+  follow (t ∷ ts) s g = afterStatus (M .status s) (ltb t (M .transitions)) (M .move s t) (λ c u. follow ts u (K .combine g c))
+
+unfoldable pub checkModel : Read Model → List ℕ → Value ℕ
+checkModel (read m n) plan = follow (costsOf (m .rule)) (systemOf rangeEnd m) plan (target m) 0
+checkModel (refused t) plan = trouble t
+
+-- "takes a model and up to 256 plan bytes"; a trouble is the number of the refusal
+unfoldable pub check : (bytes plan : List ℕ) → Value ℕ
+check bytes plan = cond (ltb mostModelBytes (length bytes)) (trouble modelTooLong) (cond (ltb mostSteps (length plan)) (trouble badSetting) (checkModel (model bytes) plan))
+
+-- the answer number, and the cost, which is 0 at a refusal
+unfoldable pub answerNumber : Value ℕ → ℕ
+answerNumber (value c) = 0
+answerNumber (trouble t) = t
+
+unfoldable pub answerCost : Value ℕ → ℕ
+answerCost (value c) = c
+answerCost (trouble t) = 0

@@ -1,0 +1,13 @@
+-- The lower layer's definitions, in the order to read them.
+pub mod Numbers
+pub mod Values
+pub mod Sets
+pub mod System
+pub mod Plans
+pub mod Syntax
+pub mod Readers
+pub mod Expressions
+pub mod Commands
+pub mod Meaning
+pub mod Steps
+pub mod Check

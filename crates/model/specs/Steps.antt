@@ -1,0 +1,112 @@
+-- A model as a system: its start, the status of a state, a transition's move, h, dominance, its costs.
+use Prim.Native.Nat.{ℕ, suc, _+_, max}
+use mathlib.Core.Bool.{Bool, true, false, cond, _&&_}
+use mathlib.Core.List.{List, [], _∷_, map}
+use mathlib.Core.Option.{Option}
+use mathlib.Core.Option as O
+use lib.ListN.{length, getElem?, set}
+use lib.Dec.{leb}
+use lib.IntN.{ℤ, pos, negsuc}
+use lib.Signed.{leZ}
+use Rattle.model.specs.Numbers.{negativeCost}
+use Rattle.model.specs.Values.{Value, value, trouble, _>>=_}
+use Rattle.model.specs.System.{Costs, System, Origin, Status, base, unfinished, noStatus, Move, blocked, moved, troubleBefore, troubleAfter}
+use Rattle.model.specs.Syntax.{Number, Preference, none, less, more, Rule, sum, largest, Variable, Effect, Transition, Model}
+use Rattle.model.specs.Meaning.{State, numberAt, equalZ, numberValue, expressionValue, allHold, someHolds}
+
+unfoldable pub target : Model → State
+target m = map (λ x. x .start) (m .variables)
+
+unfoldable pub combine : Rule → ℕ → ℕ → ℕ
+combine sum a b = a + b
+combine largest a b = max a b
+
+unfoldable pub statusOf : Value Bool → Status
+statusOf (value true) = base
+statusOf (value false) = unfinished
+statusOf (trouble t) = noStatus t
+
+unfoldable pub costOf : ℤ → Value ℕ
+costOf (pos c) = value c
+costOf (negsuc c) = trouble negativeCost
+
+-- "no worse by preference on every preferred variable and equal on the rest"
+unfoldable pub noWorse : Preference → (t s : ℤ) → Bool
+noWorse none t s = equalZ t s
+noWorse less t s = leZ t s
+noWorse more t s = leZ s t
+
+-- on the variables from number v on
+unfoldable pub noneWorse : List Variable → (v : ℕ) (t s : State) → Bool
+noneWorse [] v t s = true
+noneWorse (x ∷ xs) v t s = noWorse (x .preference) (numberAt t v) (numberAt s v) && noneWorse xs (suc v) t s
+
+-- the greater of a bound and what came before it; a negative one counts as 0
+unfoldable pub raise : ℕ → ℤ → ℕ
+raise h (pos a) = max h a
+raise h (negsuc a) = h
+
+-- blocked by a condition; or the step's cost and the new state, constraints not yet tried
+pub data Attempt : Type 0 where
+  notTaken : Attempt
+  taken : ℕ → State → Attempt
+
+-- end: of the numbers' range
+module _ (end : ℕ) (m : Model) where
+  unfoldable pub status : State → Status
+  status s = statusOf (someHolds end (m .tables) (m .baseCases) s)
+
+  -- "Effects all read the old state" s; new is the new state so far
+  unfoldable pub effects : List Effect → (s new : State) → Value State
+  effects [] s new = value new
+  effects (f ∷ fs) s new = do
+    z ← expressionValue end (m .tables) (f .result) s
+    effects fs s (set new (f .target) z)
+
+  unfoldable pub attempt : Transition → State → Value Attempt
+  attempt t s = do
+    holds ← allHold end (m .tables) (t .conditions) s
+    cond holds
+        (do
+          z ← numberValue end (m .tables) (t .cost) s
+          c ← costOf z
+          new ← effects (t .effects) s s
+          value (taken c new))
+        (value notTaken)
+
+  -- "the new state meets all constraints"
+  unfoldable pub constrained : ℕ → State → Value Bool → Move State ℕ
+  constrained c new (value true) = moved c new
+  constrained c new (value false) = blocked
+  constrained c new (trouble t) = troubleAfter c t
+
+  unfoldable pub moveOf : Value Attempt → Move State ℕ
+  moveOf (value notTaken) = blocked
+  moveOf (value (taken c new)) = constrained c new (allHold end (m .tables) (m .constraints) new)
+  moveOf (trouble t) = troubleBefore t
+
+  unfoldable pub moveBy : Option Transition → State → Move State ℕ
+  moveBy O.none s = blocked
+  moveBy (O.some t) s = moveOf (attempt t s)
+
+  unfoldable pub move : State → ℕ → Move State ℕ
+  move s t = moveBy (getElem? (m .transitions) t) s
+
+  -- "h is the greatest of 0 and the bounds", all evaluated in the order written
+  unfoldable pub greatest : List Number → State → (h : ℕ) → Value ℕ
+  greatest [] s h = value h
+  greatest (b ∷ bs) s h = do
+    z ← numberValue end (m .tables) b s
+    greatest bs s (raise h z)
+
+  unfoldable pub bound : State → Value ℕ
+  bound s = greatest (m .bounds) s 0
+
+  unfoldable pub systemOf : System State ℕ
+  systemOf = record { status = status; transitions = length (m .transitions); move = move; bound = bound; dominates = noneWorse (m .variables) 0 }
+
+unfoldable pub costsOf : Rule → Costs ℕ
+costsOf rule = record { empty = 0; combine = combine rule; atMost = leb }
+
+unfoldable pub originOf : Model → Origin State ℕ
+originOf m = record { start = target m; spent = 0 }

@@ -1,0 +1,13 @@
+-- What is proved of the search's definition.
+pub mod Opened
+pub mod Cases
+pub mod Examples
+pub mod Induction
+pub mod Rounds
+pub mod Invariant
+pub mod Insertion
+pub mod Expansion
+pub mod Layer
+pub mod Sound
+pub mod Counts
+pub mod Mission

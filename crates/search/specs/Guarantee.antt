@@ -1,0 +1,49 @@
+-- What an answer is worth: demand 3 of the mission, of plans as document 01 defines them.
+use Prim.Native.Nat.{ℕ, _≤_}
+use mathlib.Core.Path.{_≡_}
+use mathlib.Core.Bool.{Bool, true, false}
+use mathlib.Core.List.{List, [], _∷_}
+use lib.ListN.{length}
+use Rattle.laws.specs.Lists.{All, Different}
+use Rattle.model.specs.System.{Costs, System, Origin, unfinished}
+use Rattle.model.specs.Plans.{Plan, InLayer, TrueDeclarations, Overfull, OpenAt}
+use Rattle.search.specs.Answer.{Verdict, cheapest, noPlan, widthStop, lengthStop, budgetSpent, contradicted, Outcome, verdict, Answer}
+
+-- "Runs with 2, 3 or 4 are stopped"
+pub data Stopped : Outcome → Type 0 where
+  by-width : Stopped (verdict widthStop)
+  by-length : Stopped (verdict lengthStop)
+  by-budget : Stopped (verdict budgetSpent)
+
+-- the last of the widths
+abbrev pub widest : ℕ → List ℕ → ℕ
+widest w [] = w
+widest w (v ∷ vs) = widest v vs
+
+module _ {S C : Type 0} (K : Costs C) (M : System S C) (o : Origin S C) where
+  -- where the declarations are true, P holds of the cost of every plan, of every length, what was spent before included
+  abbrev pub OfEveryPlan : (C → Type 0) → Type 0
+  OfEveryPlan P = TrueDeclarations K M (o .start) → (p : List ℕ) (c : C) → Plan K M (o .start) p c → P (K .combine (o .spent) c)
+
+  -- W the widest beam, limit the length limit
+  module _ (W limit : ℕ) where
+    pub record Guarantee (a : Answer C) : Type 0 where
+      -- "under every verdict a plan given is a plan of the model, at the cost stated"
+      pub plan-given : a .flag ≡ true → (c : C) × Plan K M (o .start) (a .steps) c × (a .cost ≡ K .combine (o .spent) c)
+      -- "a plan marked cheapest costs no more than every other plan of the model, of every length"
+      pub cheapest-given : a .outcome ≡ verdict cheapest → a .flag ≡ true
+      pub cheapest-least : a .outcome ≡ verdict cheapest → OfEveryPlan (λ c. K .atMost (a .cost) c ≡ true)
+      -- "'no plan' then means that none exists, of whatever length"
+      pub no-plan : a .outcome ≡ verdict noPlan → OfEveryPlan (λ c. ⊥)
+      -- "a stopped run's bound is then at most the cost of every plan"
+      pub bound-below : Stopped (a .outcome) → OfEveryPlan (λ c. K .atMost (a .bound) c ≡ true)
+      -- "'Contradicted' is given only if a declaration is false"
+      pub declaration-false : a .outcome ≡ verdict contradicted → TrueDeclarations K M (o .start) → ⊥
+      -- behind a width stop, a layer with more different states than the widest beam; behind a length stop, an unfinished state at the limit
+      pub width-witness : a .outcome ≡ verdict widthStop → Overfull M (o .start) W limit
+      pub length-witness : a .outcome ≡ verdict lengthStop → OpenAt M (o .start) limit
+
+    -- "every layer of the model up to the length limit has at most as many different states as the widest beam, and no unfinished state lies at the limit"
+    pub record Fits : Type 0 where
+      pub layers-fit : (k : ℕ) (l : List S) → k ≤ limit → Different l → All (InLayer M (o .start) k) l → length l ≤ W
+      pub none-open : (s : S) → InLayer M (o .start) limit s → M .status s ≡ unfinished → ⊥

@@ -1,0 +1,2 @@
+-- The definitions agree with the independent implementation.
+pub mod Agreement

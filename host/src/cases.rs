@@ -1,0 +1,156 @@
+//! The stored cases: calls with the answers of the reference, and their text as vector modules.
+
+pub mod meaning;
+pub mod plans;
+pub mod reading;
+pub mod searches;
+pub mod text;
+
+use crate::build::Bytes;
+use crate::reference::{plan_check_with, search_with, words_needed, Answer};
+use crate::slip::Slip;
+
+/// The byte with which lent plan buffers are filled.
+pub const FILL: u8 = 0xA5;
+
+#[derive(Clone, PartialEq, Eq, Debug)]
+pub enum Call {
+    Check {
+        model: Bytes,
+        plan: Bytes,
+    },
+    Search {
+        model: Bytes,
+        width: u64,
+        length: u64,
+        budget: u64,
+        buffer: Bytes,
+        words: u64,
+    },
+}
+
+#[derive(Clone, PartialEq, Eq, Debug)]
+pub enum Outcome {
+    Check(u8, u64),
+    Search(Answer, Bytes),
+}
+
+impl Call {
+    /// A search with the buffers that its settings need.
+    pub fn search(model: Bytes, width: u64, length: u64, budget: u64) -> Call {
+        Call::Search {
+            model,
+            width,
+            length,
+            budget,
+            buffer: vec![FILL; length as usize],
+            words: words_needed(width, length),
+        }
+    }
+
+    pub fn run(&self, slip: Slip) -> Outcome {
+        match self {
+            Call::Check { model, plan } => {
+                let (answer, cost) = plan_check_with(slip, model, plan);
+                Outcome::Check(answer, cost)
+            }
+            Call::Search {
+                model,
+                width,
+                length,
+                budget,
+                buffer,
+                words,
+            } => {
+                let mut after = buffer.clone();
+                let answer = search_with(slip, model, *width, *length, *budget, &mut after, *words);
+                Outcome::Search(answer, after)
+            }
+        }
+    }
+}
+
+impl Outcome {
+    /// Answer and cost of a check, or the nine fields of a search.
+    pub fn fields(&self) -> Vec<u64> {
+        match self {
+            Outcome::Check(answer, cost) => vec![u64::from(*answer), *cost],
+            Outcome::Search(answer, _) => vec![
+                u64::from(answer.refused),
+                u64::from(answer.number),
+                u64::from(answer.plan_flag),
+                answer.cost,
+                answer.bound,
+                answer.length,
+                answer.expansions,
+                answer.rounds,
+                answer.width,
+            ],
+        }
+    }
+}
+
+/// A call, with what it is for and the fields stated by hand in the chosen ones ("_" for any).
+pub struct Case {
+    pub note: Option<String>,
+    pub call: Call,
+    pub stated: Option<String>,
+}
+
+impl Case {
+    /// Whether the outcome has the fields stated by hand.
+    pub fn as_stated(&self, outcome: &Outcome) -> bool {
+        let Some(stated) = &self.stated else {
+            return true;
+        };
+        let fields = outcome.fields();
+        let words: Vec<&str> = stated.split(' ').collect();
+        let agrees = |(word, field): (&&str, &u64)| *word == "_" || *word == field.to_string();
+        words.len() == fields.len() && words.iter().zip(&fields).all(agrees)
+    }
+}
+
+/// A list of cases under assembly.
+#[derive(Default)]
+pub struct Cases(pub Vec<Case>);
+
+impl Cases {
+    pub fn add(&mut self, note: &str, call: Call, stated: &str) {
+        self.0.push(Case {
+            note: Some(note.to_string()),
+            call,
+            stated: Some(stated.to_string()),
+        });
+    }
+
+    pub fn add_random(&mut self, call: Call) {
+        self.0.push(Case {
+            note: None,
+            call,
+            stated: None,
+        });
+    }
+
+    /// A plan check whose answer and cost are stated.
+    pub fn check(&mut self, note: &str, model: Bytes, plan: &[u8], answer: u8, cost: u64) {
+        let plan = plan.to_vec();
+        let call = Call::Check { model, plan };
+        self.add(note, call, &format!("{answer} {cost}"));
+    }
+
+    /// A search with the buffers due, whose fields are stated.
+    pub fn search(&mut self, note: &str, model: Bytes, settings: (u64, u64, u64), stated: &str) {
+        let (width, length, budget) = settings;
+        self.add(note, Call::search(model, width, length, budget), stated);
+    }
+}
+
+/// The groups of cases by the name of their files.
+pub fn groups() -> Vec<(&'static str, Vec<Case>)> {
+    vec![
+        ("Reading", reading::cases()),
+        ("Meaning", meaning::cases()),
+        ("Plans", plans::cases()),
+        ("Searches", searches::cases()),
+    ]
+}

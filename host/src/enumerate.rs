@@ -1,0 +1,249 @@
+//! Full enumeration of small models: all reachable states, without pruning and without dominance.
+
+use crate::reference::verdict;
+use crate::reference::{Answer, Model, State};
+use std::collections::{BTreeSet, HashMap};
+
+/// What trying the base cases of a state ends with.
+#[derive(Clone, Copy, PartialEq, Eq, Debug)]
+pub enum Standing {
+    Base,
+    Unfinished,
+    NoValue,
+}
+
+/// An allowed step: the transition's number, its cost, and the state reached, by index.
+#[derive(Clone, Copy, Debug)]
+pub struct Step {
+    pub number: u8,
+    pub cost: i64,
+    pub to: usize,
+}
+
+/// The target (index 0) and all states that allowed steps reach from it.
+pub struct Space {
+    pub states: Vec<State>,
+    pub standing: Vec<Standing>,
+    pub steps: Vec<Vec<Step>>,
+    /// The cost of the cheapest plan from each state, of whatever length.
+    pub to_go: Vec<Option<i64>>,
+}
+
+/// The step by a transition from a state, if it is allowed.
+fn allowed_step(model: &Model, number: usize, state: &State) -> Option<(i64, State)> {
+    let transition = &model.transitions[number];
+    let allowed = || -> Result<Option<(i64, State)>, u8> {
+        if !model.all_hold(&transition.conditions, state)? {
+            return Ok(None);
+        }
+        let cost = model.step_cost(transition, state)?;
+        let new = model.after(transition, state)?;
+        Ok(model.meets_constraints(&new)?.then_some((cost, new)))
+    };
+    allowed().unwrap_or(None)
+}
+
+fn standing(model: &Model, state: &State) -> Standing {
+    match model.is_base(state) {
+        Ok(true) => Standing::Base,
+        Ok(false) => Standing::Unfinished,
+        Err(_) => Standing::NoValue,
+    }
+}
+
+impl Space {
+    /// The space of a model, or nothing if it has more than `limit` states.
+    pub fn of(model: &Model, limit: usize) -> Option<Space> {
+        let target = model.target();
+        let mut index = HashMap::from([(target.clone(), 0)]);
+        let mut space = Space {
+            states: vec![target],
+            standing: Vec::new(),
+            steps: Vec::new(),
+            to_go: Vec::new(),
+        };
+        let mut at = 0;
+        while at < space.states.len() {
+            let state = space.states[at].clone();
+            let standing = standing(model, &state);
+            let mut steps = Vec::new();
+            if standing == Standing::Unfinished {
+                for number in 0..model.transitions.len() {
+                    let Some((cost, new)) = allowed_step(model, number, &state) else {
+                        continue;
+                    };
+                    let to = *index.entry(new.clone()).or_insert(space.states.len());
+                    if to == space.states.len() {
+                        space.states.push(new);
+                    }
+                    let number = number as u8;
+                    steps.push(Step { number, cost, to });
+                }
+            }
+            if space.states.len() > limit {
+                return None;
+            }
+            space.standing.push(standing);
+            space.steps.push(steps);
+            at += 1;
+        }
+        space.to_go = space.cheapest_to_go(model);
+        Some(space)
+    }
+
+    /// Lowers the cost from each state until nothing changes. Costs are not negative, so this ends.
+    fn cheapest_to_go(&self, model: &Model) -> Vec<Option<i64>> {
+        let base = |standing: &Standing| (*standing == Standing::Base).then_some(0);
+        let mut to_go: Vec<Option<i64>> = self.standing.iter().map(base).collect();
+        loop {
+            let mut changed = false;
+            for (at, steps) in self.steps.iter().enumerate() {
+                for step in steps {
+                    let Some(rest) = to_go[step.to] else { continue };
+                    let cost = model.join(step.cost, rest);
+                    if to_go[at].is_none_or(|old| cost < old) {
+                        to_go[at] = Some(cost);
+                        changed = true;
+                    }
+                }
+            }
+            if !changed {
+                return to_go;
+            }
+        }
+    }
+
+    /// Layers 0 to `length` of the model, as sets of states.
+    pub fn layers(&self, length: u64) -> Vec<BTreeSet<usize>> {
+        let mut layers = vec![BTreeSet::from([0])];
+        for _ in 0..length {
+            let last = layers.last().unwrap();
+            let next = last
+                .iter()
+                .flat_map(|at| self.steps[*at].iter().map(|step| step.to))
+                .collect();
+            layers.push(next);
+        }
+        layers
+    }
+
+    /// The cost of the cheapest plan of at most `length` steps, by layers with the least cost of each state.
+    pub fn cheapest_within(&self, model: &Model, length: u64) -> Option<i64> {
+        let mut layer = HashMap::from([(0, 0)]);
+        let mut cheapest: Option<i64> = None;
+        for _ in 0..=length {
+            let mut next: HashMap<usize, i64> = HashMap::new();
+            for (at, cost) in &layer {
+                if self.standing[*at] == Standing::Base {
+                    cheapest = Some(cheapest.map_or(*cost, |old| old.min(*cost)));
+                }
+                for step in &self.steps[*at] {
+                    let cost = model.join(*cost, step.cost);
+                    let least = next.entry(step.to).or_insert(cost);
+                    *least = cost.min(*least);
+                }
+            }
+            layer = next;
+        }
+        cheapest
+    }
+
+    /// The cost of a plan from the target, if the sequence is one.
+    pub fn plan_cost(&self, model: &Model, plan: &[u8]) -> Option<i64> {
+        let mut at = 0;
+        let mut cost = 0;
+        for number in plan {
+            let step = self.steps[at].iter().find(|step| step.number == *number)?;
+            cost = model.join(cost, step.cost);
+            at = step.to;
+        }
+        (self.standing[at] == Standing::Base).then_some(cost)
+    }
+
+    /// Whether h is at most the cost of every plan, in every reachable state where h has a value.
+    pub fn bounds_true(&self, model: &Model) -> bool {
+        let too_high = |state, to_go| model.h(state).is_ok_and(|h| h > to_go);
+        let pairs = self.states.iter().zip(&self.to_go);
+        let mut with_plans = pairs.filter_map(|(state, to_go)| Some((state, (*to_go)?)));
+        !with_plans.any(|(state, to_go)| too_high(state, to_go))
+    }
+
+    /// Whether a dominating state always has a plan costing no more.
+    pub fn preferences_true(&self, model: &Model) -> bool {
+        let worse = |better: &Option<i64>, worse: &Option<i64>| match (better, worse) {
+            (_, None) => false,
+            (None, Some(_)) => true,
+            (Some(better), Some(worse)) => better > worse,
+        };
+        for (first, first_to_go) in self.states.iter().zip(&self.to_go) {
+            for (second, second_to_go) in self.states.iter().zip(&self.to_go) {
+                if worse(first_to_go, second_to_go) && model.dominates(first, second) {
+                    return false;
+                }
+            }
+        }
+        true
+    }
+
+    /// Whether two different reachable states are comparable.
+    pub fn some_dominance(&self, model: &Model) -> bool {
+        self.states.iter().enumerate().any(|(at, first)| {
+            let mut others = self.states.iter().enumerate();
+            others.any(|(place, second)| place != at && model.dominates(first, second))
+        })
+    }
+
+    /// Demand 3's last sentence: layers no wider than the beam, and no unfinished state at the limit.
+    pub fn fits(&self, width: u64, length: u64) -> bool {
+        let layers = self.layers(length);
+        let at_limit = &layers[length as usize];
+        layers.iter().all(|layer| layer.len() as u64 <= width)
+            && at_limit
+                .iter()
+                .all(|at| self.standing[*at] != Standing::Unfinished)
+    }
+
+    /// The sentence of demand 3 that an answer breaks, if it breaks one.
+    pub fn broken(
+        &self,
+        model: &Model,
+        declarations_true: bool,
+        settings: (u64, u64),
+        answer: &Answer,
+        plan: &[u8],
+    ) -> Option<&'static str> {
+        let cost = answer.cost as i64;
+        let bound = answer.bound as i64;
+        if answer.refused {
+            return None;
+        }
+        if answer.plan_flag && self.plan_cost(model, plan) != Some(cost) {
+            return Some("a plan given is a plan of the model, at the cost stated");
+        }
+        let least = self.to_go[0];
+        let broken = match answer.number {
+            verdict::CHEAPEST
+                if declarations_true && (!answer.plan_flag || least != Some(cost)) =>
+            {
+                Some("a plan marked cheapest costs no more than every other plan")
+            }
+            verdict::NO_PLAN if declarations_true && least.is_some() => {
+                Some("no plan means that none exists")
+            }
+            verdict::WIDTH_STOP | verdict::LENGTH_STOP | verdict::BUDGET_SPENT
+                if declarations_true && least.is_some_and(|least| bound > least) =>
+            {
+                Some("a stopped run's bound is at most the cost of every plan")
+            }
+            verdict::CONTRADICTED if declarations_true => {
+                Some("contradicted is given only if a declaration is false")
+            }
+            _ => None,
+        };
+        let stop = [verdict::WIDTH_STOP, verdict::LENGTH_STOP].contains(&answer.number);
+        if stop && self.fits(settings.0, settings.1) {
+            return Some("neither stop is given when the layers fit");
+        }
+        broken
+    }
+}

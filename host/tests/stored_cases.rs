@@ -1,0 +1,124 @@
+//! The stored cases: answers stated by hand, strength against planted slips, and the files written from them.
+
+use repgypsum_host::cases::text::{files, CASES_PER_FILE};
+use repgypsum_host::cases::{groups, Outcome};
+use repgypsum_host::slip::{Slip, ALL};
+use std::collections::BTreeSet;
+use std::path::Path;
+
+#[test]
+fn answers_are_as_stated() {
+    let mut wrong = 0;
+    for (group, cases) in groups() {
+        let stated = cases.iter().filter(|case| case.stated.is_some()).count();
+        println!("{group}: {} cases, {stated} stated by hand", cases.len());
+        for case in &cases {
+            let outcome = case.call.run(Slip::Nothing);
+            if !case.as_stated(&outcome) {
+                wrong += 1;
+                println!(
+                    "{group}, {}: stated {}, found {:?}",
+                    case.note.as_deref().unwrap_or(""),
+                    case.stated.as_deref().unwrap_or(""),
+                    outcome.fields()
+                );
+            }
+        }
+    }
+    assert_eq!(wrong, 0);
+}
+
+/// Each planted slip changes the answer of at least two stored cases.
+#[test]
+fn slips_are_caught() {
+    let groups = groups();
+    let mut weak = Vec::new();
+    println!(
+        "{:24} {:>8} {:>8} {:>8} {:>8}",
+        "slip", "Reading", "Meaning", "Plans", "Searches"
+    );
+    for (slip, text) in ALL {
+        let mut caught = Vec::new();
+        for (_, cases) in &groups {
+            let changed =
+                |call: &repgypsum_host::cases::Call| call.run(*slip) != call.run(Slip::Nothing);
+            caught.push(cases.iter().filter(|case| changed(&case.call)).count());
+        }
+        println!(
+            "{:24} {:8} {:8} {:8} {:8}  {text}",
+            format!("{slip:?}"),
+            caught[0],
+            caught[1],
+            caught[2],
+            caught[3]
+        );
+        if caught.iter().sum::<usize>() < 2 {
+            weak.push(*slip);
+        }
+    }
+    println!("{} slips", ALL.len());
+    assert!(ALL.len() >= 20);
+    assert_eq!(weak, Vec::<Slip>::new());
+}
+
+/// The searches are small enough to be computed by the proof checker, and meet every verdict and refusal.
+#[test]
+fn searches_are_small_and_varied() {
+    let mut verdicts = [0; 6];
+    let mut refusals = [0; 15];
+    for (_, cases) in groups() {
+        for case in cases {
+            match case.call.run(Slip::Nothing) {
+                Outcome::Check(answer, _) => refusals[usize::from(answer)] += 1,
+                Outcome::Search(answer, _) => {
+                    assert!(answer.expansions <= 60);
+                    if answer.refused {
+                        refusals[usize::from(answer.number)] += 1;
+                    } else {
+                        verdicts[usize::from(answer.number)] += 1;
+                    }
+                }
+            }
+        }
+    }
+    println!("verdicts {verdicts:?}, refusals by number {refusals:?}");
+    assert!(verdicts.iter().all(|met| *met >= 5));
+    assert!((1..15)
+        .filter(|number| *number != 10)
+        .all(|number| refusals[number] >= 3));
+}
+
+/// The names of the vector modules in a directory.
+fn module_names(directory: &Path) -> BTreeSet<String> {
+    let entries = std::fs::read_dir(directory).expect("the directory can be listed");
+    let names = entries.map(|entry| entry.unwrap().file_name().into_string().unwrap());
+    let groups = ["Reading", "Meaning", "Plans", "Searches"];
+    let of_a_group = |name: &String| groups.iter().any(|group| name.starts_with(group));
+    names.filter(of_a_group).collect()
+}
+
+/// Two runs write the same; the stored files, where they exist, are byte for byte what is written.
+#[test]
+fn files_repeat_and_are_stored() {
+    let written = files();
+    assert_eq!(written, files());
+    let directory = Path::new(env!("CARGO_MANIFEST_DIR")).join("../crates/vectors/specs");
+    let stored = directory.exists();
+    for (name, text) in &written {
+        let cases = text.matches("checked (").count() + text.matches("searched (").count();
+        println!("{name}: {cases} cases, {} bytes", text.len());
+        assert!(cases <= CASES_PER_FILE);
+        if stored {
+            let found = std::fs::read_to_string(directory.join(name)).unwrap_or_default();
+            assert!(found == *text, "{name} is not what the generator writes");
+        }
+    }
+    if stored {
+        let names: BTreeSet<String> = written.iter().map(|(name, _)| name.clone()).collect();
+        assert_eq!(module_names(&directory), names);
+    }
+    println!(
+        "{} files, compared with stored ones: {stored}",
+        written.len()
+    );
+}
