@@ -653,6 +653,13 @@ fn plans_in_a_layer(cases: &mut Cases) {
         let note = format!("a plan found while a cheaper f remains, W {width}, budget {budget}");
         cases.search(&note, remaining.clone(), (width, 4, budget), stated);
     }
+    let dearer_child = graph(SUM, 4, 4, &[(0, 1, 5), (0, 2, 7), (1, 3, 3)], &[]);
+    cases.search(
+        "a child kept before a cheaper plan was found goes after the layer",
+        dearer_child.end(),
+        (4, 4, 50),
+        "0 0 1 7 7 1 5 2 2",
+    );
     let two_goals = |last: i32| {
         let edges = &[(0, 1, 0), (0, 2, 1), (0, 5, 2), (2, 3, 4), (2, 4, last)];
         graph(SUM, 6, if last == 4 { 24 } else { 8 }, edges, &[]).end()

@@ -1,0 +1,6 @@
+-- Laws that the proofs of the functions cite, and those that callers cite.
+pub mod Integers
+pub mod Literal
+pub mod Members
+pub mod Entries
+pub mod Sums

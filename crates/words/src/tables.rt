@@ -1,0 +1,49 @@
+// A table's entries, read where they stand in the model's bytes. A table is one word: its columns, its cells and where they begin.
+
+ghost use mathlib.Core.Path.{_≡_};
+ghost use Prim.Native.Nat.{_≤_, _<_};
+ghost use lib.Signed.{mag};
+ghost use Rattle.model.specs.Numbers.{rangeEnd};
+ghost use Rattle.model.specs.Sets.{members};
+ghost use Rattle.model.specs.Meaning.{sumOver};
+ghost use Rattle.words.specs.Tables.{cellAt, entryIn, columnsOf, cellsOf, atOf};
+use crate::literals::integer;
+
+// The entry in cell k of the table whose entries begin at `at`.
+pub fn cell(model: &[u8], at: usize, k: usize) -> i64
+    requires { ⌜ (at ≤ 131071) × (k < 8192) ⌝ }
+    ensures { λ r. ⌜ (r ≡ cellAt (now (model .entry)) at k) × (mag r < rangeEnd) ⌝ }
+{
+    let from = at + 5 * k + 1;
+    if from + 4 <= model.len() {
+        return integer(&model[from..]);
+    }
+    0
+}
+
+// The entry of a table at row i, column j.
+pub fn entry(model: &[u8], table: u64, i: u64, j: u64) -> i64
+    requires { ⌜ (i < 64) × (j < 64) ⌝ }
+    ensures { λ r. ⌜ (r ≡ entryIn (now (model .entry)) (atOf table) (columnsOf table) (cellsOf table) i j) × (mag r < rangeEnd) ⌝ }
+{
+    let k = i * (table % 128) + j;
+    if k < table / 128 % 8192 {
+        return cell(model, (table / 1048576 % 131072) as usize, k as usize);
+    }
+    0
+}
+
+// The sum of the entries in column j at the rows that are members of s.
+pub fn total(model: &[u8], table: u64, s: u64, j: u64) -> i64
+    requires { ⌜ j < 64 ⌝ }
+    ensures { λ r. ⌜ r ≡ sumOver (λ i. entryIn (now (model .entry)) (atOf table) (columnsOf table) (cellsOf table) i j) (members s) ⌝ }
+{
+    let mut left = s;
+    let mut sum: i64 = 0;
+    while left != 0 {
+        let i = u64::trailing_zeros(left) as u64;
+        sum += entry(model, table, i, j);
+        left = left & (left - 1);
+    }
+    sum
+}
