@@ -1,0 +1,55 @@
+-- What the evaluators promise: the runs of expressions that read well are their values, and an expression is passed over by its first bytes.
+use Prim.Native.Nat.{ℕ}
+use mathlib.Core.Path.{_≡_, _∙_}
+use mathlib.Core.List.{List}
+use Rattle.model.specs.Readers.{read}
+use Rattle.model.specs.Syntax.{Element, Set, Number, Condition, Variable, Table}
+use Rattle.model.specs.Expressions as reading
+use Rattle.evaluator.specs.declared.answers.NumberValue.{NumberValue}
+use Rattle.evaluator.specs.declared.answers.ConditionValue.{ConditionValue}
+use Rattle.evaluator.specs.declared.answers.ElementValue.{ElementValue}
+use Rattle.evaluator.specs.declared.answers.SetValue.{SetValue}
+use Rattle.evaluator.specs.Forms.{span}
+use Rattle.evaluator.specs.Runs.{Place, runElement, runSet, runNumber, runCondition}
+use Rattle.evaluator.specs.Promise.{NumberPromise, ConditionPromise, SetPromise, ElementPromise}
+use Rattle.evaluator.proofs.Reading.{of-read}
+use Rattle.evaluator.proofs.Spans.{element-ends, set-ends, number-ends, condition-ends, ends-span}
+use Rattle.evaluator.proofs.Meanings.{full-known, element-runs, set-runs, number-runs, condition-runs}
+
+pub run-element : (ws e : List ℕ) → ElementPromise ws e (runElement ws e)
+run-element ws e vs ts d x n q = of-read q (element-runs vs ts ws d e)
+
+pub run-set : (d : ℕ) (ws fs e : List ℕ) → SetPromise d ws fs e (runSet d ws fs e)
+run-set d ws fs e vs ts x n h q = of-read q (set-runs vs ts ws fs (full-known vs fs h) d e)
+
+pub run-number : (d : ℕ) (p : Place) (e : List ℕ) → NumberPromise d p e (runNumber d p e)
+run-number d p e vs ts x n h q = of-read q (number-runs vs ts p h d e)
+
+pub run-condition : (d : ℕ) (p : Place) (e : List ℕ) → ConditionPromise d p e (runCondition d p e)
+run-condition d p e vs ts x n h q = of-read q (condition-runs vs ts p h d e)
+
+module _ (vs : List Variable) (ts : List Table) (d : ℕ) (e : List ℕ) (n : ℕ) where
+  pub skip-number : (x : Number) → reading.number vs ts d e ≡ read x n → span e 0 1 ≡ n
+  skip-number x q = ends-span e n (of-read q (number-ends vs ts d e))
+
+  pub skip-condition : (x : Condition) → reading.condition vs ts d e ≡ read x n → span e 0 1 ≡ n
+  skip-condition x q = ends-span e n (of-read q (condition-ends vs ts d e))
+
+  pub skip-set : (x : Set) → reading.set vs ts d e ≡ read x n → span e 0 1 ≡ n
+  skip-set x q = ends-span e n (of-read q (set-ends vs ts d e))
+
+  pub skip-element : (x : Element) → reading.element vs ts d e ≡ read x n → span e 0 1 ≡ n
+  skip-element x q = ends-span e n (of-read q (element-ends vs ts d e))
+
+-- an answer that is the run keeps the promise
+pub element-kept : (ws e : List ℕ) {r : ElementValue} → r ≡ runElement ws e → (r ≡ runElement ws e) × ElementPromise ws e r
+element-kept ws e q = (q, λ vs ts d x n h. q ∙ run-element ws e vs ts d x n h)
+
+pub set-kept : (d : ℕ) (ws fs e : List ℕ) {r : SetValue} → r ≡ runSet d ws fs e → (r ≡ runSet d ws fs e) × SetPromise d ws fs e r
+set-kept d ws fs e q = (q, λ vs ts x n f h. q ∙ run-set d ws fs e vs ts x n f h)
+
+pub number-kept : (d : ℕ) (p : Place) (e : List ℕ) {r : NumberValue} → r ≡ runNumber d p e → (r ≡ runNumber d p e) × NumberPromise d p e r
+number-kept d p e q = (q, λ vs ts x n k h. q ∙ run-number d p e vs ts x n k h)
+
+pub condition-kept : (d : ℕ) (p : Place) (e : List ℕ) {r : ConditionValue} → r ≡ runCondition d p e → (r ≡ runCondition d p e) × ConditionPromise d p e r
+condition-kept d p e q = (q, λ vs ts x n k h. q ∙ run-condition d p e vs ts x n k h)

@@ -1,0 +1,56 @@
+-- `evaluator::leaves::entry_number` meets its contract.
+use mathlib.Core.Path.{sym}
+use native.Mathlib.Omega.{arith}
+use mir.Val.{SFits}
+use mir.Syntax.{w64}
+use borrow.Author.Needs.{needs}
+use Rattle.evaluator.specs.Runs.{entryOf}
+use Rattle.evaluator.proofs.Within.{elements-small, elements-used}
+use Rattle.evaluator.proofs.Opening.{entry-none, entry-some}
+use Rattle.evaluator.proofs.Integers.{back}
+use Rattle.evaluator.proofs.leaves.entry_number.Statement.{statement}
+use Rattle.evaluator.proofs.leaves.entry_number.Tie as tie
+
+returns : tie.Need-returns
+returns c = sym (entry-none (c .before .before .before .before .before .args .model .now) (c .before .before .before .before .before .args .state .now) (c .before .before .before .before .before .args .tables .now) (c .before .before .before .before .before .args .e .now) (c .if1 .taken))
+
+name-requires : tie.Need-name-requires
+name-requires c κs = search needs
+
+word-at-requires : tie.Need-word-at-requires
+word-at-requires c κs = search needs
+
+after-requires : tie.Need-after-requires
+after-requires c κs = search needs
+
+two-elements-requires : tie.Need-two-elements-requires
+two-elements-requires c κs = search needs
+
+entry-requires : tie.Need-entry-requires
+entry-requires c κs = let h = rw (← (c .two-elements .ensures)) at (elements-small (c .before .before .before .before .before .before .before .before .before .args .state .now) (c .before .after .result .now)) in omega (arith, h .0, h .1)
+
+add-ranged : tie.Need-add-ranged
+add-ranged c = omega (arith, rw (← (c .before .before .two-elements .ensures)) at (elements-used (c .before .before .before .before .before .before .before .before .before .before .before .args .state .now) (c .before .before .before .after .result .now)))
+
+ranged-requires : tie.Need-ranged-requires
+ranged-requires c κs = search needs
+
+returns-2 : tie.Need-returns-2
+unfolding entryOf
+returns-2 c = let f : SFits w64 (c .before .before .entry .result) = record { sfits = omega (arith, c .before .before .entry .ensures .1) } in
+    rw (rw (back f, c .before .before .entry .ensures .0, c .before .before .before .two-elements .ensures, c .before .before .before .before .after .ensures, c .before .before .before .before .before .word-at .ensures, c .before .before .before .before .before .before .name .ensures) at (c .ranged .ensures))
+    (sym (entry-some (c .before .before .before .before .before .before .before .before .before .before .before .before .args .model .now) (c .before .before .before .before .before .before .before .before .before .before .before .before .args .state .now) (c .before .before .before .before .before .before .before .before .before .before .before .before .args .tables .now) (c .before .before .before .before .before .before .before .before .before .before .before .before .args .e .now) (c .before .before .before .before .before .before .before .if1 .left)))
+
+pub entry-number-spec : {M : Type 1} → statement M
+entry-number-spec =
+    tie.close
+    (tie.spec
+    returns
+    name-requires
+    word-at-requires
+    after-requires
+    two-elements-requires
+    entry-requires
+    add-ranged
+    ranged-requires
+    returns-2)

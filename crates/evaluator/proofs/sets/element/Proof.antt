@@ -1,0 +1,50 @@
+-- `evaluator::sets::element` meets its contract.
+use native.Mathlib.Omega.{arith}
+use lib.ListN.{length, getD}
+use borrow.Author.Tests.{ne-eqb, lt-ltb, le-ltb}
+use borrow.Author.Needs.{needs}
+use Rattle.evaluator.specs.Runs.{runElement, elementOf}
+use Rattle.evaluator.proofs.Promises.{element-kept}
+use Rattle.evaluator.proofs.sets.element.Statement.{statement}
+use Rattle.evaluator.proofs.sets.element.Tie as tie
+
+returns : tie.Need-returns
+unfolding runElement
+returns c = element-kept (c .before .before .before .args .state .now) (c .before .before .before .args .e .now) (rw (lt-ltb (length (c .before .before .before .args .e .now)) 2 (c .if1 .taken)))
+
+shared-slice-read-k : tie.Need-shared-slice-read-k
+shared-slice-read-k c = search needs
+
+cast-k : tie.Need-cast-k
+cast-k c = omega (arith, c .shared-slice-known3 .given 1)
+
+shared-slice-read-match : tie.Need-shared-slice-read-match
+shared-slice-read-match c = search needs
+
+word-at-requires : tie.Need-word-at-requires
+word-at-requires c κs = search needs
+
+returns-2 : tie.Need-returns-2
+unfolding runElement elementOf
+returns-2 c = element-kept (c .before .before .before .before .before .before .args .state .now) (c .before .before .before .before .before .before .args .e .now) (rw (le-ltb (length (c .before .before .before .before .before .before .args .e .now)) 2 (c .before .before .before .if1 .left), c .match .keys1))
+
+returns-3 : tie.Need-returns-3
+unfolding runElement elementOf
+returns-3 c = element-kept (c .before .before .before .before .before .before .before .args .state .now) (c .before .before .before .before .before .before .before .args .e .now) (rw (le-ltb (length (c .before .before .before .before .before .before .before .args .e .now)) 2 (c .before .before .before .before .if1 .left), c .before .match .keys2, c .word-at .ensures))
+
+returns-4 : tie.Need-returns-4
+unfolding runElement elementOf
+returns-4 c = element-kept (c .before .before .before .before .before .before .args .state .now) (c .before .before .before .before .before .before .args .e .now) (simp (le-ltb (length (c .before .before .before .before .before .before .args .e .now)) 2 (c .before .before .before .if1 .left), ne-eqb (getD (c .before .before .before .before .before .before .args .e .now) 0 0) 0x30 (c .match .rest .0 .1), ne-eqb (getD (c .before .before .before .before .before .before .args .e .now) 0 0) 0x31 (c .match .rest .1)))
+
+pub element-spec : {M : Type 1} → statement M
+element-spec =
+    tie.close
+    (tie.spec
+    returns
+    shared-slice-read-k
+    cast-k
+    shared-slice-read-match
+    word-at-requires
+    returns-2
+    returns-3
+    returns-4)

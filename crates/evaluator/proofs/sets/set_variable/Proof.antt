@@ -1,0 +1,30 @@
+-- `evaluator::sets::set_variable` meets its contract.
+use mathlib.Core.Path.{sym, _∙_}
+use native.Mathlib.Omega.{arith}
+use borrow.Author.Needs.{needs}
+use Rattle.evaluator.proofs.Opening.{variable-none, variable-some}
+use Rattle.evaluator.proofs.sets.set_variable.Statement.{statement}
+use Rattle.evaluator.proofs.sets.set_variable.Tie as tie
+
+no-set-requires : tie.Need-no-set-requires
+no-set-requires c κs = search needs
+
+returns : tie.Need-returns
+returns c = c .no-set .ensures ∙ sym (variable-none (c .before .before .before .before .before .args .state .now) (c .before .before .before .before .before .args .full .now) (c .before .before .before .before .before .args .e .now) (omega arith))
+
+name-requires : tie.Need-name-requires
+name-requires c κs = search needs
+
+word-at-requires : tie.Need-word-at-requires
+word-at-requires c κs = search needs
+
+word-at-requires-2 : tie.Need-word-at-requires-2
+word-at-requires-2 c κs = search needs
+
+returns-2 : tie.Need-returns-2
+returns-2 c = rw (c .before .word-at .ensures, c .word-at2 .ensures, c .before .before .name .ensures) (sym (variable-some (c .before .before .before .before .before .before .before .args .state .now) (c .before .before .before .before .before .before .before .args .full .now) (c .before .before .before .before .before .before .before .args .e .now) (c .before .before .before .if1 .left)))
+
+pub set-variable-spec : {M : Type 1} → statement M
+set-variable-spec =
+    tie.close
+    (tie.spec no-set-requires returns name-requires word-at-requires word-at-requires-2 returns-2)

@@ -1,0 +1,258 @@
+// The evaluators of numbers and conditions, which contain each other: each call has less depth left.
+
+ghost use mathlib.Core.Path.{_≡_};
+ghost use Prim.Native.Nat.{_≤_};
+ghost use mathlib.Core.Bool.{false};
+ghost use lib.ListN.{length, drop};
+ghost use Rattle.evaluator.specs.Runs as runs;
+ghost use Rattle.evaluator.specs.Runs.{place, runNumber, runCondition};
+ghost use Rattle.evaluator.specs.Promise.{NumberPromise, ConditionPromise};
+use crate::answers::ConditionValue;
+use crate::answers::NOTHING;
+use crate::answers::NumberValue;
+use crate::answers::PairValue;
+use crate::answers::condition_past;
+use crate::answers::number_past;
+use crate::bytes::after;
+use crate::bytes::skip;
+use crate::forms::ConditionForm;
+use crate::forms::NumberForm;
+use crate::forms::condition_form;
+use crate::forms::number_form;
+use crate::leaves;
+
+// Two numbers, one behind the other.
+fn pair(
+    e: &[u8],
+    model: &[u8],
+    state: &[u64],
+    full: &[u64],
+    tables: &[u64],
+    depth: usize,
+) -> PairValue
+    ensures { λ r. ⌜ r ≡ runs.runPair (λ f. runNumber depth (place (now (model .entry)) (now (state .entry)) (now (full .entry)) (now (tables .entry))) f) (now (e .entry)) ⌝ }
+{
+    match number(e, model, state, full, tables, depth) {
+        NumberValue::Value(x, n) => match number(after(e, n), model, state, full, tables, depth) {
+            NumberValue::Value(y, m) => {
+                let used = n + m;
+                PairValue::Values(x, y, used)
+            }
+            NumberValue::Trouble(t) => PairValue::Trouble(t),
+        },
+        NumberValue::Trouble(t) => PairValue::Trouble(t),
+    }
+}
+
+// The number behind n bytes, and the part behind it passed over.
+fn number_before(
+    e: &[u8],
+    n: usize,
+    model: &[u8],
+    state: &[u64],
+    full: &[u64],
+    tables: &[u64],
+    depth: usize,
+) -> NumberValue
+    requires { ⌜ n ≤ length (now e) ⌝ }
+    ensures { λ r. ⌜ r ≡ runs.numberBefore n (runNumber depth (place (now (model .entry)) (now (state .entry)) (now (full .entry)) (now (tables .entry))) (drop n (now (e .entry)))) (runs.skipAt (now (e .entry))) ⌝ }
+{
+    match number(after(e, n), model, state, full, tables, depth) {
+        NumberValue::Value(z, m) => {
+            let k = n + m;
+            let used = k + skip(after(e, k));
+            NumberValue::Value(z, used)
+        }
+        NumberValue::Trouble(t) => NumberValue::Trouble(t),
+    }
+}
+
+// The number behind n bytes and a part that is passed over.
+fn number_beyond(
+    e: &[u8],
+    n: usize,
+    model: &[u8],
+    state: &[u64],
+    full: &[u64],
+    tables: &[u64],
+    depth: usize,
+) -> NumberValue
+    requires { ⌜ n ≤ length (now e) ⌝ }
+    ensures { λ r. ⌜ r ≡ runs.chosen false n (λ k. runNumber depth (place (now (model .entry)) (now (state .entry)) (now (full .entry)) (now (tables .entry))) (drop k (now (e .entry)))) (runs.skipAt (now (e .entry))) ⌝ }
+{
+    let k = n + skip(after(e, n));
+    number_past(k, number(after(e, k), model, state, full, tables, depth))
+}
+
+// 2B, behind its byte: a condition and two numbers, the first where it holds, else the second.
+fn choice(
+    e: &[u8],
+    model: &[u8],
+    state: &[u64],
+    full: &[u64],
+    tables: &[u64],
+    depth: usize,
+) -> NumberValue
+    ensures { λ r. ⌜ r ≡ runs.runChoice (λ f. runNumber depth (place (now (model .entry)) (now (state .entry)) (now (full .entry)) (now (tables .entry))) f) (λ f. runCondition depth (place (now (model .entry)) (now (state .entry)) (now (full .entry)) (now (tables .entry))) f) (now (e .entry)) ⌝ }
+{
+    match condition(e, model, state, full, tables, depth) {
+        ConditionValue::Holds(b, n) => {
+            if b {
+                number_before(e, n, model, state, full, tables, depth)
+            } else {
+                number_beyond(e, n, model, state, full, tables, depth)
+            }
+        }
+        ConditionValue::Trouble(t) => NumberValue::Trouble(t),
+    }
+}
+
+// 58 and 59, behind their byte: a first part with the deciding truth decides, and the second is passed over.
+fn connective(
+    decides: bool,
+    e: &[u8],
+    model: &[u8],
+    state: &[u64],
+    full: &[u64],
+    tables: &[u64],
+    depth: usize,
+) -> ConditionValue
+    ensures { λ r. ⌜ r ≡ runs.runConnective decides (λ f. runCondition depth (place (now (model .entry)) (now (state .entry)) (now (full .entry)) (now (tables .entry))) f) (now (e .entry)) ⌝ }
+{
+    match condition(e, model, state, full, tables, depth) {
+        ConditionValue::Holds(b, n) => {
+            if leaves::agree(decides, b) {
+                let used = n + skip(after(e, n));
+                ConditionValue::Holds(b, used)
+            } else {
+                condition_past(n, condition(after(e, n), model, state, full, tables, depth))
+            }
+        }
+        ConditionValue::Trouble(t) => ConditionValue::Trouble(t),
+    }
+}
+
+// What stands behind a number's first byte.
+fn number_behind(
+    form: NumberForm,
+    e: &[u8],
+    model: &[u8],
+    state: &[u64],
+    full: &[u64],
+    tables: &[u64],
+    depth: usize,
+) -> NumberValue
+    ensures { λ r. ⌜ r ≡ runs.numberAt depth (place (now (model .entry)) (now (state .entry)) (now (full .entry)) (now (tables .entry))) form (now (e .entry)) ⌝ }
+{
+    match form {
+        NumberForm::Literal => leaves::literal_number(e),
+        NumberForm::Variable => leaves::number_variable(e, state),
+        NumberForm::Arithmetic(o) => leaves::arithmetic(
+            o,
+            pair(e, model, state, full, tables, depth),
+        ),
+        NumberForm::Entry => leaves::entry_number(e, model, state, tables),
+        NumberForm::Size => leaves::size_number(e, state, full, depth),
+        NumberForm::Total => leaves::total_number(e, model, state, full, tables, depth),
+        NumberForm::Choice => choice(e, model, state, full, tables, depth),
+        NumberForm::Other => NumberValue::Trouble(NOTHING),
+    }
+}
+
+// What stands behind a condition's first byte.
+fn condition_behind(
+    form: ConditionForm,
+    e: &[u8],
+    model: &[u8],
+    state: &[u64],
+    full: &[u64],
+    tables: &[u64],
+    depth: usize,
+) -> ConditionValue
+    ensures { λ r. ⌜ r ≡ runs.conditionAt depth (place (now (model .entry)) (now (state .entry)) (now (full .entry)) (now (tables .entry))) form (now (e .entry)) ⌝ }
+{
+    match form {
+        ConditionForm::Comparison(r) => leaves::comparison(
+            r,
+            pair(e, model, state, full, tables, depth),
+        ),
+        ConditionForm::Same => leaves::same_elements(e, state),
+        ConditionForm::Member => leaves::member_of(e, state, full, depth),
+        ConditionForm::Empty => leaves::empty_set(e, state, full, depth),
+        ConditionForm::Subset => leaves::subset_of(e, state, full, depth),
+        ConditionForm::Negation => leaves::negation(condition(
+            e,
+            model,
+            state,
+            full,
+            tables,
+            depth,
+        )),
+        ConditionForm::Connective(b) => connective(b, e, model, state, full, tables, depth),
+        ConditionForm::Other => ConditionValue::Trouble(NOTHING),
+    }
+}
+
+// The value of the number at the front.
+pub fn number(
+    e: &[u8],
+    model: &[u8],
+    state: &[u64],
+    full: &[u64],
+    tables: &[u64],
+    depth: usize,
+) -> NumberValue
+    ensures run { λ r. ⌜ r ≡ runNumber depth (place (now (model .entry)) (now (state .entry)) (now (full .entry)) (now (tables .entry))) (now (e .entry)) ⌝ }
+    ensures promise { λ r. ⌜ NumberPromise depth (place (now (model .entry)) (now (state .entry)) (now (full .entry)) (now (tables .entry))) (now (e .entry)) r ⌝ }
+{
+    if depth == 0 {
+        return NumberValue::Trouble(NOTHING);
+    }
+    if e.len() == 0 {
+        return NumberValue::Trouble(NOTHING);
+    }
+    number_past(
+        1,
+        number_behind(
+            number_form(e[0]),
+            &e[1..],
+            model,
+            state,
+            full,
+            tables,
+            depth - 1,
+        ),
+    )
+}
+
+// Whether the condition at the front holds.
+pub fn condition(
+    e: &[u8],
+    model: &[u8],
+    state: &[u64],
+    full: &[u64],
+    tables: &[u64],
+    depth: usize,
+) -> ConditionValue
+    ensures run { λ r. ⌜ r ≡ runCondition depth (place (now (model .entry)) (now (state .entry)) (now (full .entry)) (now (tables .entry))) (now (e .entry)) ⌝ }
+    ensures promise { λ r. ⌜ ConditionPromise depth (place (now (model .entry)) (now (state .entry)) (now (full .entry)) (now (tables .entry))) (now (e .entry)) r ⌝ }
+{
+    if depth == 0 {
+        return ConditionValue::Trouble(NOTHING);
+    }
+    if e.len() == 0 {
+        return ConditionValue::Trouble(NOTHING);
+    }
+    condition_past(
+        1,
+        condition_behind(
+            condition_form(e[0]),
+            &e[1..],
+            model,
+            state,
+            full,
+            tables,
+            depth - 1,
+        ),
+    )
+}

@@ -1,0 +1,41 @@
+// The evaluators for C, to be timed; see host/bench.
+
+ghost use mathlib.Core.Path.{_≡_};
+ghost use Rattle.evaluator.specs.Runs.{place, runNumber, runCondition};
+ghost use Rattle.timing.specs.Timed.{numberCode, conditionCode};
+use evaluator::answers::ConditionValue;
+use evaluator::answers::NumberValue;
+
+// The value of the number at the front of e, or the least i64 for trouble.
+#[no_mangle]
+pub extern "C" fn repgypsum_number_value(
+    e: &[u8],
+    model: &[u8],
+    state: &[u64],
+    full: &[u64],
+    tables: &[u64],
+) -> i64
+    ensures { λ r. ⌜ r ≡ numberCode (runNumber 32 (place (now (model .entry)) (now (state .entry)) (now (full .entry)) (now (tables .entry))) (now (e .entry))) ⌝ }
+{
+    match evaluator::numbers::number(e, model, state, full, tables, 32) {
+        NumberValue::Value(z, _) => z,
+        NumberValue::Trouble(_) => -9223372036854775808,
+    }
+}
+
+// Whether the condition at the front of e holds: 1, 0, or 2 for trouble.
+#[no_mangle]
+pub extern "C" fn repgypsum_condition_value(
+    e: &[u8],
+    model: &[u8],
+    state: &[u64],
+    full: &[u64],
+    tables: &[u64],
+) -> u8
+    ensures { λ r. ⌜ r ≡ conditionCode (runCondition 32 (place (now (model .entry)) (now (state .entry)) (now (full .entry)) (now (tables .entry))) (now (e .entry))) ⌝ }
+{
+    match evaluator::numbers::condition(e, model, state, full, tables, 32) {
+        ConditionValue::Holds(b, _) => if b { 1 } else { 0 },
+        ConditionValue::Trouble(_) => 2,
+    }
+}
