@@ -17,7 +17,7 @@ use Rattle.model.specs.Syntax.{Model}
 use Rattle.model.specs.Readers.{Read, read, refused}
 use Rattle.model.specs.Commands.{model}
 use Rattle.model.specs.Steps.{target, systemOf, costsOf}
-use Rattle.model.specs.Check.{final, afterMove, afterStatus, follow, checkModel, check, answerNumber, answerCost}
+use Rattle.model.specs.Check.{final, afterMove, afterStatus, follow, checkModel, check, answerNumber, answerCost, CheckedPlan}
 use Rattle.model.proofs.Costs.{cost-laws}
 use Rattle.model.proofs.Troubles.{check-numbers, check-refusal-positive}
 
@@ -66,15 +66,6 @@ module _ {S C : Type 0} (K : Costs C) (L : CostLaws K) (M : System S C) where
   passing-is-plan (t ∷ ts) s g c e = step-is-plan s t ts g c (M .status s) (ltb t (M .transitions)) (M .move s t) (λ u h. passing-is-plan ts u h c) refl refl refl e
 
 -- ---- on bytes
-
--- the bytes are a model, and the plan is one of its plans from the target, at cost c
-pub record CheckedPlan (bytes plan : List ℕ) (c : ℕ) : Type 0 where
-  pub model-fits : length bytes ≤ 65536
-  pub plan-fits : length plan ≤ 256
-  pub described : Model
-  pub used : ℕ
-  pub reads : model bytes ≡ read described used
-  pub plans : Plan (costsOf (described .rule)) (systemOf rangeEnd described) (target described) plan c
 
 pub check-complete : (bytes plan : List ℕ) (c : ℕ) → CheckedPlan bytes plan c → check bytes plan ≡ value c
 unfolding check checkModel costsOf

@@ -1,5 +1,6 @@
 -- The plan check: step by step, to the first trouble; then on bytes.
-use Prim.Native.Nat.{ℕ}
+use Prim.Native.Nat.{ℕ, _≤_}
+use mathlib.Core.Path.{_≡_}
 use mathlib.Core.Bool.{Bool, true, false, cond}
 use mathlib.Core.List.{List, [], _∷_}
 use lib.ListN.{length}
@@ -7,6 +8,7 @@ use lib.Dec.{ltb}
 use Rattle.model.specs.Numbers.{modelTooLong, badSetting, notAPlan, mostModelBytes, mostSteps, rangeEnd}
 use Rattle.model.specs.Values.{Value, value, trouble}
 use Rattle.model.specs.System.{Costs, System, Status, base, unfinished, noStatus, Move, blocked, moved, troubleBefore, troubleAfter}
+use Rattle.model.specs.Plans.{Plan}
 use Rattle.model.specs.Readers.{Read, read, refused}
 use Rattle.model.specs.Syntax.{Model}
 use Rattle.model.specs.Commands.{model}
@@ -53,3 +55,12 @@ answerNumber (trouble t) = t
 unfoldable pub answerCost : Value ℕ → ℕ
 answerCost (value c) = c
 answerCost (trouble t) = 0
+
+-- the bytes are a model, and the plan, of at most 256 steps, is one of its plans from the target, at cost c
+pub record CheckedPlan (bytes plan : List ℕ) (c : ℕ) : Type 0 where
+  pub model-fits : length bytes ≤ mostModelBytes
+  pub plan-fits : length plan ≤ mostSteps
+  pub described : Model
+  pub used : ℕ
+  pub reads : model bytes ≡ read described used
+  pub plans : Plan (costsOf (described .rule)) (systemOf rangeEnd described) (target described) plan c

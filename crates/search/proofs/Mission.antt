@@ -21,12 +21,12 @@ use Rattle.model.specs.Syntax.{Model}
 use Rattle.model.specs.Commands.{model}
 use Rattle.model.specs.Steps.{target, costsOf, systemOf, originOf}
 use Rattle.model.proofs.Costs.{cost-laws}
-use Rattle.model.specs.Check.{check}
+use Rattle.model.specs.Check.{check, CheckedPlan}
 use Rattle.model.proofs.Dominance.{dominates-self}
 use Rattle.model.proofs.Outcomes.{StateTrouble}
 use Rattle.model.proofs.Reading.{model-refusal}
 use Rattle.model.proofs.Troubles.{status-trouble, move-trouble-before, move-trouble-after, bound-trouble, CheckRefusal, check-numbers}
-use Rattle.model.proofs.PlanCheck.{CheckedPlan, check-exact}
+use Rattle.model.proofs.PlanCheck.{check-exact}
 use Rattle.search.specs.Answer.{Verdict, cheapest, noPlan, widthStop, lengthStop, contradicted, Outcome, verdict, byState, byInput, Answer, bufferAfter, handedBack}
 use Rattle.search.specs.Guarantee.{Stopped, widest, Guarantee, Fits}
 use Rattle.search.specs.Run.{Settings, Lent, widerWidths, widerUpTo, settingsFit, lentFits, refusedByInput, searchModel, runRead, run}

@@ -1,0 +1,62 @@
+-- The evaluators on a model's own bytes: what their answers are of expressions that stand there, by the outline's words.
+use Prim.Native.Nat.{ℕ, _-_, _≤_, _<_}
+use mathlib.Core.Path.{_≡_, sym, ap, _∙_}
+use mathlib.Core.List.{List}
+use lib.ListN.{length, getD, take, drop, length-drop}
+use lib.Seq.{getD-drop}
+use Rattle.model.specs.Numbers.{mostNesting, mostObjects}
+use Rattle.words.proofs.Literal.{suffix}
+use Rattle.outline.specs.Outline.{modelOf}
+use Rattle.evaluator.specs.declared.answers.NumberValue.{NumberValue}
+use Rattle.evaluator.specs.declared.answers.ConditionValue.{ConditionValue}
+use Rattle.evaluator.specs.declared.answers.ElementValue.{ElementValue}
+use Rattle.evaluator.specs.declared.answers.SetValue.{SetValue}
+use Rattle.evaluator.specs.Bounds.{NumberWithin, ConditionWithin}
+use Rattle.evaluator.specs.Runs.{Place, place, runElement, runSet, runNumber, runCondition}
+use Rattle.evaluator.specs.Promise.{Describes}
+use Rattle.evaluator.proofs.Promises.{run-number, run-condition, run-set, run-element}
+use Rattle.evaluator.proofs.Within.{number-within, condition-within, set-within, element-within, element-small}
+use Rattle.steps.specs.Held.{Outlined, stateIn}
+use Rattle.steps.specs.Says.{ConditionSays, NumberSays, ElementSays, SetSays}
+
+-- the part of a slice that is lent from n on
+abbrev lent : ℕ → List ℕ → List ℕ
+lent n l = take (length l - n) (drop n l)
+
+module _ (bytes words : List ℕ) (o : Outlined bytes words) (at : ℕ) (state : List ℕ) where
+  abbrev here : Place
+  here = place bytes state (drop 64 words) (drop 80 words)
+
+  described : Describes (modelOf bytes .variables) (modelOf bytes .tables) here
+  described = record {
+    sets = λ v x e k. getD-drop 64 words v 0 ∙ o .outlines .variables v x e .full k;
+    tabled = λ t h. rw (getD-drop 80 words t 0) (o .outlines .tables t h);
+  }
+
+  pub condition-promised : (r : ConditionValue) → r ≡ runCondition mostNesting (place bytes state (lent 64 words) (lent 80 words)) (lent at bytes)
+      → ConditionSays bytes at state r × ConditionWithin (length bytes - at) r
+  condition-promised r e =
+      let f : r ≡ runCondition mostNesting here (drop at bytes) = rw (suffix 64 words, suffix 80 words, suffix at bytes) at e in
+      rw (f, ← length-drop at bytes) (λ x n h. run-condition mostNesting here (drop at bytes) _ _ x n described h, condition-within mostNesting here (drop at bytes))
+
+  pub number-promised : (r : NumberValue) → r ≡ runNumber mostNesting (place bytes state (lent 64 words) (lent 80 words)) (lent at bytes)
+      → NumberSays bytes at state r × NumberWithin (length bytes - at) r
+  number-promised r e =
+      let f : r ≡ runNumber mostNesting here (drop at bytes) = rw (suffix 64 words, suffix 80 words, suffix at bytes) at e in
+      rw (f, ← length-drop at bytes) (λ x n h. run-number mostNesting here (drop at bytes) _ _ x n described h, number-within mostNesting here (drop at bytes))
+
+  pub set-promised : (r : SetValue) → r ≡ runSet mostNesting state (lent 64 words) (lent at bytes) → SetSays bytes at state r × (r .used ≤ length bytes - at)
+  set-promised r e =
+      let f : r ≡ runSet mostNesting state (drop 64 words) (drop at bytes) = rw (suffix 64 words, suffix at bytes) at e in
+      rw (f, ← length-drop at bytes) (λ x n h. set-is (run-set mostNesting state (drop 64 words) (drop at bytes) _ _ x n (described .sets) h), set-within mostNesting state (drop 64 words) (drop at bytes))
+    where
+      set-is : {s t : SetValue} → s ≡ t → (s .members ≡ t .members) × (s .used ≡ t .used)
+      set-is q = (ap (λ (i : SetValue). i .members) q, ap (λ (i : SetValue). i .used) q)
+
+  pub element-promised : (r : ElementValue) → r ≡ runElement state (lent at bytes) → ElementSays bytes at state r × ((r .object < mostObjects) × (r .used ≤ length bytes - at))
+  element-promised r e =
+      let f : r ≡ runElement state (drop at bytes) = rw (suffix at bytes) at e in
+      rw (f, ← length-drop at bytes) (λ x n h. element-is (run-element state (drop at bytes) _ _ mostNesting x n h), (element-small state (drop at bytes), element-within state (drop at bytes)))
+    where
+      element-is : {s t : ElementValue} → s ≡ t → (s .object ≡ t .object) × (s .used ≡ t .used)
+      element-is q = (ap (λ (i : ElementValue). i .object) q, ap (λ (i : ElementValue). i .used) q)

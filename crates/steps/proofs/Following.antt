@@ -1,0 +1,231 @@
+-- The plan check turn by turn: what one transition comes to, and what is left of the plan.
+use Prim.Native.Nat.{ℕ, zero, suc, _+_, _*_, _≤_, _<_, _^_, max}
+use mathlib.Core.Path.{_≡_, refl, sym, ap, _∙_}
+use mathlib.Core.Bool.{Bool, true, false, cond}
+use mathlib.Core.List.{List, [], _∷_}
+use native.Mathlib.Omega.{arith}
+use native.Mathlib.Numerals.{add-one}
+use lib.ListN.{length, getD, drop, drop-of-length-le}
+use lib.Seq.{drop-cons}
+use lib.Dec.{ltb}
+use borrow.Author.Tests.{ltb-true, ltb-false}
+use Rattle.model.specs.Numbers.{rangeEnd, notAPlan, mostSteps}
+use Rattle.model.specs.Values.{Value, value, trouble}
+use Rattle.model.specs.System.{Status, base, unfinished, noStatus, Move, blocked, moved, troubleBefore, troubleAfter}
+use Rattle.model.specs.Syntax.{Rule, sum, largest}
+use Rattle.model.specs.Meaning.{State}
+use Rattle.model.specs.Steps.{target, combine, costsOf, systemOf, move, moveBy}
+use Rattle.model.specs.Check.{final, afterMove, afterStatus, follow, answerNumber, answerCost}
+use Rattle.model.proofs.Ranges.{step-cost-below}
+use Rattle.outline.specs.Outline.{modelOf, ruleNumber}
+use Rattle.steps.specs.declared.answers.StatusAnswer.the-variants as S
+use Rattle.steps.specs.declared.answers.MoveAnswer.{MoveAnswer}
+use Rattle.steps.specs.declared.answers.MoveAnswer.the-variants as M
+use Rattle.steps.specs.declared.answers.TurnAnswer.{TurnAnswer}
+use Rattle.steps.specs.declared.answers.TurnAnswer.the-variants as T
+use Rattle.steps.specs.declared.answers.Checked.{Checked}
+use Rattle.steps.specs.Held.{Outlined, Held, stateIn, systemIn}
+use Rattle.steps.specs.Answers.{statusAnswer, moveAnswer}
+use Rattle.steps.specs.Says.{MoveSays}
+use Rattle.steps.specs.Follow.{costsIn, followIn, movedOn, finished, TurnIs, CheckedIs}
+use Rattle.steps.proofs.Items.{none-beyond}
+
+-- ---- answers taken apart
+
+is-base : (x : Status) → statusAnswer x ≡ S.Base → x ≡ base
+unfolding statusAnswer
+is-base base e = refl
+is-base unfinished e = let z : _≡_ {A = ℕ} 0 1 = cc in absurd (omega arith)
+is-base (noStatus t) e = let z : _≡_ {A = ℕ} 0 1 = cc in absurd (omega arith)
+
+is-unfinished : (x : Status) → statusAnswer x ≡ S.Unfinished → x ≡ unfinished
+unfolding statusAnswer
+is-unfinished base e = let z : _≡_ {A = ℕ} 0 1 = cc in absurd (omega arith)
+is-unfinished unfinished e = refl
+is-unfinished (noStatus t) e = let z : _≡_ {A = ℕ} 0 1 = cc in absurd (omega arith)
+
+no-status : (x : Status) {t : ℕ} → statusAnswer x ≡ S.Trouble t → x ≡ noStatus t
+unfolding statusAnswer
+no-status base e = let z : _≡_ {A = ℕ} 0 1 = cc in absurd (omega arith)
+no-status unfinished e = let z : _≡_ {A = ℕ} 0 1 = cc in absurd (omega arith)
+no-status (noStatus t) e = cc
+
+is-blocked : (x : Move State ℕ) → moveAnswer x ≡ M.Blocked → x ≡ blocked
+unfolding moveAnswer
+is-blocked blocked e = refl
+is-blocked (moved c u) e = let z : _≡_ {A = ℕ} 0 1 = cc in absurd (omega arith)
+is-blocked (troubleBefore t) e = let z : _≡_ {A = ℕ} 0 1 = cc in absurd (omega arith)
+is-blocked (troubleAfter c t) e = let z : _≡_ {A = ℕ} 0 1 = cc in absurd (omega arith)
+
+is-moved : (x : Move State ℕ) {c : ℕ} → moveAnswer x ≡ M.Moved c → (u : State) × (x ≡ moved c u)
+unfolding moveAnswer
+is-moved blocked e = let z : _≡_ {A = ℕ} 0 1 = cc in absurd (omega arith)
+is-moved (moved c u) e = (u, cc)
+is-moved (troubleBefore t) e = let z : _≡_ {A = ℕ} 0 1 = cc in absurd (omega arith)
+is-moved (troubleAfter c t) e = let z : _≡_ {A = ℕ} 0 1 = cc in absurd (omega arith)
+
+is-before : (x : Move State ℕ) {t : ℕ} → moveAnswer x ≡ M.Before t → x ≡ troubleBefore t
+unfolding moveAnswer
+is-before blocked e = let z : _≡_ {A = ℕ} 0 1 = cc in absurd (omega arith)
+is-before (moved c u) e = let z : _≡_ {A = ℕ} 0 1 = cc in absurd (omega arith)
+is-before (troubleBefore t) e = cc
+is-before (troubleAfter c t) e = let z : _≡_ {A = ℕ} 0 1 = cc in absurd (omega arith)
+
+is-after : (x : Move State ℕ) {c t : ℕ} → moveAnswer x ≡ M.After c t → x ≡ troubleAfter c t
+unfolding moveAnswer
+is-after blocked e = let z : _≡_ {A = ℕ} 0 1 = cc in absurd (omega arith)
+is-after (moved c u) e = let z : _≡_ {A = ℕ} 0 1 = cc in absurd (omega arith)
+is-after (troubleBefore t) e = let z : _≡_ {A = ℕ} 0 1 = cc in absurd (omega arith)
+is-after (troubleAfter c t) e = cc
+
+-- ---- costs
+
+sum-rule : (r : Rule) (g c : ℕ) → ruleNumber r ≡ 0 → g + c ≡ combine r g c
+unfolding ruleNumber combine
+sum-rule sum g c e = refl
+sum-rule largest g c e = absurd (omega arith)
+
+largest-rule : (r : Rule) (g c : ℕ) → (ruleNumber r ≡ 0 → ⊥) → max g c ≡ combine r g c
+unfolding ruleNumber combine
+largest-rule sum g c e = absurd (e refl)
+largest-rule largest g c e = refl
+
+combine-small : (r : Rule) (g c : ℕ) → combine r g c ≤ g + c
+unfolding combine
+combine-small sum g c = omega arith
+combine-small largest g c = omega arith
+
+module _ (bytes words : List ℕ) (o : Outlined bytes words) (g c w : ℕ) (k : w ≡ getD words 0 0) where
+  pub combine-sum : w ≡ 0 → g + c ≡ costsIn bytes .combine g c
+  unfolding costsOf
+  combine-sum e = sum-rule (modelOf bytes .rule) g c (sym (o .outlines .rule) ∙ (sym k ∙ e))
+
+  pub combine-second : (w ≡ 0 → ⊥) → g < c → c ≡ costsIn bytes .combine g c
+  unfolding costsOf
+  combine-second e l = let m : max g c ≡ c = omega arith in sym m ∙ largest-rule (modelOf bytes .rule) g c (λ i. e (k ∙ (o .outlines .rule ∙ i)))
+
+  pub combine-first : (w ≡ 0 → ⊥) → c ≤ g → g ≡ costsIn bytes .combine g c
+  unfolding costsOf
+  combine-first e l = let m : max g c ≡ g = omega arith in sym m ∙ largest-rule (modelOf bytes .rule) g c (λ i. e (k ∙ (o .outlines .rule ∙ i)))
+
+combined-small : (bytes : List ℕ) (g c : ℕ) → costsIn bytes .combine g c ≤ g + c
+unfolding costsOf
+combined-small bytes g c = combine-small (modelOf bytes .rule) g c
+
+-- ---- one transition
+
+module _ (bytes state : List ℕ) (t g : ℕ) (child : List ℕ) (q : MoveAnswer) (says : MoveSays bytes state t child q) where
+  abbrev here : State
+  here = stateIn bytes state
+
+  pub turn-blocked : q ≡ M.Blocked → TurnIs bytes (movedOn bytes here t g) child g (T.Ended notAPlan)
+  unfolding afterMove
+  turn-blocked e plan = let m = is-blocked _ (sym (says .answer) ∙ e) in rw m
+
+  pub turn-before : {n : ℕ} → q ≡ M.Before n → TurnIs bytes (movedOn bytes here t g) child g (T.Ended n)
+  unfolding afterMove
+  turn-before e plan = let m = is-before _ (sym (says .answer) ∙ e) in rw m
+
+  pub turn-after : {c n : ℕ} → q ≡ M.After c n → TurnIs bytes (movedOn bytes here t g) child g (T.Ended n)
+  unfolding afterMove
+  turn-after e plan = let m = is-after _ (sym (says .answer) ∙ e) in rw m
+
+  -- the cost of a step is below the range's end
+  pub step-small : {c : ℕ} → q ≡ M.Moved c → c < rangeEnd
+  step-small e = let m = is-moved _ (sym (says .answer) ∙ e) in step-cost-below rangeEnd (modelOf bytes) here t (m .1)
+
+  pub turn-moved : {c h : ℕ} → q ≡ M.Moved c → h ≡ costsIn bytes .combine g c → TurnIs bytes (movedOn bytes here t g) child g (T.On h)
+  unfolding afterMove
+  turn-moved {c} {h} e f =
+      let m = is-moved _ (sym (says .answer) ∙ e) in
+      let w : stateIn bytes child ≡ m .0 = says .arrives c (m .0) (m .1) in
+      (λ plan. rw (m .1, f, w), omega (arith, f, combined-small bytes g c, step-small e))
+
+-- ---- one turn: the status of the state, then the transition
+
+turn-same : (bytes : List ℕ) (f k : List ℕ → Value ℕ) (child : List ℕ) (g : ℕ) (r : TurnAnswer) → ((plan : List ℕ) → k plan ≡ f plan) → TurnIs bytes f child g r → TurnIs bytes k child g r
+turn-same bytes f k child g (T.On h) e t = (λ plan. e plan ∙ t .0 plan, t .1)
+turn-same bytes f k child g (T.Ended n) e t = λ plan. e plan ∙ t plan
+
+module _ (bytes : List ℕ) (s : State) (t g : ℕ) where
+  -- a number that is not declared is blocked
+  undeclared : (rest : ℕ → State → Value ℕ) → cond (ltb t (systemIn bytes .transitions)) (afterMove (costsIn bytes) (systemIn bytes) (systemIn bytes .move s t) rest) (trouble notAPlan) ≡ afterMove (costsIn bytes) (systemIn bytes) (systemIn bytes .move s t) rest
+  unfolding systemOf move moveBy afterMove
+  undeclared rest = by-test (ltb t (length (modelOf bytes .transitions))) (ltb-false t (length (modelOf bytes .transitions)))
+    where
+      by-test : (b : Bool) → (b ≡ false → length (modelOf bytes .transitions) ≤ t)
+          → cond b (afterMove (costsIn bytes) (systemIn bytes) (systemIn bytes .move s t) rest) (trouble notAPlan) ≡ afterMove (costsIn bytes) (systemIn bytes) (systemIn bytes .move s t) rest
+      by-test true h = refl
+      by-test false h = rw (none-beyond (modelOf bytes .transitions) t (h refl))
+
+  follow-unfinished : (plan : List ℕ) → systemIn bytes .status s ≡ unfinished → followIn bytes (t ∷ plan) s g ≡ movedOn bytes s t g plan
+  unfolding follow afterStatus
+  follow-unfinished plan e = rw e (undeclared (λ c u. followIn bytes plan u (costsIn bytes .combine g c)))
+
+  module _ (child : List ℕ) where
+    abbrev whole : List ℕ → Value ℕ
+    whole plan = followIn bytes (t ∷ plan) s g
+
+    pub turn-base : S.Base ≡ statusAnswer (systemIn bytes .status s) → TurnIs bytes whole child g (T.Ended notAPlan)
+    unfolding follow afterStatus
+    turn-base e plan = rw (is-base _ (sym e))
+
+    pub turn-troubles : {n : ℕ} → S.Trouble n ≡ statusAnswer (systemIn bytes .status s) → TurnIs bytes whole child g (T.Ended n)
+    unfolding follow afterStatus
+    turn-troubles e plan = rw (no-status _ (sym e))
+
+    pub turn-on : S.Unfinished ≡ statusAnswer (systemIn bytes .status s) → (r : TurnAnswer) → TurnIs bytes (movedOn bytes s t g) child g r → TurnIs bytes whole child g r
+    turn-on e r h = turn-same bytes (movedOn bytes s t g) whole child g r (λ plan. follow-unfinished plan (is-unfinished _ (sym e))) h
+
+-- ---- the final state
+
+module _ (bytes : List ℕ) (s : State) (g : ℕ) where
+  pub finish-base : S.Base ≡ statusAnswer (systemIn bytes .status s) → CheckedIs (finished bytes s g) (record { answer = 0; cost = g })
+  unfolding final answerNumber answerCost
+  finish-base e = let f = is-base _ (sym e) in record { number = rw f; cost = rw f }
+
+  pub finish-unfinished : S.Unfinished ≡ statusAnswer (systemIn bytes .status s) → CheckedIs (finished bytes s g) (record { answer = notAPlan; cost = 0 })
+  unfolding final answerNumber answerCost
+  finish-unfinished e = let f = is-unfinished _ (sym e) in record { number = rw f; cost = rw f }
+
+  pub finish-troubles : {n : ℕ} → S.Trouble n ≡ statusAnswer (systemIn bytes .status s) → CheckedIs (finished bytes s g) (record { answer = n; cost = 0 })
+  unfolding final answerNumber answerCost
+  finish-troubles e = let f = no-status _ (sym e) in record { number = rw f; cost = rw f }
+
+-- ---- the whole plan
+
+-- i steps of the plan are taken, at the cost g, to the state
+pub record Followed (bytes plan state child : List ℕ) (g i : ℕ) : Type 0 where
+  pub long : length state ≡ 16
+  pub child-long : length child ≡ 16
+  pub within : i ≤ length plan
+  pub small : g ≤ i * rangeEnd
+  pub left : followIn bytes plan (target (modelOf bytes)) 0 ≡ followIn bytes (drop i plan) (stateIn bytes state) g
+
+module _ (bytes plan state child : List ℕ) where
+  pub followed-first : length state ≡ 16 → length child ≡ 16 → stateIn bytes state ≡ target (modelOf bytes) → Followed bytes plan state child 0 0
+  followed-first l k e = record { long = l; child-long = k; within = omega arith; small = omega arith; left = rw e }
+
+  module _ (g i : ℕ) (so-far : Followed bytes plan state child g i) where
+    pub cost-small : length plan ≤ 256 → g < 2 ^ 63
+    cost-small h = omega (arith, so-far .small, so-far .within)
+
+    pub followed-last : length plan ≤ i → (r : Checked) → CheckedIs (finished bytes (stateIn bytes state) g) r → CheckedIs (followIn bytes plan (target (modelOf bytes)) 0) r
+    unfolding follow
+    followed-last h r c = rw (so-far .left, drop-of-length-le plan h) c
+
+    module _ (h : i < length plan) (after : List ℕ) (r : TurnAnswer) (turned : TurnIs bytes (λ rest. followIn bytes (getD plan i 0 ∷ rest) (stateIn bytes state) g) after g r) where
+      next-step : followIn bytes plan (target (modelOf bytes)) 0 ≡ followIn bytes (getD plan i 0 ∷ drop (i + 1) plan) (stateIn bytes state) g
+      next-step = so-far .left ∙ ap (λ (l : List ℕ). followIn bytes l (stateIn bytes state) g) (drop-cons plan i 0 h ∙ ap (λ (k : ℕ). getD plan i 0 ∷ drop k plan) (sym (add-one i)))
+
+      pub followed-more : {k : ℕ} → r ≡ T.On k → length after ≡ 16 → Followed bytes plan after after k (i + 1)
+      followed-more {k} e l =
+          let t = rw e at turned in
+          let m : (i + 1) * rangeEnd ≡ i * rangeEnd + rangeEnd = omega arith in
+          record { long = l; child-long = l; within = omega arith; small = omega (arith, so-far .small, t .1); left = next-step ∙ t .0 (drop (i + 1) plan) }
+
+      pub followed-ended : {n : ℕ} → r ≡ T.Ended n → CheckedIs (followIn bytes plan (target (modelOf bytes)) 0) (record { answer = n; cost = 0 })
+      unfolding answerNumber answerCost
+      followed-ended {n} e =
+          let t : followIn bytes plan (target (modelOf bytes)) 0 ≡ trouble n = next-step ∙ (rw e at turned) (drop (i + 1) plan) in
+          record { number = rw t; cost = rw t }

@@ -1,0 +1,13 @@
+-- Laws that the proofs of the functions cite, and those that callers cite.
+pub mod Items
+pub mod StateWords
+pub mod Outlined
+pub mod Dominance
+pub mod Readings
+pub mod Evaluated
+pub mod Holding
+pub mod Trials
+pub mod Signs
+pub mod Writing
+pub mod Moving
+pub mod Following

@@ -1,0 +1,241 @@
+-- A transition's move from its parts: conditions, then cost and effects, then the new state's constraints.
+use Prim.Native.Nat.{ℕ, _+_, _≤_, _<_}
+use mathlib.Core.Path.{_≡_, refl, sym, ap, _∙_}
+use mathlib.Core.Bool.{Bool, true, false, cond}
+use mathlib.Core.List.{List, [], _∷_}
+use mathlib.Core.Option.{some, none}
+use native.Mathlib.Omega.{arith}
+use lib.ListN.{length, getD, getElem?, drop}
+use lib.IntN.{ℤ}
+use Rattle.model.specs.Numbers.{rangeEnd}
+use Rattle.model.specs.Values.{Value, value, trouble, _>>=_}
+use Rattle.model.specs.System.{Move, blocked, moved, troubleBefore, troubleAfter}
+use Rattle.model.specs.Syntax.{Transition, Effect, Model}
+use Rattle.model.specs.Meaning.{State, numberValue, allHold}
+use Rattle.model.specs.Steps.{costOf, effects, Attempt, notTaken, taken, attempt, constrained, moveOf, moveBy, move, systemOf}
+use Rattle.outline.specs.Outline.{modelOf, transitionsFrom}
+use Rattle.steps.specs.declared.answers.HeldAnswer.{HeldAnswer}
+use Rattle.steps.specs.declared.answers.HeldAnswer.the-variants as H
+use Rattle.steps.specs.declared.answers.CostAnswer.{CostAnswer}
+use Rattle.steps.specs.declared.answers.CostAnswer.the-variants as C
+use Rattle.steps.specs.declared.answers.EffectsAnswer.{EffectsAnswer}
+use Rattle.steps.specs.declared.answers.EffectsAnswer.the-variants as E
+use Rattle.steps.specs.declared.answers.AttemptAnswer.{AttemptAnswer}
+use Rattle.steps.specs.declared.answers.AttemptAnswer.the-variants as A
+use Rattle.steps.specs.declared.answers.MoveAnswer.{MoveAnswer}
+use Rattle.steps.specs.declared.answers.MoveAnswer.the-variants as M
+use Rattle.steps.specs.Held.{Outlined, stateIn, systemIn}
+use Rattle.steps.specs.Answers.{heldAnswer, costAnswer, effectsAnswer, attemptAnswer, moveAnswer}
+use Rattle.steps.specs.Says.{ReadsAt, HeldSays, CostSays, EffectsRead, EffectsSay, EffectsSays, takenIn, AttemptSay, TakenSays, TakenRead, TransitionRead, AttemptSays, MoveSays}
+use Rattle.steps.proofs.Items.{Nth, nth-of, none-beyond}
+use Rattle.steps.proofs.Readings.{PartsAt, parts-at}
+use Rattle.steps.proofs.Holding.{byte-inside}
+use Rattle.steps.proofs.Trials.{constraintsIn, all-held, one-fails, one-troubles}
+
+-- ---- answers taken apart
+
+cost-is : (v : Value ℕ) (n : ℕ) {c k : ℕ} → costAnswer v n ≡ C.Cost c k → (v ≡ value c) × (n ≡ k)
+unfolding costAnswer
+cost-is (value a) n e = (cc, cc)
+cost-is (trouble t) n e = let z : _≡_ {A = ℕ} 0 1 = cc in absurd (omega arith)
+
+cost-troubles : (v : Value ℕ) (n : ℕ) {t : ℕ} → costAnswer v n ≡ C.Trouble t → v ≡ trouble t
+unfolding costAnswer
+cost-troubles (value a) n e = let z : _≡_ {A = ℕ} 0 1 = cc in absurd (omega arith)
+cost-troubles (trouble t) n e = cc
+
+effects-done : (v : Value State) → effectsAnswer v ≡ E.Done → (u : State) × (v ≡ value u)
+unfolding effectsAnswer
+effects-done (value u) e = (u, refl)
+effects-done (trouble t) e = let z : _≡_ {A = ℕ} 0 1 = cc in absurd (omega arith)
+
+effects-trouble : (v : Value State) {t : ℕ} → effectsAnswer v ≡ E.Trouble t → v ≡ trouble t
+unfolding effectsAnswer
+effects-trouble (value u) e = let z : _≡_ {A = ℕ} 0 1 = cc in absurd (omega arith)
+effects-trouble (trouble t) e = cc
+
+not-taken : (v : Value Attempt) → attemptAnswer v ≡ A.NotTaken → v ≡ value notTaken
+unfolding attemptAnswer
+not-taken (value notTaken) e = refl
+not-taken (value (taken c u)) e = let z : _≡_ {A = ℕ} 0 1 = cc in absurd (omega arith)
+not-taken (trouble t) e = let z : _≡_ {A = ℕ} 0 1 = cc in absurd (omega arith)
+
+is-taken : (v : Value Attempt) {c : ℕ} → attemptAnswer v ≡ A.Taken c → (u : State) × (v ≡ value (taken c u))
+unfolding attemptAnswer
+is-taken (value notTaken) e = let z : _≡_ {A = ℕ} 0 1 = cc in absurd (omega arith)
+is-taken (value (taken c u)) e = (u, cc)
+is-taken (trouble t) e = let z : _≡_ {A = ℕ} 0 1 = cc in absurd (omega arith)
+
+attempt-troubles : (v : Value Attempt) {t : ℕ} → attemptAnswer v ≡ A.Trouble t → v ≡ trouble t
+unfolding attemptAnswer
+attempt-troubles (value notTaken) e = let z : _≡_ {A = ℕ} 0 1 = cc in absurd (omega arith)
+attempt-troubles (value (taken c u)) e = let z : _≡_ {A = ℕ} 0 1 = cc in absurd (omega arith)
+attempt-troubles (trouble t) e = cc
+
+-- ---- answers that write nothing
+
+module _ (bytes : List ℕ) (at : ℕ) (state child : List ℕ) (v : Value Attempt) where
+  says-trouble : {t : ℕ} → v ≡ trouble t → AttemptSay bytes at state child (A.Trouble t) v
+  unfolding attemptAnswer
+  says-trouble e = record { answer = rw e; written = λ c u i. let z : _≡_ {A = ℕ} 0 1 = cc in absurd (omega arith) }
+
+  says-not-taken : v ≡ value notTaken → AttemptSay bytes at state child A.NotTaken v
+  unfolding attemptAnswer
+  says-not-taken e = record { answer = rw e; written = λ c u i. let z : _≡_ {A = ℕ} 0 1 = cc in absurd (omega arith) }
+
+  says-taken : {c : ℕ} {u : State} → v ≡ value (taken c u) → stateIn bytes child ≡ u → AttemptSay bytes at state child (A.Taken c) v
+  unfolding attemptAnswer
+  says-taken {c} {u} e w = record { answer = rw e; written = λ d y i. let p : u ≡ y = cc in w ∙ p }
+
+-- ---- cost and effects
+
+cost-then : (v : Value ℤ) (f : ℕ → Value Attempt) {c : ℕ} → (v >>= costOf) ≡ value c → (v >>= λ z. costOf z >>= f) ≡ f c
+unfolding _>>=_
+cost-then (value z) f e = rw e
+cost-then (trouble t) f e = let z : _≡_ {A = ℕ} 0 1 = cc in absurd (omega arith)
+
+cost-stops : (v : Value ℤ) (f : ℕ → Value Attempt) {t : ℕ} → (v >>= costOf) ≡ trouble t → (v >>= λ z. costOf z >>= f) ≡ trouble t
+unfolding _>>=_
+cost-stops (value z) f e = rw e
+cost-stops (trouble t) f e = cc
+
+module _ (bytes : List ℕ) (at : ℕ) (state : List ℕ) (q : CostAnswer) (says : CostSays bytes at state q) where
+  pub take-stops : {t : ℕ} (child : List ℕ) → q ≡ C.Trouble t → TakenSays bytes at state child (A.Trouble t)
+  take-stops child e x n l k h g = says-trouble bytes at state child _ (cost-stops _ _ (cost-troubles _ n (sym (says x n h) ∙ e)))
+
+  module _ {c used : ℕ} (e : q ≡ C.Cost c used) where
+    -- where the effects begin
+    pub effects-begin : TakenRead bytes at → EffectsRead bytes (at + used)
+    effects-begin r = let p = cost-is _ (r .cost-used) (sym (says (r .cost) (r .cost-used) (r .reads-cost)) ∙ e) in rw (p .1) at (r .effects-read)
+
+    module _ (before child : List ℕ) (copied : stateIn bytes before ≡ stateIn bytes state) (r : EffectsAnswer) (effected : EffectsSays bytes (at + used) state before child r) where
+      pub take-done : r ≡ E.Done → TakenSays bytes at state child (A.Taken c)
+      unfolding _>>=_
+      take-done d x n l k h g =
+          let p = cost-is _ n (sym (says x n h) ∙ e) in
+          let s = effected l k (rw (p .1) at g) in
+          let w = effects-done _ (sym (s .answer) ∙ d) in
+          let same : effects rangeEnd (modelOf bytes) l (stateIn bytes state) (stateIn bytes state) ≡ value (w .0) = ap (effects rangeEnd (modelOf bytes) l (stateIn bytes state)) (sym copied) ∙ w .1 in
+          says-taken bytes at state child _ (cost-then (numberValue rangeEnd (modelOf bytes .tables) x (stateIn bytes state)) (λ c. effects rangeEnd (modelOf bytes) l (stateIn bytes state) (stateIn bytes state) >>= λ new. value (taken c new)) (p .0) ∙ ap (λ (v : Value State). v >>= λ new. value (taken c new)) same) (s .written (w .0) (w .1))
+
+      pub take-troubles : {t : ℕ} → r ≡ E.Trouble t → TakenSays bytes at state child (A.Trouble t)
+      unfolding _>>=_
+      take-troubles {t} d x n l k h g =
+          let p = cost-is _ n (sym (says x n h) ∙ e) in
+          let s = effected l k (rw (p .1) at g) in
+          let w = effects-trouble _ (sym (s .answer) ∙ d) in
+          let same : effects rangeEnd (modelOf bytes) l (stateIn bytes state) (stateIn bytes state) ≡ trouble t = ap (effects rangeEnd (modelOf bytes) l (stateIn bytes state)) (sym copied) ∙ w in
+          says-trouble bytes at state child _ (cost-then (numberValue rangeEnd (modelOf bytes .tables) x (stateIn bytes state)) (λ c. effects rangeEnd (modelOf bytes) l (stateIn bytes state) (stateIn bytes state) >>= λ new. value (taken c new)) (p .0) ∙ ap (λ (v : Value State). v >>= λ new. value (taken c new)) same)
+
+-- ---- conditions, then the rest
+
+module _ (bytes : List ℕ) (at : ℕ) (state : List ℕ) (q : HeldAnswer) (says : HeldSays bytes at state q) where
+  abbrev PartsIn : Transition → Type 0
+  PartsIn = PartsAt (modelOf bytes .variables) (modelOf bytes .tables) bytes at
+
+  held : (x : Transition) (p : PartsIn x) → heldAnswer (allHold rangeEnd (modelOf bytes .tables) (x .conditions) (stateIn bytes state)) (at + p .conditions-used) ≡ q
+  held x p = sym (says (x .conditions) (p .conditions-used) (p .reads-conditions))
+
+  pub attempt-blocked : (child : List ℕ) → q ≡ H.Fails → AttemptSays bytes at state child A.NotTaken
+  unfolding attempt _>>=_
+  attempt-blocked child e x n h =
+      let p = parts-at _ _ bytes at x n h in
+      let f = one-fails _ _ (held x p ∙ e) in
+      says-not-taken bytes at state child _ (rw f)
+
+  pub attempt-stops : {t : ℕ} (child : List ℕ) → q ≡ H.Trouble t → AttemptSays bytes at state child (A.Trouble t)
+  unfolding attempt _>>=_
+  attempt-stops child e x n h =
+      let p = parts-at _ _ bytes at x n h in
+      let f = one-troubles _ _ (held x p ∙ e) in
+      says-trouble bytes at state child _ (rw f)
+
+  module _ {next : ℕ} (e : q ≡ H.All next) where
+    pub rest-read : TransitionRead bytes at → TakenRead bytes (next + 1)
+    rest-read r =
+        let p = parts-at _ _ bytes at (r .item) (r .used) (r .reads) in
+        let f = all-held _ _ (held (r .item) p ∙ e) in
+        record {
+          cost = r .item .cost;
+          cost-used = p .cost-used;
+          reads-cost = rw (f .1) at (p .reads-cost);
+          inside = omega (arith, byte-inside bytes next 9 (rw (f .1) at (p .cost-there)) (omega arith));
+          effects-read = record { item = r .item .effects; used = p .effects-used; reads = rw (f .1) at (p .reads-effects) };
+        }
+
+    pub attempt-taken : (child : List ℕ) (r : AttemptAnswer) → TakenSays bytes (next + 1) state child r → AttemptSays bytes at state child r
+    unfolding attempt _>>=_
+    attempt-taken child r rest x n h =
+        let p = parts-at _ _ bytes at x n h in
+        let f = all-held _ _ (held x p ∙ e) in
+        let s = rest (x .cost) (p .cost-used) (x .effects) (p .effects-used) (rw (f .1) at (p .reads-cost)) (rw (f .1) at (p .reads-effects)) in
+        record { answer = s .answer ∙ rw (f .0); written = λ c u i. s .written c u (rw (f .0) at i) }
+
+-- ---- the constraints of the new state
+
+module _ (end : ℕ) (m : Model) (c : ℕ) (s : State) (v : Value Bool) where
+  pub constraints-met : {i : ℕ} → H.All i ≡ heldAnswer v 0 → M.Moved c ≡ moveAnswer (constrained end m c s v)
+  unfolding constrained moveAnswer
+  constraints-met e = rw (all-held v 0 (sym e) .0)
+
+  pub constraint-fails : H.Fails ≡ heldAnswer v 0 → M.Blocked ≡ moveAnswer (constrained end m c s v)
+  unfolding constrained moveAnswer
+  constraint-fails e = rw (one-fails v 0 (sym e))
+
+  pub constraint-troubles : {t : ℕ} → H.Trouble t ≡ heldAnswer v 0 → M.After c t ≡ moveAnswer (constrained end m c s v)
+  unfolding constrained moveAnswer
+  constraint-troubles e = rw (one-troubles v 0 (sym e))
+
+new-state : (end : ℕ) (m : Model) (c : ℕ) (s : State) (v : Value Bool) {d : ℕ} {u : State} → constrained end m c s v ≡ moved d u → s ≡ u
+unfolding constrained
+new-state end m c s (value true) e = cc
+new-state end m c s (value false) e = let z : _≡_ {A = ℕ} 0 1 = cc in absurd (omega arith)
+new-state end m c s (trouble t) e = let z : _≡_ {A = ℕ} 0 1 = cc in absurd (omega arith)
+
+-- ---- the move
+
+module _ (bytes words : List ℕ) (o : Outlined bytes words) (state : List ℕ) (t : ℕ) where
+  pub move-undeclared : (child : List ℕ) → length (modelOf bytes .transitions) ≤ t → MoveSays bytes state t child M.Blocked
+  unfolding systemOf move moveBy moveAnswer
+  move-undeclared child h = let n = none-beyond (modelOf bytes .transitions) t h in record { answer = rw n; arrives = λ c u i. let z : _≡_ {A = ℕ} 0 1 = cc (rw n at i) in absurd (omega arith) }
+
+  module _ (h : t < length (modelOf bytes .transitions)) (at : ℕ) (place : at ≡ getD words (transitionsFrom + t) 0) where
+    pub transition-read : TransitionRead bytes at
+    transition-read =
+        let n = nth-of (modelOf bytes .transitions) t h in
+        let i = o .outlines .transitions t (n .nth) (n .found) in
+        record { item = n .nth; used = i .used; reads = rw place (i .reads) }
+
+    module _ (child : List ℕ) (q : AttemptAnswer) (says : AttemptSays bytes at state child q) where
+      the-move : (n : Nth (modelOf bytes .transitions) t) → systemIn bytes .move (stateIn bytes state) t ≡ moveOf rangeEnd (modelOf bytes) (attempt rangeEnd (modelOf bytes) (n .nth) (stateIn bytes state))
+      unfolding systemOf move moveBy
+      the-move n = rw (n .found)
+
+      said : (n : Nth (modelOf bytes .transitions) t) → AttemptSay bytes at state child q (attempt rangeEnd (modelOf bytes) (n .nth) (stateIn bytes state))
+      said n = let i = o .outlines .transitions t (n .nth) (n .found) in says (n .nth) (i .used) (rw place (i .reads))
+
+      pub move-blocked : q ≡ A.NotTaken → MoveSays bytes state t child M.Blocked
+      unfolding moveOf moveAnswer
+      move-blocked e =
+          let n = nth-of (modelOf bytes .transitions) t h in
+          let a = not-taken _ (sym (said n .answer) ∙ e) in
+          let m : systemIn bytes .move (stateIn bytes state) t ≡ blocked = the-move n ∙ rw a in
+          record { answer = rw m; arrives = λ c u i. let z : _≡_ {A = ℕ} 0 1 = cc in absurd (omega arith) }
+
+      pub move-before : {k : ℕ} → q ≡ A.Trouble k → MoveSays bytes state t child (M.Before k)
+      unfolding moveOf moveAnswer
+      move-before {k} e =
+          let n = nth-of (modelOf bytes .transitions) t h in
+          let a = attempt-troubles _ (sym (said n .answer) ∙ e) in
+          let m : systemIn bytes .move (stateIn bytes state) t ≡ troubleBefore k = the-move n ∙ rw a in
+          record { answer = rw m; arrives = λ c u i. let z : _≡_ {A = ℕ} 0 1 = cc in absurd (omega arith) }
+
+      pub move-after : {c : ℕ} → q ≡ A.Taken c → (r : MoveAnswer) → r ≡ moveAnswer (constrained rangeEnd (modelOf bytes) c (stateIn bytes child) (constraintsIn bytes child)) → MoveSays bytes state t child r
+      unfolding moveOf
+      move-after {c} e r f =
+          let n = nth-of (modelOf bytes .transitions) t h in
+          let a = is-taken _ (sym (said n .answer) ∙ e) in
+          let w : stateIn bytes child ≡ a .0 = said n .written c (a .0) (a .1) in
+          let b : attempt rangeEnd (modelOf bytes) (n .nth) (stateIn bytes state) ≡ value (taken c (stateIn bytes child)) = a .1 ∙ ap (λ (u : State). value (taken c u)) (sym w) in
+          let m : systemIn bytes .move (stateIn bytes state) t ≡ constrained rangeEnd (modelOf bytes) c (stateIn bytes child) (constraintsIn bytes child) = the-move n ∙ rw b in
+          record { answer = f ∙ ap moveAnswer (sym m); arrives = λ d u i. new-state rangeEnd (modelOf bytes) c (stateIn bytes child) (constraintsIn bytes child) (sym m ∙ i) }

@@ -1,0 +1,313 @@
+-- What readers read, by the positions of its parts: commands one behind the other, and the parts of a transition.
+use Prim.Native.Nat.{ℕ, zero, suc, _+_, _*_, _≤_, _<_}
+use mathlib.Core.Path.{_≡_, refl, sym, ap, _∙_}
+use mathlib.Core.Bool.{Bool, true, false, cond}
+use mathlib.Core.List.{List, [], _∷_, reverse, reverseAux}
+use mathlib.Core.Option.{Option, some}
+use mathlib.Core.Option as O
+use native.Mathlib.Omega.{arith}
+use lib.ListN.{length, getD, getElem?, drop, length-drop}
+use lib.Seq.{getD-drop, drop-drop}
+use lib.Dec.{eqb}
+use borrow.Author.Tests.{eqb-true, eqb-false}
+use Rattle.model.specs.Numbers.{notDue, offLimits, mismatch, mostConditions, mostNesting, mostVariables}
+use Rattle.model.specs.Readers.{Read, read, refused, Reader, after, continue, _>>=_, _>>_, give, refuse, require, peek, byte, word, one, command, many, upTo}
+use Rattle.model.specs.Syntax.{Element, Set, Condition, Number, Expression, ofSet, ofElement, ofNumber, aSet, anElement, aNumber, Variable, Table, Effect, Transition}
+use Rattle.model.specs.Expressions.{declared, element, set, number, condition}
+use Rattle.model.specs.Commands.{conditions, effectTarget, expressionFor, effectOn, transition}
+use Rattle.steps.specs.Says.{effectList}
+
+-- ---- one reader behind the other
+
+after-read : {A : Type 0} (n : ℕ) (r : Read A) (a : A) (u : ℕ) → after n r ≡ read a u → (m : ℕ) × (r ≡ read a m) × (u ≡ n + m)
+unfolding after
+after-read n (read x m) a u e = (m, cc, cc)
+after-read n (refused t) a u e = let z : _≡_ {A = ℕ} 0 1 = cc in absurd (omega arith)
+
+record Chain {A B : Type 0} (r : Read A) (next : A → Reader B) (e : List ℕ) (b : B) (u : ℕ) : Type 0 where
+  first : A
+  used : ℕ
+  left : ℕ
+  reads-first : r ≡ read first used
+  reads-next : next first (drop used e) ≡ read b left
+  uses : u ≡ used + left
+
+chain : {A B : Type 0} (r : Read A) (next : A → Reader B) (e : List ℕ) (b : B) (u : ℕ) → continue r next e ≡ read b u → Chain r next e b u
+unfolding continue
+chain (read a n) next e b u h =
+    let p = after-read n (next a (drop n e)) b u h in
+    record { first = a; used = n; left = p .0; reads-first = refl; reads-next = p .1; uses = p .2 }
+chain (refused t) next e b u h = let z : _≡_ {A = ℕ} 0 1 = cc in absurd (omega arith)
+
+given : {A : Type 0} (a : A) (e : List ℕ) (b : A) (u : ℕ) → give a e ≡ read b u → (a ≡ b) × (u ≡ 0)
+unfolding give
+given a e b u h = (cc, cc)
+
+peeked : (e : List ℕ) (b n : ℕ) → peek e ≡ read b n → (n ≡ 0) × (getD e 0 0 ≡ b)
+unfolding peek
+peeked [] b n h = let z : _≡_ {A = ℕ} 0 1 = cc in absurd (omega arith)
+peeked (x ∷ e) b n h = (cc, cc)
+
+byte-used : (e : List ℕ) (b n : ℕ) → byte e ≡ read b n → (n ≡ 1) × (getD e 0 0 ≡ b)
+unfolding byte
+byte-used [] b n h = let z : _≡_ {A = ℕ} 0 1 = cc in absurd (omega arith)
+byte-used (x ∷ e) b n h = (cc, cc)
+
+required : (b : Bool) (t : ℕ) (e : List ℕ) (x : Unit {0}) (n : ℕ) → require b t e ≡ read x n → (b ≡ true) × (n ≡ 0)
+unfolding require
+required true t e x n h = (refl, cc)
+required false t e x n h = let z : _≡_ {A = ℕ} 0 1 = cc in absurd (omega arith)
+
+found : (o : Option Variable) (e : List ℕ) (x : Variable) (n : ℕ) → declared o e ≡ read x n → (o ≡ some x) × (n ≡ 0)
+unfolding declared refuse give
+found O.none e x n h = let z : _≡_ {A = ℕ} 0 1 = cc in absurd (omega arith)
+found (O.some y) e x n h = (cc, cc)
+
+commanded : (c : ℕ) (e : List ℕ) (x : Unit {0}) (n : ℕ) → command c e ≡ read x n → (n ≡ 1) × (getD e 0 0 ≡ c)
+unfolding command _>>=_
+commanded c e x n h =
+    let p = chain (byte e) _ e x n h in
+    let q = byte-used e (p .first) (p .used) (p .reads-first) in
+    let r = required (eqb (p .first) c) notDue (drop (p .used) e) x (p .left) (p .reads-next) in
+    (omega (arith, p .uses, q .0, r .1), q .1 ∙ eqb-true (p .first) c (r .0))
+
+one-byte : (e : List ℕ) (v n : ℕ) → word 1 e ≡ read v n → (n ≡ 1) × ((getD e 0 0 ≡ v) × (0 < length e))
+unfolding word byte give _>>=_ continue after
+one-byte [] v n h = let z : _≡_ {A = ℕ} 0 1 = cc in absurd (omega arith)
+one-byte (b ∷ e) v n h =
+    let p : b + 256 * 0 ≡ v = cc in
+    let q : 1 + (0 + 0) ≡ n = cc in
+    (omega arith, (omega arith, omega arith))
+
+front-byte : (bytes : List ℕ) (at : ℕ) → getD (drop at bytes) 0 0 ≡ getD bytes at 0
+front-byte bytes at = getD-drop at bytes 0 0 ∙ ap (λ (i : ℕ). getD bytes i 0) (omega arith)
+
+-- ---- commands one behind the other
+
+-- from `at` on, commands c up to `end`: P says what stands behind a command's byte and where that ends
+module _ {A : Type 0} (c : ℕ) (P : (at : ℕ) → A → (next : ℕ) → Type 0) (bytes : List ℕ) where
+  pub data Listed : (at : ℕ) → List A → (end : ℕ) → Type 0 where
+    stop : {at : ℕ} → (getD bytes at 0 ≡ c → ⊥) → Listed at [] at
+    item : {at next end : ℕ} {x : A} {xs : List A} → getD bytes at 0 ≡ c → P (at + 1) x next → Listed next xs end → Listed at (x ∷ xs) end
+
+  -- the first of them, where there is one
+  pub record First (at : ℕ) (l : List A) (end : ℕ) : Type 0 where
+    pub first : A
+    pub others : List A
+    pub next : ℕ
+    pub whole : l ≡ first ∷ others
+    pub part : P (at + 1) first next
+    pub behind : Listed next others end
+
+  pub first-of : {at end : ℕ} {l : List A} → Listed at l end → getD bytes at 0 ≡ c → First at l end
+  first-of (stop h) e = absurd (h e)
+  first-of (item {next} {x = x} {xs} f p r) e = record { first = x; others = xs; next = next; whole = refl; part = p; behind = r }
+
+  pub none-of : {at end : ℕ} {l : List A} → Listed at l end → (getD bytes at 0 ≡ c → ⊥) → (l ≡ []) × (at ≡ end)
+  none-of (stop h) e = (refl, refl)
+  none-of (item f p r) e = absurd (e f)
+
+module _ {A B : Type 0} (c : ℕ) (head : ℕ → List B → Reader A) (body : A → Reader B) (P : (at : ℕ) → B → (next : ℕ) → Type 0) (bytes : List ℕ)
+    (each : (b : ℕ) (done : List B) (at : ℕ) (a : A) (n : ℕ) (x : B) (k : ℕ) → head b done (drop at bytes) ≡ read a n → body a (drop n (drop at bytes)) ≡ read x k → P at x (at + (n + k))) where
+  abbrev loop : ℕ → List B → Reader (List B)
+  loop = many (λ b. eqb b c) head body
+
+  pub record Rest (done : List B) (at : ℕ) (l : List B) (u : ℕ) : Type 0 where
+    pub items : List B
+    pub whole : l ≡ reverseAux done items
+    pub listed : Listed c P bytes at items (at + u)
+
+  ended : (done : List B) (at : ℕ) (l : List B) (n u m : ℕ) → (getD bytes at 0 ≡ c → ⊥) → give (reverse done) (drop n (drop at bytes)) ≡ read l m → u ≡ n + m → n ≡ 0 → Rest done at l u
+  ended done at l n u m h r e z =
+      let g = given (reverse done) (drop n (drop at bytes)) l m r in
+      let p : at ≡ at + u = omega (arith, g .1) in
+      record { items = []; whole = sym (g .0); listed = rw (← p) (stop h) }
+
+  -- one turn, by its test; `again` is what the turns behind it read
+  turn : (room : ℕ) → ((done : List B) (at : ℕ) (l : List B) (u : ℕ) → loop room done (drop at bytes) ≡ read l u → Rest done at l u)
+      → (done : List B) (at : ℕ) (l : List B) (b n m u : ℕ) (t : Bool) → eqb b c ≡ t → getD bytes at 0 ≡ b → n ≡ 0 → u ≡ n + m
+      → cond t (byte >> (head b done >>= λ a. body a >>= λ x. loop room (x ∷ done))) (give (reverse done)) (drop n (drop at bytes)) ≡ read l m → Rest done at l u
+  unfolding _>>=_ _>>_
+  turn room again done at l b n m u false e f z v r = ended done at l n u m (λ i. eqb-false b c e (sym f ∙ i)) r v z
+  turn room again done at l b n m u true e f z v r =
+      let r0 : (byte >> (head b done >>= λ a. body a >>= λ x. loop room (x ∷ done))) (drop at bytes) ≡ read l m = rw z at r in
+      let c1 = chain (byte (drop at bytes)) (λ _. head b done >>= λ a. body a >>= λ x. loop room (x ∷ done)) (drop at bytes) l m r0 in
+      let one-used = byte-used (drop at bytes) (c1 .first) (c1 .used) (c1 .reads-first) in
+      let e1 : drop (c1 .used) (drop at bytes) ≡ drop (at + 1) bytes = rw (one-used .0) (drop-drop 1 at bytes) in
+      let r1 : (head b done >>= λ a. body a >>= λ x. loop room (x ∷ done)) (drop (at + 1) bytes) ≡ read l (c1 .left) = rw e1 at (c1 .reads-next) in
+      let c2 = chain (head b done (drop (at + 1) bytes)) (λ a. body a >>= λ x. loop room (x ∷ done)) (drop (at + 1) bytes) l (c1 .left) r1 in
+      let c3 = chain (body (c2 .first) (drop (c2 .used) (drop (at + 1) bytes))) (λ x. loop room (x ∷ done)) (drop (c2 .used) (drop (at + 1) bytes)) l (c2 .left) (c2 .reads-next) in
+      let e3 : drop (c3 .used) (drop (c2 .used) (drop (at + 1) bytes)) ≡ drop (at + 1 + (c2 .used + c3 .used)) bytes = drop-drop (c3 .used) (c2 .used) (drop (at + 1) bytes) ∙ drop-drop (c2 .used + c3 .used) (at + 1) bytes in
+      let rest = again (c3 .first ∷ done) (at + 1 + (c2 .used + c3 .used)) l (c3 .left) (rw e3 at (c3 .reads-next)) in
+      let p : at + 1 + (c2 .used + c3 .used) + c3 .left ≡ at + u = omega (arith, one-used .0, c1 .uses, c2 .uses, c3 .uses) in
+      record {
+        items = c3 .first ∷ rest .items;
+        whole = rest .whole;
+        listed = item (f ∙ eqb-true b c e) (each b done (at + 1) (c2 .first) (c2 .used) (c3 .first) (c3 .used) (c2 .reads-first) (c3 .reads-first)) (rw p at (rest .listed));
+      }
+
+  full : (done : List B) (at : ℕ) (l : List B) (b n m u : ℕ) (t : Bool) → eqb b c ≡ t → getD bytes at 0 ≡ b → n ≡ 0 → u ≡ n + m
+      → cond t (byte >> head b done >> refuse offLimits) (give (reverse done)) (drop n (drop at bytes)) ≡ read l m → Rest done at l u
+  unfolding _>>_ refuse
+  full done at l b n m u false e f z v r = ended done at l n u m (λ i. eqb-false b c e (sym f ∙ i)) r v z
+  full done at l b n m u true e f z v r =
+      let c1 = chain ((byte >> head b done) (drop n (drop at bytes))) (λ _. refuse offLimits) (drop n (drop at bytes)) l m r in
+      let w : _≡_ {A = ℕ} 0 1 = cc (c1 .reads-next) in
+      absurd (omega arith)
+
+  pub many-rest : (room : ℕ) (done : List B) (at : ℕ) (l : List B) (u : ℕ) → loop room done (drop at bytes) ≡ read l u → Rest done at l u
+  unfolding many _>>=_
+  many-rest zero done at l u h =
+      let p = chain (peek (drop at bytes)) (λ b. cond (eqb b c) (byte >> head b done >> refuse offLimits) (give (reverse done))) (drop at bytes) l u h in
+      let q = peeked (drop at bytes) (p .first) (p .used) (p .reads-first) in
+      full done at l (p .first) (p .used) (p .left) u (eqb (p .first) c) refl (sym (front-byte bytes at) ∙ q .1) (q .0) (p .uses) (p .reads-next)
+  many-rest (suc room) done at l u h =
+      let p = chain (peek (drop at bytes)) (λ b. cond (eqb b c) (byte >> (head b done >>= λ a. body a >>= λ x. loop room (x ∷ done))) (give (reverse done))) (drop at bytes) l u h in
+      let q = peeked (drop at bytes) (p .first) (p .used) (p .reads-first) in
+      turn room (λ d i k v r. many-rest room d i k v r) done at l (p .first) (p .used) (p .left) u (eqb (p .first) c) refl (sym (front-byte bytes at) ∙ q .1) (q .0) (p .uses) (p .reads-next)
+
+  -- from the first command on
+  pub many-listed : (room at : ℕ) (l : List B) (u : ℕ) → loop room [] (drop at bytes) ≡ read l u → Listed c P bytes at l (at + u)
+  many-listed room at l u h = let r = many-rest room [] at l u h in rw (r .whole) (r .listed)
+
+-- ---- conditions and effects
+
+module _ (vs : List Variable) (ts : List Table) (bytes : List ℕ) where
+  pub record ConditionAt (at : ℕ) (x : Condition) (next : ℕ) : Type 0 where
+    pub used : ℕ
+    pub reads : condition vs ts mostNesting (drop at bytes) ≡ read x used
+    pub ends : next ≡ at + used
+
+  pub conditions-listed : (at : ℕ) (l : List Condition) (u : ℕ) → conditions vs ts (drop at bytes) ≡ read l u → Listed 0x08 ConditionAt bytes at l (at + u)
+  unfolding conditions upTo
+  conditions-listed at l u h = many-listed 0x08 (λ b done. give (tt {0})) (λ _. condition vs ts mostNesting) ConditionAt bytes each mostConditions at l u h
+    where
+      each : (b : ℕ) (done : List Condition) (at : ℕ) (a : Unit {0}) (n : ℕ) (x : Condition) (k : ℕ)
+          → give (tt {0}) (drop at bytes) ≡ read a n → condition vs ts mostNesting (drop n (drop at bytes)) ≡ read x k → ConditionAt at x (at + (n + k))
+      each b done at a n x k p q =
+          let z : n ≡ 0 = given (tt {0}) (drop at bytes) a n p .1 in
+          record { used = k; reads = rw z at q; ends = omega arith }
+
+  -- a variable's number, then an expression of its kind
+  pub record EffectAt (at : ℕ) (f : Effect) (next : ℕ) : Type 0 where
+    pub variable : Variable
+    pub used : ℕ
+    pub there : at < length bytes
+    pub named : getD bytes at 0 ≡ f .target
+    pub found-there : getElem? vs (f .target) ≡ some variable
+    pub reads : expressionFor vs ts (variable .kind) (variable .objects) (drop (at + 1) bytes) ≡ read (f .result) used
+    pub ends : next ≡ at + 1 + used
+
+  record TargetAt (e : List ℕ) (p : ℕ × Variable) (n : ℕ) : Type 0 where
+    some-left : 0 < length e
+    named : getD e 0 0 ≡ p .0
+    there : getElem? vs (p .0) ≡ some (p .1)
+    one-used : n ≡ 1
+
+  target-at : (b : ℕ) (done : List Effect) (e : List ℕ) (p : ℕ × Variable) (n : ℕ) → effectTarget vs ts b done e ≡ read p n → TargetAt e p n
+  unfolding effectTarget _>>=_ _>>_
+  target-at b done e p n h =
+      let c1 = chain (word 1 e) _ e p n h in
+      let w = one-byte e (c1 .first) (c1 .used) (c1 .reads-first) in
+      let c2 = chain _ _ (drop (c1 .used) e) p (c1 .left) (c1 .reads-next) in
+      let q = required _ offLimits (drop (c1 .used) e) (c2 .first) (c2 .used) (c2 .reads-first) in
+      let c3 = chain _ _ (drop (c2 .used) (drop (c1 .used) e)) p (c2 .left) (c2 .reads-next) in
+      let d = found (getElem? vs (c1 .first)) _ (c3 .first) (c3 .used) (c3 .reads-first) in
+      let g = given (c1 .first, c3 .first) _ p (c3 .left) (c3 .reads-next) in
+      let same : c1 .first ≡ p .0 = ap (λ (i : ℕ × Variable). i .0) (g .0) in
+      record { some-left = w .1 .1; named = w .1 .0 ∙ same; there = ap (getElem? vs) (sym same) ∙ d .0 ∙ ap (λ (i : ℕ × Variable). some (i .1)) (g .0); one-used = omega (arith, w .0, q .1, d .1, g .1, c1 .uses, c2 .uses, c3 .uses) }
+
+  effect-at : (at : ℕ) (p : ℕ × Variable) (n : ℕ) (f : Effect) (k : ℕ) → TargetAt (drop at bytes) p n → effectOn vs ts p (drop (at + 1) bytes) ≡ read f k → EffectAt at f (at + (n + k))
+  unfolding effectOn one _>>=_
+  effect-at at p n f k t h =
+      let c1 = chain (expressionFor vs ts (p .1 .kind) (p .1 .objects) (drop (at + 1) bytes)) _ (drop (at + 1) bytes) f k h in
+      let g = given _ _ f (c1 .left) (c1 .reads-next) in
+      let named : p .0 ≡ f .target = ap (λ (i : Effect). i .target) (g .0) in
+      let result : c1 .first ≡ f .result = ap (λ (i : Effect). i .result) (g .0) in
+      record {
+        variable = p .1;
+        used = c1 .used;
+        there = omega (arith, t .some-left, length-drop at bytes);
+        named = sym (front-byte bytes at) ∙ t .named ∙ named;
+        found-there = ap (getElem? vs) (sym named) ∙ t .there;
+        reads = c1 .reads-first ∙ ap (λ (i : Expression). read i (c1 .used)) result;
+        ends = omega (arith, t .one-used, c1 .uses, g .1);
+      }
+
+  pub effects-listed : (at : ℕ) (l : List Effect) (u : ℕ) → effectList vs ts (drop at bytes) ≡ read l u → Listed 0x0a EffectAt bytes at l (at + u)
+  effects-listed at l u h = many-listed 0x0a (effectTarget vs ts) (effectOn vs ts) EffectAt bytes each mostVariables at l u h
+    where
+      each : (b : ℕ) (done : List Effect) (at : ℕ) (p : ℕ × Variable) (n : ℕ) (f : Effect) (k : ℕ)
+          → effectTarget vs ts b done (drop at bytes) ≡ read p n → effectOn vs ts p (drop n (drop at bytes)) ≡ read f k → EffectAt at f (at + (n + k))
+      each b done at p n f k r q =
+          let t = target-at b done (drop at bytes) p n r in
+          let e : drop n (drop at bytes) ≡ drop (at + 1) bytes = rw (t .one-used) (drop-drop 1 at bytes) in
+          effect-at at p n f k t (rw e at q)
+
+  -- ---- a transition
+
+  pub record PartsAt (at : ℕ) (x : Transition) : Type 0 where
+    pub conditions-used : ℕ
+    pub cost-used : ℕ
+    pub effects-used : ℕ
+    pub reads-conditions : conditions vs ts (drop at bytes) ≡ read (x .conditions) conditions-used
+    pub reads-cost : number vs ts mostNesting (drop (at + conditions-used + 1) bytes) ≡ read (x .cost) cost-used
+    pub cost-there : getD bytes (at + conditions-used) 0 ≡ 0x09
+    pub reads-effects : effectList vs ts (drop (at + conditions-used + 1 + cost-used) bytes) ≡ read (x .effects) effects-used
+
+  pub parts-at : (at : ℕ) (x : Transition) (u : ℕ) → transition vs ts (drop at bytes) ≡ read x u → PartsAt at x
+  unfolding transition _>>=_ _>>_
+  parts-at at x u h =
+      let e = drop at bytes in
+      let c1 = chain (conditions vs ts e) _ e x u h in
+      let c2 = chain (command 0x09 (drop (c1 .used) e)) _ (drop (c1 .used) e) x (c1 .left) (c1 .reads-next) in
+      let w = commanded 0x09 (drop (c1 .used) e) (c2 .first) (c2 .used) (c2 .reads-first) in
+      let c3 = chain (number vs ts mostNesting (drop (c2 .used) (drop (c1 .used) e))) _ (drop (c2 .used) (drop (c1 .used) e)) x (c2 .left) (c2 .reads-next) in
+      let c4 = chain (effectList vs ts (drop (c3 .used) (drop (c2 .used) (drop (c1 .used) e)))) _ (drop (c3 .used) (drop (c2 .used) (drop (c1 .used) e))) x (c3 .left) (c3 .reads-next) in
+      let g = given _ _ x (c4 .left) (c4 .reads-next) in
+      let e2 : drop (c2 .used) (drop (c1 .used) e) ≡ drop (at + c1 .used + 1) bytes = rw (w .0, drop-drop (c1 .used) at bytes) (drop-drop 1 (at + c1 .used) bytes) in
+      let e3 : drop (c3 .used) (drop (c2 .used) (drop (c1 .used) e)) ≡ drop (at + c1 .used + 1 + c3 .used) bytes = ap (drop (c3 .used)) e2 ∙ drop-drop (c3 .used) (at + c1 .used + 1) bytes in
+      record {
+        conditions-used = c1 .used;
+        cost-used = c3 .used;
+        effects-used = c4 .used;
+        reads-conditions = c1 .reads-first ∙ ap (λ (i : Transition). read (i .conditions) (c1 .used)) (g .0);
+        reads-cost = ap (number vs ts mostNesting) (sym e2) ∙ c3 .reads-first ∙ ap (λ (i : Transition). read (i .cost) (c3 .used)) (g .0);
+        cost-there = sym (front-byte bytes (at + c1 .used)) ∙ ap (λ (l : List ℕ). getD l 0 0) (sym (drop-drop (c1 .used) at bytes)) ∙ w .1;
+        reads-effects = ap (effectList vs ts) (sym e3) ∙ c4 .reads-first ∙ ap (λ (i : Transition). read (i .effects) (c4 .used)) (g .0);
+      }
+
+-- ---- an effect's expression, by the kind of its variable
+
+checked : {A : Type 0} (b : Bool) (t : ℕ) (a : A) (e : List ℕ) (x : A) (n : ℕ) → (require b t >> give a) e ≡ read x n → (a ≡ x) × (n ≡ 0)
+unfolding _>>_
+checked b t a e x n h =
+    let c = chain (require b t e) (λ _. give a) e x n h in
+    let q = required b t e (c .first) (c .used) (c .reads-first) in
+    let g = given a (drop (c .used) e) x (c .left) (c .reads-next) in
+    (g .0, omega (arith, q .1, g .1, c .uses))
+
+module _ (vs : List Variable) (ts : List Table) (e : List ℕ) (objects : ℕ) (f : Expression) (n : ℕ) where
+  pub set-for : expressionFor vs ts aSet objects e ≡ read f n → (x : Set) × (set vs ts mostNesting e ≡ read x n) × (f ≡ ofSet x)
+  unfolding expressionFor _>>=_
+  set-for h =
+      let c = chain (set vs ts mostNesting e) _ e f n h in
+      let q = checked _ mismatch (ofSet (c .first)) (drop (c .used) e) f (c .left) (c .reads-next) in
+      let u : c .used ≡ n = omega (arith, q .1, c .uses) in
+      (c .first, c .reads-first ∙ ap (read (c .first)) u, sym (q .0))
+
+  pub element-for : expressionFor vs ts anElement objects e ≡ read f n → (x : Element) × (element vs ts mostNesting e ≡ read x n) × (f ≡ ofElement x)
+  unfolding expressionFor _>>=_
+  element-for h =
+      let c = chain (element vs ts mostNesting e) _ e f n h in
+      let q = checked _ mismatch (ofElement (c .first)) (drop (c .used) e) f (c .left) (c .reads-next) in
+      let u : c .used ≡ n = omega (arith, q .1, c .uses) in
+      (c .first, c .reads-first ∙ ap (read (c .first)) u, sym (q .0))
+
+  pub number-for : expressionFor vs ts aNumber objects e ≡ read f n → (x : Number) × (number vs ts mostNesting e ≡ read x n) × (f ≡ ofNumber x)
+  unfolding expressionFor one _>>=_
+  number-for h =
+      let c = chain (number vs ts mostNesting e) _ e f n h in
+      let q = given (ofNumber (c .first)) (drop (c .used) e) f (c .left) (c .reads-next) in
+      let u : c .used ≡ n = omega (arith, q .1, c .uses) in
+      (c .first, c .reads-first ∙ ap (read (c .first)) u, sym (q .0))

@@ -1,0 +1,90 @@
+-- `steps::check::follow` meets its contract. The invariant: the steps passed lead to the state at the cost, and the rest of the plan is left.
+use Rattle.steps.proofs.Following.{Followed, followed-first, cost-small, followed-more, followed-ended, followed-last}
+use lib.ListN.{length}
+use native.Mathlib.Omega.{arith}
+use mathlib.Core.Path.{refl, _≡_, sym}
+use Prim.Native.Nat.{_-_, _<_}
+use borrow.Author.Needs.{needs}
+use Rattle.steps.proofs.check.follow.Statement.{statement}
+use Rattle.steps.proofs.check.follow.Tie as tie
+
+abbrev Inv-loop : tie.InvT-loop
+Inv-loop model outline plan state₀ child₀ g₀ i₀ state child g i = Followed model plan state child g i
+
+abbrev μ-loop : tie.MeasureT-loop
+μ-loop model outline plan state₀ child₀ g₀ i₀ state child g i = length plan - i
+
+slice-aggregate-start : tie.Need-slice-aggregate-start Inv-loop μ-loop
+slice-aggregate-start c = refl
+
+start-requires : tie.Need-start-requires Inv-loop μ-loop
+start-requires c κs = search needs
+
+loop-holds : tie.Need-loop-holds Inv-loop μ-loop
+loop-holds c =
+    let l : length (c .before .start .last .1 .1 .0) ≡ 16 = search needs in
+    followed-first _ _ _ _ l refl (c .before .start .ensures)
+
+slice-aggregate-turn : tie.Need-slice-aggregate-turn Inv-loop μ-loop
+slice-aggregate-turn c = sym (c .before .before .loop .inv .long)
+
+shared-slice-read-turn : tie.Need-shared-slice-read-turn Inv-loop μ-loop
+shared-slice-read-turn c = search needs
+
+slice-aggregate-turn-2 : tie.Need-slice-aggregate-turn-2 Inv-loop μ-loop
+slice-aggregate-turn-2 c = sym (c .before .before .before .before .loop .inv .child-long)
+
+turn-requires : tie.Need-turn-requires Inv-loop μ-loop
+turn-requires c κs = (c .before .before .before .before .before .before .before .before .before .before .before .pre .0, omega (arith, c .before .before .before .before .loop .inv .long), omega (arith, c .before .before .before .before .loop .inv .child-long), cost-small _ _ _ _ _ _ (c .before .before .before .before .loop .inv) (c .before .before .before .before .before .before .before .before .before .before .before .pre .1))
+
+enum-known-h : tie.Need-enum-known-h Inv-loop μ-loop
+enum-known-h c = search needs
+
+add-i : tie.Need-add-i Inv-loop μ-loop
+add-i c = search needs
+
+loop-less : tie.Need-loop-less Inv-loop μ-loop
+loop-less c = search needs
+
+loop-again : tie.Need-loop-again Inv-loop μ-loop
+loop-again c =
+    let l : length (c .before .before .before .before .turn .last .1 .1 .1 .1 .1 .0) ≡ 16 = search needs in
+    followed-more _ _ _ _ _ _ (c .before .before .before .before .before .before .before .before .before .loop .inv) (c .before .before .before .before .before .before .before .before .loop-test .taken) _ _ (c .before .before .before .before .turn .ensures) (c .before .h .given .1) l
+
+enum-known-n : tie.Need-enum-known-n Inv-loop μ-loop
+enum-known-n c = search needs
+
+returns : tie.Need-returns Inv-loop μ-loop
+returns c = followed-ended _ _ _ _ _ _ (c .before .before .before .before .before .before .before .before .before .loop .inv) (c .before .before .before .before .before .before .before .before .loop-test .taken) _ _ (c .before .before .before .before .turn .ensures) (c .before .n .given .1)
+
+slice-aggregate-finish : tie.Need-slice-aggregate-finish Inv-loop μ-loop
+slice-aggregate-finish c = sym (c .before .before .loop .inv .long)
+
+finish-requires : tie.Need-finish-requires Inv-loop μ-loop
+finish-requires c κs = search needs
+
+returns-2 : tie.Need-returns-2 Inv-loop μ-loop
+returns-2 c = followed-last _ _ _ _ _ _ (c .before .before .before .loop .inv) (c .before .before .loop-test .left) _ (c .finish .ensures)
+
+pub follow-spec : {M : Type 1} → statement M
+follow-spec =
+    tie.close
+    (tie.spec
+    Inv-loop
+    μ-loop
+    slice-aggregate-start
+    start-requires
+    loop-holds
+    slice-aggregate-turn
+    shared-slice-read-turn
+    slice-aggregate-turn-2
+    turn-requires
+    enum-known-h
+    add-i
+    loop-less
+    loop-again
+    enum-known-n
+    returns
+    slice-aggregate-finish
+    finish-requires
+    returns-2)

@@ -1,0 +1,51 @@
+-- `steps::moves::attempt` meets its contract.
+use Rattle.steps.proofs.Moving.{rest-read, attempt-blocked, attempt-stops, attempt-taken}
+use native.Mathlib.Omega.{arith}
+use borrow.Author.Needs.{needs}
+use Rattle.steps.proofs.moves.attempt.Statement.{statement}
+use Rattle.steps.proofs.moves.attempt.Tie as tie
+
+conditions-hold-requires : tie.Need-conditions-hold-requires
+conditions-hold-requires c κs = search needs
+
+enum-known-next : tie.Need-enum-known-next
+enum-known-next c = search needs
+
+add-take : tie.Need-add-take
+add-take c = record { fits = omega (arith, rest-read _ _ _ _ (c .before .before .before .conditions-hold .ensures) (c .before .next .given .1) (c .before .before .before .before .before .before .before .before .pre .1) .inside) }
+
+take-requires : tie.Need-take-requires
+take-requires c κs = (c .before .before .before .before .before .before .before .before .before .pre .0, rest-read _ _ _ _ (c .before .before .before .before .conditions-hold .ensures) (c .before .before .next .given .1) (c .before .before .before .before .before .before .before .before .before .pre .1), c .before .before .before .before .before .before .before .before .before .pre .2, c .before .before .before .before .before .before .before .before .before .pre .3)
+
+enum-told : tie.Need-enum-told
+enum-told c = search needs
+
+enum-known-t : tie.Need-enum-known-t
+enum-known-t c = search needs
+
+same-length : tie.Need-same-length
+same-length c = search needs
+
+returns : tie.Need-returns
+returns c = attempt-taken _ _ _ _ (c .before .before .before .before .before .before .before .conditions-hold .ensures) (c .before .before .before .before .before .next .given .1) _ _ (c .before .before .take .ensures)
+
+returns-2 : tie.Need-returns-2
+returns-2 c = attempt-blocked _ _ _ _ (c .before .before .conditions-hold .ensures) _ (c .enum-told .given .1)
+
+returns-3 : tie.Need-returns-3
+returns-3 c = attempt-stops _ _ _ _ (c .before .before .before .conditions-hold .ensures) _ (c .before .t .given .1)
+
+pub attempt-spec : {M : Type 1} → statement M
+attempt-spec =
+    tie.close
+    (tie.spec
+    conditions-hold-requires
+    enum-known-next
+    add-take
+    take-requires
+    enum-told
+    enum-known-t
+    same-length
+    returns
+    returns-2
+    returns-3)

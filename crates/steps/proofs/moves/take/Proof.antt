@@ -1,0 +1,67 @@
+-- `steps::moves::take` meets its contract.
+use Rattle.steps.proofs.Moving.{take-stops, effects-begin, take-done, take-troubles}
+use Rattle.steps.proofs.Writing.{cost-within}
+use Rattle.steps.proofs.Outlined.{copied-state}
+use Rattle.steps.specs.Held.{stateIn}
+use native.Mathlib.Omega.{arith}
+use mathlib.Core.Path.{ap, sym, _∙_}
+use borrow.Author.Needs.{needs}
+use Rattle.steps.proofs.moves.take.Statement.{statement}
+use Rattle.steps.proofs.moves.take.Tie as tie
+
+cost-at-requires : tie.Need-cost-at-requires
+cost-at-requires c κs = (c .before .before .before .before .pre .0, c .before .before .before .before .pre .1 .inside)
+
+enum-known-cost : tie.Need-enum-known-cost
+enum-known-cost c = search needs
+
+copy-state-requires : tie.Need-copy-state-requires
+copy-state-requires c κs = (c .before .before .before .before .before .before .before .before .before .pre .2, c .before .before .before .before .before .before .before .before .before .pre .3)
+
+add-effects : tie.Need-add-effects
+add-effects c = record { fits = omega (arith, cost-within _ (c .before .before .before .before .before .cost .given .1) (c .before .before .before .before .before .before .before .cost-at .ensures .1), c .before .before .before .before .before .before .before .before .before .before .before .before .pre .1 .inside) }
+
+effects-requires : tie.Need-effects-requires
+effects-requires c κs = (c .before .before .before .before .before .before .before .before .before .before .before .before .before .pre .0, effects-begin _ _ (c .before .before .before .before .before .before .before .before .before .before .before .before .before .args .state .now) _ (c .before .before .before .before .before .before .before .before .cost-at .ensures .0) (c .before .before .before .before .before .before .cost .given .1) (c .before .before .before .before .before .before .before .before .before .before .before .before .before .pre .1), search needs)
+
+enum-told : tie.Need-enum-told
+enum-told c = search needs
+
+enum-known-t : tie.Need-enum-known-t
+enum-known-t c = search needs
+
+enum-known-t-2 : tie.Need-enum-known-t-2
+enum-known-t-2 c = search needs
+
+same-length : tie.Need-same-length
+same-length c = search needs
+
+returns : tie.Need-returns
+returns c = take-done _ (c .before .before .before .before .before .before .before .before .before .before .before .before .before .before .before .before .before .before .args .at) _ _ (c .before .before .before .before .before .before .before .before .before .before .before .before .before .cost-at .ensures .0) (c .before .before .before .before .before .before .before .before .before .before .before .cost .given .1) _ _ (ap (stateIn _) (c .before .before .before .before .before .before .before .before .copy-state .ensures) ∙ copied-state _ _ (c .before .before .before .before .before .before .before .before .before .before .before .before .before .before .before .before .before .before .pre .0) _ _ (c .before .before .before .before .before .before .before .before .before .before .before .before .before .before .before .before .before .before .pre .2)) _ (c .before .before .before .before .effects .ensures) (c .enum-told .given .1)
+
+same-length-2 : tie.Need-same-length-2
+same-length-2 c = search needs
+
+returns-2 : tie.Need-returns-2
+returns-2 c = take-troubles _ (c .before .before .before .before .before .before .before .before .before .before .before .before .before .before .before .before .before .before .before .args .at) _ _ (c .before .before .before .before .before .before .before .before .before .before .before .before .before .before .cost-at .ensures .0) (c .before .before .before .before .before .before .before .before .before .before .before .before .cost .given .1) _ _ (ap (stateIn _) (c .before .before .before .before .before .before .before .before .before .copy-state .ensures) ∙ copied-state _ _ (c .before .before .before .before .before .before .before .before .before .before .before .before .before .before .before .before .before .before .before .pre .0) _ _ (c .before .before .before .before .before .before .before .before .before .before .before .before .before .before .before .before .before .before .before .pre .2)) _ (c .before .before .before .before .before .effects .ensures) (c .before .t .given .1)
+
+returns-3 : tie.Need-returns-3
+returns-3 c = take-stops _ (c .before .before .before .before .before .before .before .before .args .at) _ _ (c .before .before .before .cost-at .ensures .0) _ (c .before .t2 .given .1)
+
+pub take-spec : {M : Type 1} → statement M
+take-spec =
+    tie.close
+    (tie.spec
+    cost-at-requires
+    enum-known-cost
+    copy-state-requires
+    add-effects
+    effects-requires
+    enum-told
+    enum-known-t
+    enum-known-t-2
+    same-length
+    returns
+    same-length-2
+    returns-2
+    returns-3)

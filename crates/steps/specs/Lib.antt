@@ -1,0 +1,6 @@
+-- What the contracts say: the system of the bytes, its answers in enums, and what is promised of a model's parts in its bytes.
+pub mod Held
+pub mod Order
+pub mod Answers
+pub mod Says
+pub mod Follow

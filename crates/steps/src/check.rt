@@ -1,0 +1,106 @@
+// The plan check: step by step from the target, to the first trouble.
+
+ghost use mathlib.Core.Path.{_≡_};
+ghost use mathlib.Core.List.{_∷_};
+ghost use Prim.Native.Nat.{_+_, _≤_, _<_, _^_};
+ghost use lib.ListN.{length};
+ghost use Rattle.model.specs.Steps.{target};
+ghost use Rattle.outline.specs.Outline.{modelOf};
+ghost use Rattle.steps.specs.Held.{Outlined, Held, stateIn};
+ghost use Rattle.steps.specs.Follow.{costsIn, followIn, movedOn, finished, TurnIs, CheckedIs};
+use crate::answers::Checked;
+use crate::answers::MoveAnswer;
+use crate::answers::StatusAnswer;
+use crate::answers::TurnAnswer;
+use crate::conditions::status;
+use crate::moves::step;
+use crate::states::start;
+use outline::word_at;
+
+// The cost of a path and of a step behind it, by the cost rule.
+pub fn combine(model: &[u8], outline: &[u64], g: u64, c: u64) -> u64
+    requires { ⌜ Outlined (now model) (now outline) × (g + c < 2 ^ 64) ⌝ }
+    ensures { λ r. ⌜ r ≡ costsIn (now (model .entry)) .combine g c ⌝ }
+{
+    if word_at(outline, 0) == 0 {
+        return g + c;
+    }
+    if g < c { c } else { g }
+}
+
+// Tries one transition of a plan.
+fn move_on(
+    model: &[u8],
+    outline: &[u64],
+    state: &[u64],
+    t: u8,
+    g: u64,
+    child: &mut [u64],
+) -> TurnAnswer
+    requires { ⌜ Outlined (now model) (now outline) × Held (now state) × Held (now child) × (g < 2 ^ 63) ⌝ }
+    ensures { λ r. ⌜ TurnIs (now (model .entry)) (movedOn (now (model .entry)) (stateIn (now (model .entry)) (now (state .entry))) t g) (now (child .exit)) g r ⌝ }
+{
+    match step(model, outline, state, t as usize, child) {
+        MoveAnswer::Blocked => TurnAnswer::Ended(14),
+        MoveAnswer::Moved(c) => TurnAnswer::On(combine(model, outline, g, c)),
+        MoveAnswer::Before(n) => TurnAnswer::Ended(n),
+        MoveAnswer::After(_, n) => TurnAnswer::Ended(n),
+    }
+}
+
+// One step of a plan: no base state before the end, then the transition.
+fn turn(
+    model: &[u8],
+    outline: &[u64],
+    state: &[u64],
+    t: u8,
+    g: u64,
+    child: &mut [u64],
+) -> TurnAnswer
+    requires { ⌜ Outlined (now model) (now outline) × Held (now state) × Held (now child) × (g < 2 ^ 63) ⌝ }
+    ensures { λ r. ⌜ TurnIs (now (model .entry)) (λ plan. followIn (now (model .entry)) (t ∷ plan) (stateIn (now (model .entry)) (now (state .entry))) g) (now (child .exit)) g r ⌝ }
+{
+    match status(model, outline, state) {
+        StatusAnswer::Base => TurnAnswer::Ended(14),
+        StatusAnswer::Unfinished => move_on(model, outline, state, t, g, child),
+        StatusAnswer::Trouble(n) => TurnAnswer::Ended(n),
+    }
+}
+
+// The final state, g being spent.
+fn finish(model: &[u8], outline: &[u64], state: &[u64], g: u64) -> Checked
+    requires { ⌜ Outlined (now model) (now outline) ⌝ }
+    ensures { λ r. ⌜ CheckedIs (finished (now (model .entry)) (stateIn (now (model .entry)) (now (state .entry))) g) r ⌝ }
+{
+    match status(model, outline, state) {
+        StatusAnswer::Base => Checked { answer: 0, cost: g },
+        StatusAnswer::Unfinished => Checked {
+            answer: 14,
+            cost: 0,
+        },
+        StatusAnswer::Trouble(n) => Checked { answer: n, cost: 0 },
+    }
+}
+
+// Follows a plan from the target: 0 and its cost, or the number of the first trouble.
+pub fn follow(model: &[u8], outline: &[u64], plan: &[u8]) -> Checked
+    requires { ⌜ Outlined (now model) (now outline) × (length (now plan) ≤ 256) ⌝ }
+    ensures { λ r. ⌜ CheckedIs (followIn (now (model .entry)) (now (plan .entry)) (target (modelOf (now (model .entry)))) 0) r ⌝ }
+{
+    let mut state = [0u64; 16];
+    let mut child = [0u64; 16];
+    start(model, outline, &mut state);
+    let mut g: u64 = 0;
+    let mut i: usize = 0;
+    while i < plan.len() {
+        match turn(model, outline, &state, plan[i], g, &mut child) {
+            TurnAnswer::On(h) => {
+                g = h;
+                state = child;
+                i += 1;
+            }
+            TurnAnswer::Ended(n) => return Checked { answer: n, cost: 0 },
+        }
+    }
+    finish(model, outline, &state, g)
+}

@@ -1,0 +1,79 @@
+// Conditions tried in order, the constraints of a state, and its status.
+
+ghost use mathlib.Core.Path.{_≡_};
+ghost use Rattle.model.specs.Numbers.{rangeEnd};
+ghost use Rattle.model.specs.Meaning.{allHold};
+ghost use Rattle.outline.specs.Outline.{modelOf};
+ghost use Rattle.steps.specs.Held.{Outlined, stateIn, systemIn};
+ghost use Rattle.steps.specs.Answers.{heldAnswer, statusAnswer};
+ghost use Rattle.steps.specs.Says.{HeldSays};
+use crate::answers::HeldAnswer;
+use crate::answers::StatusAnswer;
+use crate::parts::byte_at;
+use crate::parts::condition_at;
+use evaluator::answers::ConditionValue;
+use outline::word_at;
+
+// Tries the conditions 08 from a place on.
+pub fn conditions_hold(model: &[u8], at: usize, outline: &[u64], state: &[u64]) -> HeldAnswer
+    requires { ⌜ Outlined (now model) (now outline) ⌝ }
+    ensures { λ r. ⌜ HeldSays (now (model .entry)) at (now (state .entry)) r ⌝ }
+{
+    let mut next = at;
+    while byte_at(model, next) == 8 {
+        match condition_at(model, next + 1, outline, state) {
+            ConditionValue::Holds(holds, used) => {
+                if holds {
+                    next = next + 1 + used;
+                } else {
+                    return HeldAnswer::Fails;
+                }
+            }
+            ConditionValue::Trouble(t) => return HeldAnswer::Trouble(t),
+        }
+    }
+    HeldAnswer::All(next)
+}
+
+// Tries the state constraints.
+pub fn constraints_hold(model: &[u8], outline: &[u64], state: &[u64]) -> HeldAnswer
+    requires { ⌜ Outlined (now model) (now outline) ⌝ }
+    ensures { λ r. ⌜ r ≡ heldAnswer (allHold rangeEnd (modelOf (now (model .entry)) .tables) (modelOf (now (model .entry)) .constraints) (stateIn (now (model .entry)) (now (state .entry)))) 0 ⌝ }
+{
+    let count = word_at(outline, 5) as usize;
+    let mut k: usize = 0;
+    while k < count {
+        let at = word_at(outline, 384 + k) as usize;
+        match condition_at(model, at, outline, state) {
+            ConditionValue::Holds(holds, _) => {
+                if holds {
+                    k += 1;
+                } else {
+                    return HeldAnswer::Fails;
+                }
+            }
+            ConditionValue::Trouble(t) => return HeldAnswer::Trouble(t),
+        }
+    }
+    HeldAnswer::All(0)
+}
+
+// Tries the base cases to the first that holds.
+pub fn status(model: &[u8], outline: &[u64], state: &[u64]) -> StatusAnswer
+    requires { ⌜ Outlined (now model) (now outline) ⌝ }
+    ensures { λ r. ⌜ r ≡ statusAnswer (systemIn (now (model .entry)) .status (stateIn (now (model .entry)) (now (state .entry)))) ⌝ }
+{
+    let count = word_at(outline, 4) as usize;
+    let mut k: usize = 0;
+    while k < count {
+        let at = word_at(outline, 368 + k) as usize;
+        match conditions_hold(model, at, outline, state) {
+            HeldAnswer::All(_) => return StatusAnswer::Base,
+            HeldAnswer::Fails => {
+                k += 1;
+            }
+            HeldAnswer::Trouble(t) => return StatusAnswer::Trouble(t),
+        }
+    }
+    StatusAnswer::Unfinished
+}

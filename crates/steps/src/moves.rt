@@ -1,0 +1,160 @@
+// A transition tried in a state: conditions, cost, effects, then the new state's constraints.
+
+ghost use mathlib.Core.Path.{_≡_};
+ghost use Prim.Native.Nat.{_≤_, _<_, _-_};
+ghost use lib.ListN.{length};
+ghost use Rattle.model.specs.Numbers.{rangeEnd};
+ghost use Rattle.model.specs.Meaning.{allHold};
+ghost use Rattle.model.specs.Steps as steps;
+ghost use Rattle.outline.specs.Outline.{modelOf};
+ghost use Rattle.steps.specs.Held.{Outlined, Held, stateIn};
+ghost use Rattle.steps.specs.Answers.{moveAnswer};
+ghost use Rattle.steps.specs.Says.{CostSays, CostWithin, NumberWordSays, WordSays, WordWithin, EffectsRead, EffectsSays, TakenRead, TakenSays, TransitionRead, AttemptSays, MoveSays};
+use crate::answers::AttemptAnswer;
+use crate::answers::CostAnswer;
+use crate::answers::EffectsAnswer;
+use crate::answers::HeldAnswer;
+use crate::answers::MoveAnswer;
+use crate::answers::WordAnswer;
+use crate::conditions::conditions_hold;
+use crate::conditions::constraints_hold;
+use crate::parts::byte_at;
+use crate::parts::element_at;
+use crate::parts::number_at;
+use crate::parts::set_at;
+use crate::states::copy_state;
+use evaluator::answers::NumberValue;
+use outline::word_at;
+use words::arithmetic::biased;
+
+// The cost at a place; a negative one is trouble.
+fn cost_at(model: &[u8], at: usize, outline: &[u64], state: &[u64]) -> CostAnswer
+    requires { ⌜ Outlined (now model) (now outline) × (at ≤ length (now model)) ⌝ }
+    ensures { λ r. ⌜ CostSays (now (model .entry)) at (now (state .entry)) r × CostWithin (length (now (model .entry)) - at) r ⌝ }
+{
+    match number_at(model, at, outline, state) {
+        NumberValue::Value(z, used) => {
+            if z < 0 {
+                return CostAnswer::Trouble(13);
+            }
+            CostAnswer::Cost(z as u64, used)
+        }
+        NumberValue::Trouble(t) => CostAnswer::Trouble(t),
+    }
+}
+
+// The word for a number variable.
+fn number_word(model: &[u8], at: usize, outline: &[u64], state: &[u64]) -> WordAnswer
+    requires { ⌜ Outlined (now model) (now outline) × (at ≤ length (now model)) ⌝ }
+    ensures { λ r. ⌜ NumberWordSays (now (model .entry)) at (now (state .entry)) r × WordWithin (length (now (model .entry)) - at) r ⌝ }
+{
+    match number_at(model, at, outline, state) {
+        NumberValue::Value(z, used) => WordAnswer::Word(biased(z), used),
+        NumberValue::Trouble(t) => WordAnswer::Trouble(t),
+    }
+}
+
+// The word for variable v, by its kind.
+fn word_for(model: &[u8], at: usize, outline: &[u64], state: &[u64], v: usize) -> WordAnswer
+    requires { ⌜ Outlined (now model) (now outline) × (at ≤ length (now model)) × (v < 16) ⌝ }
+    ensures { λ r. ⌜ WordSays (now (model .entry)) at (now (state .entry)) v r × WordWithin (length (now (model .entry)) - at) r ⌝ }
+{
+    let kind = word_at(outline, 16 + v);
+    if kind == 0 {
+        return number_word(model, at, outline, state);
+    }
+    if kind <= 64 {
+        let e = element_at(model, at, outline, state);
+        return WordAnswer::Word(e.object, e.used);
+    }
+    let s = set_at(model, at, outline, state);
+    WordAnswer::Word(s.members, s.used)
+}
+
+// Writes the effects 0A from a place on into the child; each reads the old state.
+fn effects(
+    model: &[u8],
+    at: usize,
+    outline: &[u64],
+    state: &[u64],
+    child: &mut [u64],
+) -> EffectsAnswer
+    requires { ⌜ Outlined (now model) (now outline) × EffectsRead (now model) at × Held (now child) ⌝ }
+    ensures { λ r. ⌜ EffectsSays (now (model .entry)) at (now (state .entry)) (now (child .entry)) (now (child .exit)) r ⌝ }
+{
+    let mut next = at;
+    while byte_at(model, next) == 10 {
+        let v = byte_at(model, next + 1) as usize;
+        match word_for(model, next + 2, outline, state, v) {
+            WordAnswer::Word(w, used) => {
+                child[v] = w;
+                next = next + 2 + used;
+            }
+            WordAnswer::Trouble(t) => return EffectsAnswer::Trouble(t),
+        }
+    }
+    EffectsAnswer::Done
+}
+
+// Cost and effects of a step whose conditions hold.
+fn take(model: &[u8], at: usize, outline: &[u64], state: &[u64], child: &mut [u64]) -> AttemptAnswer
+    requires { ⌜ Outlined (now model) (now outline) × TakenRead (now model) at × Held (now state) × Held (now child) ⌝ }
+    ensures { λ r. ⌜ TakenSays (now (model .entry)) at (now (state .entry)) (now (child .exit)) r ⌝ }
+{
+    match cost_at(model, at, outline, state) {
+        CostAnswer::Cost(cost, used) => {
+            copy_state(state, child);
+            match effects(model, at + used, outline, state, child) {
+                EffectsAnswer::Done => AttemptAnswer::Taken(cost),
+                EffectsAnswer::Trouble(t) => AttemptAnswer::Trouble(t),
+            }
+        }
+        CostAnswer::Trouble(t) => AttemptAnswer::Trouble(t),
+    }
+}
+
+// Conditions, cost and effects of the transition at a place.
+fn attempt(
+    model: &[u8],
+    at: usize,
+    outline: &[u64],
+    state: &[u64],
+    child: &mut [u64],
+) -> AttemptAnswer
+    requires { ⌜ Outlined (now model) (now outline) × TransitionRead (now model) at × Held (now state) × Held (now child) ⌝ }
+    ensures { λ r. ⌜ AttemptSays (now (model .entry)) at (now (state .entry)) (now (child .exit)) r ⌝ }
+{
+    match conditions_hold(model, at, outline, state) {
+        HeldAnswer::All(next) => take(model, next + 1, outline, state, child),
+        HeldAnswer::Fails => AttemptAnswer::NotTaken,
+        HeldAnswer::Trouble(t) => AttemptAnswer::Trouble(t),
+    }
+}
+
+// The constraints of a new state, reached at a cost.
+fn constrained(model: &[u8], outline: &[u64], child: &[u64], cost: u64) -> MoveAnswer
+    requires { ⌜ Outlined (now model) (now outline) ⌝ }
+    ensures { λ r. ⌜ r ≡ moveAnswer (steps.constrained rangeEnd (modelOf (now (model .entry))) cost (stateIn (now (model .entry)) (now (child .entry))) (allHold rangeEnd (modelOf (now (model .entry)) .tables) (modelOf (now (model .entry)) .constraints) (stateIn (now (model .entry)) (now (child .entry))))) ⌝ }
+{
+    match constraints_hold(model, outline, child) {
+        HeldAnswer::All(_) => MoveAnswer::Moved(cost),
+        HeldAnswer::Fails => MoveAnswer::Blocked,
+        HeldAnswer::Trouble(t) => MoveAnswer::After(cost, t),
+    }
+}
+
+// Tries transition t in a state, and writes the new state's words. A number that is not declared is blocked.
+pub fn step(model: &[u8], outline: &[u64], state: &[u64], t: usize, child: &mut [u64]) -> MoveAnswer
+    requires { ⌜ Outlined (now model) (now outline) × Held (now state) × Held (now child) ⌝ }
+    ensures { λ r. ⌜ MoveSays (now (model .entry)) (now (state .entry)) t (now (child .exit)) r ⌝ }
+{
+    if word_at(outline, 3) as usize <= t {
+        return MoveAnswer::Blocked;
+    }
+    let at = word_at(outline, 112 + t) as usize;
+    match attempt(model, at, outline, state, child) {
+        AttemptAnswer::NotTaken => MoveAnswer::Blocked,
+        AttemptAnswer::Taken(cost) => constrained(model, outline, child, cost),
+        AttemptAnswer::Trouble(t) => MoveAnswer::Before(t),
+    }
+}

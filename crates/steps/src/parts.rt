@@ -1,0 +1,69 @@
+// Expressions where they stand in the model's bytes.
+
+ghost use mathlib.Core.Path.{_≡_};
+ghost use Prim.Native.Nat.{_≤_, _<_, _-_};
+ghost use lib.ListN.{length, getD};
+ghost use Rattle.evaluator.specs.Bounds.{NumberWithin, ConditionWithin};
+ghost use Rattle.steps.specs.Held.{Outlined};
+ghost use Rattle.steps.specs.Says.{ConditionSays, NumberSays, ElementSays, SetSays};
+use evaluator::answers::ConditionValue;
+use evaluator::answers::ElementValue;
+use evaluator::answers::NumberValue;
+use evaluator::answers::SetValue;
+use evaluator::numbers::condition;
+use evaluator::numbers::number;
+use evaluator::sets::element;
+use evaluator::sets::set;
+
+// The byte at a place, or 0 where there is none.
+pub fn byte_at(bytes: &[u8], at: usize) -> u8
+    ensures { λ r. ⌜ r ≡ getD (now (bytes .entry)) at 0 ⌝ }
+{
+    if at < bytes.len() { bytes[at] } else { 0 }
+}
+
+// The value of the condition at a place.
+pub fn condition_at(model: &[u8], at: usize, outline: &[u64], state: &[u64]) -> ConditionValue
+    requires { ⌜ Outlined (now model) (now outline) × (at ≤ length (now model)) ⌝ }
+    ensures { λ r. ⌜ ConditionSays (now (model .entry)) at (now (state .entry)) r × ConditionWithin (length (now (model .entry)) - at) r ⌝ }
+{
+    condition(
+        &model[at..],
+        model,
+        state,
+        &outline[64..],
+        &outline[80..],
+        32,
+    )
+}
+
+// The value of the number at a place.
+pub fn number_at(model: &[u8], at: usize, outline: &[u64], state: &[u64]) -> NumberValue
+    requires { ⌜ Outlined (now model) (now outline) × (at ≤ length (now model)) ⌝ }
+    ensures { λ r. ⌜ NumberSays (now (model .entry)) at (now (state .entry)) r × NumberWithin (length (now (model .entry)) - at) r ⌝ }
+{
+    number(
+        &model[at..],
+        model,
+        state,
+        &outline[64..],
+        &outline[80..],
+        32,
+    )
+}
+
+// The object of the element at a place.
+pub fn element_at(model: &[u8], at: usize, outline: &[u64], state: &[u64]) -> ElementValue
+    requires { ⌜ Outlined (now model) (now outline) × (at ≤ length (now model)) ⌝ }
+    ensures { λ r. ⌜ ElementSays (now (model .entry)) at (now (state .entry)) r × ((r .object < 64) × (r .used ≤ length (now (model .entry)) - at)) ⌝ }
+{
+    element(&model[at..], state)
+}
+
+// The members of the set at a place.
+pub fn set_at(model: &[u8], at: usize, outline: &[u64], state: &[u64]) -> SetValue
+    requires { ⌜ Outlined (now model) (now outline) × (at ≤ length (now model)) ⌝ }
+    ensures { λ r. ⌜ SetSays (now (model .entry)) at (now (state .entry)) r × (r .used ≤ length (now (model .entry)) - at) ⌝ }
+{
+    set(&model[at..], state, &outline[64..], 32)
+}

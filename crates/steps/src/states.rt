@@ -1,0 +1,88 @@
+// A state's words: copied, those of the start, and the order of two states by preference.
+
+ghost use mathlib.Core.Path.{_≡_};
+ghost use mathlib.Core.List.{_++_};
+ghost use Prim.Native.Nat.{_≤_, _<_};
+ghost use lib.ListN.{length, take, drop};
+ghost use Rattle.model.specs.Steps.{target};
+ghost use Rattle.outline.specs.Outline.{modelOf};
+ghost use Rattle.steps.specs.Held.{Outlined, Held, stateIn, systemIn};
+ghost use Rattle.steps.specs.Order.{comparedWord, noWorseBy, noWorseAt};
+use outline::word_at;
+
+// Copies the words of a state.
+pub fn copy_state(from: &[u64], to: &mut [u64])
+    requires { ⌜ Held (now from) × Held (now to) ⌝ }
+    ensures { λ r. ⌜ now (to .exit) ≡ take 16 (now (from .entry)) ++ drop 16 (now (to .entry)) ⌝ }
+{
+    let mut i: usize = 0;
+    while i < 16 {
+        to[i] = from[i];
+        i += 1;
+    }
+}
+
+// Writes the target's words.
+pub fn start(model: &[u8], outline: &[u64], state: &mut [u64])
+    requires { ⌜ Outlined (now model) (now outline) × Held (now state) ⌝ }
+    ensures { λ r. ⌜ stateIn (now (model .entry)) (now (state .exit)) ≡ target (modelOf (now (model .entry))) ⌝ }
+{
+    copy_state(&outline[48..], state);
+}
+
+// What is compared of a word, by the byte of its variable's kind.
+pub fn compared_word(kind: u64, w: u64) -> u64
+    ensures { λ r. ⌜ r ≡ comparedWord kind w ⌝ }
+{
+    if kind == 0 {
+        return w % 4294967296;
+    }
+    if kind <= 64 {
+        return w % 64;
+    }
+    w
+}
+
+// Whether t is no worse than s by a preference: 0 none, 1 less, 2 more.
+fn no_worse_by(preference: u64, t: u64, s: u64) -> bool
+    ensures { λ r. ⌜ r ≡ noWorseBy preference t s ⌝ }
+{
+    if preference == 0 {
+        return t == s;
+    }
+    if preference == 1 {
+        return t <= s;
+    }
+    s <= t
+}
+
+// Whether variable v of t is no worse than that of s.
+fn no_worse_at(outline: &[u64], v: usize, t: &[u64], s: &[u64]) -> bool
+    requires { ⌜ v < 16 ⌝ }
+    ensures { λ r. ⌜ r ≡ noWorseAt (now (outline .entry)) v (now (t .entry)) (now (s .entry)) ⌝ }
+{
+    let kind = word_at(outline, 16 + v);
+    let preference = word_at(outline, 32 + v);
+    no_worse_by(
+        preference,
+        compared_word(kind, word_at(t, v)),
+        compared_word(kind, word_at(s, v)),
+    )
+}
+
+// Whether state t dominates state s.
+pub fn dominates(model: &[u8], outline: &[u64], t: &[u64], s: &[u64]) -> bool
+    requires { ⌜ Outlined (now model) (now outline) ⌝ }
+    ensures { λ r. ⌜ r ≡ systemIn (now (model .entry)) .dominates (stateIn (now (model .entry)) (now (t .entry))) (stateIn (now (model .entry)) (now (s .entry))) ⌝ }
+{
+    let count = word_at(outline, 1) as usize;
+    let mut v: usize = 0;
+    while v < count {
+        if no_worse_at(outline, v, t, s) {
+            v += 1;
+        } else {
+            return false;
+        }
+    }
+    true
+}
