@@ -1,0 +1,73 @@
+-- `commands::behind_rule` meets its contract. The variables, then what follows over the bytes that declare them.
+use mathlib.Core.Path.{_∙_}
+use native.Mathlib.Omega.{arith}
+use lib.ListN.{length-take}
+use borrow.Author.Needs.{needs}
+use Rattle.commands.proofs.Whole.{variables-length, varied-length, variables-stop, few-variables, variables-go-on}
+use Rattle.commands.proofs.behind_rule.Statement.{statement}
+use Rattle.commands.proofs.behind_rule.Tie as tie
+
+slice-aggregate-variables : tie.Need-slice-aggregate-variables
+slice-aggregate-variables c = search needs
+
+sub-variables : tie.Need-sub-variables
+sub-variables c = search needs
+
+part-variables-start : tie.Need-part-variables-start
+part-variables-start c = search needs
+
+part-variables-end : tie.Need-part-variables-end
+part-variables-end c = search needs
+
+variables-requires : tie.Need-variables-requires
+variables-requires c κs = search needs
+
+enum-known-end : tie.Need-enum-known-end
+enum-known-end c = search needs
+
+slice-write-outline : tie.Need-slice-write-outline
+slice-write-outline c = search needs
+
+array-share-prefix-kinds : tie.Need-array-share-prefix-kinds
+array-share-prefix-kinds c = omega (arith, few-variables (c .before .before .before .before .before .before .before .before .before .before .before .args .model .now) (c .before .before .before .before .before .before .before .before .before .before .before .args .start) (c .before .before .before .before .before .before .before .before .before .before .before .args .outline .now) (c .before .before .before .before .before .before .variables .last .1 .1 .0) (c .before .before .before .before .before .before .variables .last .1 .1 .1 .0) (c .before .before .before .before .before .before .before .before .before .before .before .pre .1) (c .before .before .before .before .before .before .variables .ensures .1) (c .before .end .given .1) (c .before .before .before .before .before .before .variables .ensures .2), c .before .before .before .before .before .before .variables .ensures .0)
+
+slice-aggregate-behind-variables : tie.Need-slice-aggregate-behind-variables
+slice-aggregate-behind-variables c = simp length-take (omega (arith, few-variables (c .before .before .before .before .before .before .before .before .before .before .before .before .args .model .now) (c .before .before .before .before .before .before .before .before .before .before .before .before .args .start) (c .before .before .before .before .before .before .before .before .before .before .before .before .args .outline .now) (c .before .before .before .before .before .before .before .variables .last .1 .1 .0) (c .before .before .before .before .before .before .before .variables .last .1 .1 .1 .0) (c .before .before .before .before .before .before .before .before .before .before .before .before .pre .1) (c .before .before .before .before .before .before .before .variables .ensures .1) (c .before .before .end .given .1) (c .before .before .before .before .before .before .before .variables .ensures .2), c .before .before .before .before .before .before .before .variables .ensures .0))
+
+behind-variables-requires : tie.Need-behind-variables-requires
+behind-variables-requires c κs = (c .before .before .before .before .before .before .before .before .before .before .before .before .before .pre .0, simp length-take (omega (arith, few-variables (c .before .before .before .before .before .before .before .before .before .before .before .before .before .args .model .now) (c .before .before .before .before .before .before .before .before .before .before .before .before .before .args .start) (c .before .before .before .before .before .before .before .before .before .before .before .before .before .args .outline .now) (c .before .before .before .before .before .before .before .before .variables .last .1 .1 .0) (c .before .before .before .before .before .before .before .before .variables .last .1 .1 .1 .0) (c .before .before .before .before .before .before .before .before .before .before .before .before .before .pre .1) (c .before .before .before .before .before .before .before .before .variables .ensures .1) (c .before .before .before .end .given .1) (c .before .before .before .before .before .before .before .before .variables .ensures .2), c .before .before .before .before .before .before .before .before .variables .ensures .0)), omega (arith, varied-length (c .before .before .before .before .before .before .before .before .before .before .before .before .before .args .model .now) (c .before .before .before .before .before .before .before .before .before .before .before .before .before .args .start) (c .before .before .before .before .before .before .before .before .before .before .before .before .before .args .outline .now) (c .before .before .before .before .before .before .before .before .variables .last .1 .1 .0) (c .before .before .before .before .before .before .before .before .variables .last .1 .1 .1 .0) (c .before .before .before .before .before .before .before .before .before .before .before .before .before .pre .1) (c .before .before .before .before .before .before .before .before .variables .ensures .1) (c .before .before .before .end .given .0 .1 .0), c .before .before .before .before .before .before .before .before .before .before .before .before .before .pre .1))
+
+enum-known-t : tie.Need-enum-known-t
+enum-known-t c = search needs
+
+same-length : tie.Need-same-length
+same-length c = c .before .before .behind-variables .ensures .0 ∙ varied-length (c .before .before .before .before .before .before .before .before .before .before .before .before .before .before .before .before .args .model .now) (c .before .before .before .before .before .before .before .before .before .before .before .before .before .before .before .before .args .start) (c .before .before .before .before .before .before .before .before .before .before .before .before .before .before .before .before .args .outline .now) (c .before .before .before .before .before .before .before .before .before .before .before .variables .last .1 .1 .0) (c .before .before .before .before .before .before .before .before .before .before .before .variables .last .1 .1 .1 .0) (c .before .before .before .before .before .before .before .before .before .before .before .before .before .before .before .before .pre .1) (c .before .before .before .before .before .before .before .before .before .before .before .variables .ensures .1) (c .before .before .before .before .before .before .end .given .0 .1 .0)
+
+returns : tie.Need-returns
+returns c = (c .before .before .behind-variables .ensures .0 ∙ varied-length (c .before .before .before .before .before .before .before .before .before .before .before .before .before .before .before .before .args .model .now) (c .before .before .before .before .before .before .before .before .before .before .before .before .before .before .before .before .args .start) (c .before .before .before .before .before .before .before .before .before .before .before .before .before .before .before .before .args .outline .now) (c .before .before .before .before .before .before .before .before .before .before .before .variables .last .1 .1 .0) (c .before .before .before .before .before .before .before .before .before .before .before .variables .last .1 .1 .1 .0) (c .before .before .before .before .before .before .before .before .before .before .before .before .before .before .before .before .pre .1) (c .before .before .before .before .before .before .before .before .before .before .before .variables .ensures .1) (c .before .before .before .before .before .before .end .given .0 .1 .0), variables-go-on (c .before .before .before .before .before .before .before .before .before .before .before .before .before .before .before .before .args .model .now) (c .before .before .before .before .before .before .before .before .before .before .before .before .before .before .before .before .args .start) (c .before .before .before .before .before .before .before .before .before .before .before .before .before .before .before .before .args .outline .now) (c .before .before .before .before .before .before .before .before .before .before .before .variables .last .1 .1 .0) (c .before .before .before .before .before .before .before .before .before .before .before .variables .last .1 .1 .1 .0) (c .before .before .before .before .before .before .before .before .before .before .before .before .before .before .before .before .pre .1) (c .before .before .before .before .before .before .before .before .before .before .before .variables .ensures .1) (c .before .before .before .before .before .before .end .given .1) (c .before .before .before .before .before .before .before .before .before .before .before .variables .ensures .2) (c .before .before .behind-variables .last .1 .1 .1 .0) (c .before .before .behind-variables .result) (c .before .before .behind-variables .ensures .1))
+
+same-length-2 : tie.Need-same-length-2
+same-length-2 c = search needs
+
+returns-2 : tie.Need-returns-2
+returns-2 c = (variables-length (c .before .before .before .before .before .before .before .before .before .before .before .args .model .now) (c .before .before .before .before .before .before .before .before .before .before .before .args .start) (c .before .before .before .before .before .before .before .before .before .before .before .args .outline .now) (c .before .before .before .before .before .before .variables .last .1 .1 .0) (c .before .before .before .before .before .before .variables .last .1 .1 .1 .0) (c .before .before .before .before .before .before .before .before .before .before .before .pre .1) (c .before .before .before .before .before .before .variables .ensures .1), variables-stop (c .before .before .before .before .before .before .before .before .before .before .before .args .model .now) (c .before .before .before .before .before .before .before .before .before .before .before .args .start) (c .before .before .before .before .before .before .before .before .before .before .before .args .outline .now) (c .before .before .before .before .before .before .variables .last .1 .1 .0) (c .before .before .before .before .before .before .variables .last .1 .1 .1 .0) (c .before .before .before .before .before .before .before .before .before .before .before .pre .1) (c .before .before .before .before .before .before .variables .ensures .1) (c .before .t .given .1) (c .before .before .before .before .before .before .variables .ensures .2) (c .before .before .before .before .before .before .before .before .before .before .before .args .outline .now))
+
+pub behind-rule-spec : {M : Type 1} → statement M
+behind-rule-spec =
+    tie.close
+    (tie.spec
+    slice-aggregate-variables
+    sub-variables
+    part-variables-start
+    part-variables-end
+    variables-requires
+    enum-known-end
+    slice-write-outline
+    array-share-prefix-kinds
+    slice-aggregate-behind-variables
+    behind-variables-requires
+    enum-known-t
+    same-length
+    returns
+    same-length-2
+    returns-2)

@@ -1,0 +1,85 @@
+-- `commands::behind_variables` meets its contract. The tables, then the groups over the bytes that declare them.
+use mathlib.Core.Path.{_∙_}
+use native.Mathlib.Omega.{arith}
+use lib.ListN.{length-take}
+use borrow.Author.Needs.{needs}
+use Rattle.commands.proofs.Whole.{tables-length, tabled-length, tables-stop, few-tables, tables-go-on}
+use Rattle.commands.proofs.behind_variables.Statement.{statement}
+use Rattle.commands.proofs.behind_variables.Tie as tie
+
+slice-aggregate-tables : tie.Need-slice-aggregate-tables
+slice-aggregate-tables c = search needs
+
+slice-aggregate-tables-2 : tie.Need-slice-aggregate-tables-2
+slice-aggregate-tables-2 c = search needs
+
+sub-tables : tie.Need-sub-tables
+sub-tables c = search needs
+
+part-tables-start : tie.Need-part-tables-start
+part-tables-start c = search needs
+
+part-tables-end : tie.Need-part-tables-end
+part-tables-end c = search needs
+
+tables-requires : tie.Need-tables-requires
+tables-requires c κs = search needs
+
+enum-known-end : tie.Need-enum-known-end
+enum-known-end c = search needs
+
+slice-write-outline : tie.Need-slice-write-outline
+slice-write-outline c = search needs
+
+array-share-prefix-rows : tie.Need-array-share-prefix-rows
+array-share-prefix-rows c = omega (arith, few-tables (c .before .before .before .before .before .before .before .before .before .before .before .before .before .before .args .kinds .now) (c .before .before .before .before .before .before .before .before .before .before .before .before .before .before .args .model .now) (c .before .before .before .before .before .before .before .before .before .before .before .before .before .before .args .start) (c .before .before .before .before .before .before .before .before .before .before .before .before .before .before .args .outline .now) (c .before .before .before .before .before .before .before .tables .last .1 .1 .0) (c .before .before .before .before .before .before .before .tables .last .1 .1 .1 .0) (c .before .before .before .before .before .before .before .tables .last .1 .1 .1 .1 .0) (c .before .before .before .before .before .before .before .before .before .before .before .before .before .before .pre .2) (c .before .before .before .before .before .before .before .tables .ensures .2) (c .before .end .given .1) (c .before .before .before .before .before .before .before .tables .ensures .3), c .before .before .before .before .before .before .before .tables .ensures .0)
+
+slice-aggregate-groups : tie.Need-slice-aggregate-groups
+slice-aggregate-groups c = simp length-take (omega (arith, few-tables (c .before .before .before .before .before .before .before .before .before .before .before .before .before .before .before .args .kinds .now) (c .before .before .before .before .before .before .before .before .before .before .before .before .before .before .before .args .model .now) (c .before .before .before .before .before .before .before .before .before .before .before .before .before .before .before .args .start) (c .before .before .before .before .before .before .before .before .before .before .before .before .before .before .before .args .outline .now) (c .before .before .before .before .before .before .before .before .tables .last .1 .1 .0) (c .before .before .before .before .before .before .before .before .tables .last .1 .1 .1 .0) (c .before .before .before .before .before .before .before .before .tables .last .1 .1 .1 .1 .0) (c .before .before .before .before .before .before .before .before .before .before .before .before .before .before .before .pre .2) (c .before .before .before .before .before .before .before .before .tables .ensures .2) (c .before .before .end .given .1) (c .before .before .before .before .before .before .before .before .tables .ensures .3), c .before .before .before .before .before .before .before .before .tables .ensures .0))
+
+array-share-prefix-columns : tie.Need-array-share-prefix-columns
+array-share-prefix-columns c = omega (arith, few-tables (c .before .before .before .before .before .before .before .before .before .before .before .before .before .before .before .args .kinds .now) (c .before .before .before .before .before .before .before .before .before .before .before .before .before .before .before .args .model .now) (c .before .before .before .before .before .before .before .before .before .before .before .before .before .before .before .args .start) (c .before .before .before .before .before .before .before .before .before .before .before .before .before .before .before .args .outline .now) (c .before .before .before .before .before .before .before .before .tables .last .1 .1 .0) (c .before .before .before .before .before .before .before .before .tables .last .1 .1 .1 .0) (c .before .before .before .before .before .before .before .before .tables .last .1 .1 .1 .1 .0) (c .before .before .before .before .before .before .before .before .before .before .before .before .before .before .before .pre .2) (c .before .before .before .before .before .before .before .before .tables .ensures .2) (c .before .before .end .given .1) (c .before .before .before .before .before .before .before .before .tables .ensures .3), c .before .before .before .before .before .before .before .before .tables .ensures .1)
+
+slice-aggregate-groups-2 : tie.Need-slice-aggregate-groups-2
+slice-aggregate-groups-2 c = simp length-take (omega (arith, few-tables (c .before .before .before .before .before .before .before .before .before .before .before .before .before .before .before .before .args .kinds .now) (c .before .before .before .before .before .before .before .before .before .before .before .before .before .before .before .before .args .model .now) (c .before .before .before .before .before .before .before .before .before .before .before .before .before .before .before .before .args .start) (c .before .before .before .before .before .before .before .before .before .before .before .before .before .before .before .before .args .outline .now) (c .before .before .before .before .before .before .before .before .before .tables .last .1 .1 .0) (c .before .before .before .before .before .before .before .before .before .tables .last .1 .1 .1 .0) (c .before .before .before .before .before .before .before .before .before .tables .last .1 .1 .1 .1 .0) (c .before .before .before .before .before .before .before .before .before .before .before .before .before .before .before .before .pre .2) (c .before .before .before .before .before .before .before .before .before .tables .ensures .2) (c .before .before .before .end .given .1) (c .before .before .before .before .before .before .before .before .before .tables .ensures .3), c .before .before .before .before .before .before .before .before .before .tables .ensures .1))
+
+groups-requires : tie.Need-groups-requires
+groups-requires c κs = (c .before .before .before .before .before .before .before .before .before .before .before .before .before .before .before .before .before .pre .1, omega (arith, tabled-length (c .before .before .before .before .before .before .before .before .before .before .before .before .before .before .before .before .before .args .kinds .now) (c .before .before .before .before .before .before .before .before .before .before .before .before .before .before .before .before .before .args .model .now) (c .before .before .before .before .before .before .before .before .before .before .before .before .before .before .before .before .before .args .start) (c .before .before .before .before .before .before .before .before .before .before .before .before .before .before .before .before .before .args .outline .now) (c .before .before .before .before .before .before .before .before .before .before .tables .last .1 .1 .0) (c .before .before .before .before .before .before .before .before .before .before .tables .last .1 .1 .1 .0) (c .before .before .before .before .before .before .before .before .before .before .tables .last .1 .1 .1 .1 .0) (c .before .before .before .before .before .before .before .before .before .before .before .before .before .before .before .before .before .pre .2) (c .before .before .before .before .before .before .before .before .before .before .tables .ensures .2) (c .before .before .before .before .end .given .0 .1 .0), c .before .before .before .before .before .before .before .before .before .before .before .before .before .before .before .before .before .pre .2))
+
+enum-known-t : tie.Need-enum-known-t
+enum-known-t c = search needs
+
+same-length : tie.Need-same-length
+same-length c = c .before .before .groups .ensures .0 ∙ tabled-length (c .before .before .before .before .before .before .before .before .before .before .before .before .before .before .before .before .before .before .before .before .args .kinds .now) (c .before .before .before .before .before .before .before .before .before .before .before .before .before .before .before .before .before .before .before .before .args .model .now) (c .before .before .before .before .before .before .before .before .before .before .before .before .before .before .before .before .before .before .before .before .args .start) (c .before .before .before .before .before .before .before .before .before .before .before .before .before .before .before .before .before .before .before .before .args .outline .now) (c .before .before .before .before .before .before .before .before .before .before .before .before .before .tables .last .1 .1 .0) (c .before .before .before .before .before .before .before .before .before .before .before .before .before .tables .last .1 .1 .1 .0) (c .before .before .before .before .before .before .before .before .before .before .before .before .before .tables .last .1 .1 .1 .1 .0) (c .before .before .before .before .before .before .before .before .before .before .before .before .before .before .before .before .before .before .before .before .pre .2) (c .before .before .before .before .before .before .before .before .before .before .before .before .before .tables .ensures .2) (c .before .before .before .before .before .before .before .end .given .0 .1 .0)
+
+returns : tie.Need-returns
+returns c = (c .before .before .groups .ensures .0 ∙ tabled-length (c .before .before .before .before .before .before .before .before .before .before .before .before .before .before .before .before .before .before .before .before .args .kinds .now) (c .before .before .before .before .before .before .before .before .before .before .before .before .before .before .before .before .before .before .before .before .args .model .now) (c .before .before .before .before .before .before .before .before .before .before .before .before .before .before .before .before .before .before .before .before .args .start) (c .before .before .before .before .before .before .before .before .before .before .before .before .before .before .before .before .before .before .before .before .args .outline .now) (c .before .before .before .before .before .before .before .before .before .before .before .before .before .tables .last .1 .1 .0) (c .before .before .before .before .before .before .before .before .before .before .before .before .before .tables .last .1 .1 .1 .0) (c .before .before .before .before .before .before .before .before .before .before .before .before .before .tables .last .1 .1 .1 .1 .0) (c .before .before .before .before .before .before .before .before .before .before .before .before .before .before .before .before .before .before .before .before .pre .2) (c .before .before .before .before .before .before .before .before .before .before .before .before .before .tables .ensures .2) (c .before .before .before .before .before .before .before .end .given .0 .1 .0), tables-go-on (c .before .before .before .before .before .before .before .before .before .before .before .before .before .before .before .before .before .before .before .before .args .kinds .now) (c .before .before .before .before .before .before .before .before .before .before .before .before .before .before .before .before .before .before .before .before .args .model .now) (c .before .before .before .before .before .before .before .before .before .before .before .before .before .before .before .before .before .before .before .before .args .start) (c .before .before .before .before .before .before .before .before .before .before .before .before .before .before .before .before .before .before .before .before .args .outline .now) (c .before .before .before .before .before .before .before .before .before .before .before .before .before .tables .last .1 .1 .0) (c .before .before .before .before .before .before .before .before .before .before .before .before .before .tables .last .1 .1 .1 .0) (c .before .before .before .before .before .before .before .before .before .before .before .before .before .tables .last .1 .1 .1 .1 .0) (c .before .before .before .before .before .before .before .before .before .before .before .before .before .before .before .before .before .before .before .before .pre .2) (c .before .before .before .before .before .before .before .before .before .before .before .before .before .tables .ensures .2) (c .before .before .before .before .before .before .before .end .given .1) (c .before .before .before .before .before .before .before .before .before .before .before .before .before .tables .ensures .3) (c .before .before .groups .last .1 .1 .1 .1 .1 .0) (c .before .before .groups .result) (c .before .before .groups .ensures .1))
+
+same-length-2 : tie.Need-same-length-2
+same-length-2 c = search needs
+
+returns-2 : tie.Need-returns-2
+returns-2 c = (tables-length (c .before .before .before .before .before .before .before .before .before .before .before .before .before .before .args .kinds .now) (c .before .before .before .before .before .before .before .before .before .before .before .before .before .before .args .model .now) (c .before .before .before .before .before .before .before .before .before .before .before .before .before .before .args .start) (c .before .before .before .before .before .before .before .before .before .before .before .before .before .before .args .outline .now) (c .before .before .before .before .before .before .before .tables .last .1 .1 .0) (c .before .before .before .before .before .before .before .tables .last .1 .1 .1 .0) (c .before .before .before .before .before .before .before .tables .last .1 .1 .1 .1 .0) (c .before .before .before .before .before .before .before .before .before .before .before .before .before .before .pre .2) (c .before .before .before .before .before .before .before .tables .ensures .2), tables-stop (c .before .before .before .before .before .before .before .before .before .before .before .before .before .before .args .kinds .now) (c .before .before .before .before .before .before .before .before .before .before .before .before .before .before .args .model .now) (c .before .before .before .before .before .before .before .before .before .before .before .before .before .before .args .start) (c .before .before .before .before .before .before .before .before .before .before .before .before .before .before .args .outline .now) (c .before .before .before .before .before .before .before .tables .last .1 .1 .0) (c .before .before .before .before .before .before .before .tables .last .1 .1 .1 .0) (c .before .before .before .before .before .before .before .tables .last .1 .1 .1 .1 .0) (c .before .before .before .before .before .before .before .before .before .before .before .before .before .before .pre .2) (c .before .before .before .before .before .before .before .tables .ensures .2) (c .before .t .given .1) (c .before .before .before .before .before .before .before .tables .ensures .3) (c .before .before .before .before .before .before .before .before .before .before .before .before .before .before .args .outline .now))
+
+pub behind-variables-spec : {M : Type 1} → statement M
+behind-variables-spec =
+    tie.close
+    (tie.spec
+    slice-aggregate-tables
+    slice-aggregate-tables-2
+    sub-tables
+    part-tables-start
+    part-tables-end
+    tables-requires
+    enum-known-end
+    slice-write-outline
+    array-share-prefix-rows
+    slice-aggregate-groups
+    array-share-prefix-columns
+    slice-aggregate-groups-2
+    groups-requires
+    enum-known-t
+    same-length
+    returns
+    same-length-2
+    returns-2)

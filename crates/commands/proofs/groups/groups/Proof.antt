@@ -1,0 +1,104 @@
+-- `commands::groups::groups` meets its contract. The four groups one behind the other, each at the position behind the one before it.
+use mathlib.Core.Path.{_∙_}
+use native.Mathlib.Omega.{arith}
+use borrow.Author.Needs.{needs}
+use Rattle.commands.proofs.Stages.{stop-first, stop-second, stop-third, stop-fourth, stop-last}
+use Rattle.commands.proofs.groups.groups.Statement.{statement}
+use Rattle.commands.proofs.groups.groups.Tie as tie
+
+group-requires : tie.Need-group-requires
+group-requires c κs = search needs
+
+enum-known-transitions : tie.Need-enum-known-transitions
+enum-known-transitions c = search needs
+
+enum-told : tie.Need-enum-told
+enum-told c = search needs
+
+same-length : tie.Need-same-length
+same-length c = search needs
+
+returns : tie.Need-returns
+returns c = (c .before .before .before .before .group .ensures .0, stop-first (c .before .before .before .before .before .before .before .before .before .before .before .args .kinds .now) (c .before .before .before .before .before .before .before .before .before .before .before .args .rows .now) (c .before .before .before .before .before .before .before .before .before .before .before .args .columns .now) (c .before .before .before .before .before .before .before .before .before .before .before .args .model .now) (c .before .before .before .before .before .before .before .before .before .before .before .args .start) (c .before .before .before .before .before .before .before .before .before .before .before .args .outline .now) (c .before .before .before .before .group .last .1 .1 .1 .1 .1 .1 .0) (c .enum-told .given .1) (c .before .before .before .before .group .ensures .1))
+
+group-requires-2 : tie.Need-group-requires-2
+group-requires-2 c κs = search needs
+
+enum-known-base-cases : tie.Need-enum-known-base-cases
+enum-known-base-cases c = search needs
+
+enum-told-2 : tie.Need-enum-told-2
+enum-told-2 c = search needs
+
+same-length-2 : tie.Need-same-length-2
+same-length-2 c = search needs
+
+returns-2 : tie.Need-returns-2
+returns-2 c = (c .before .before .before .before .group2 .ensures .0 ∙ c .before .before .before .before .before .before .before .before .before .before .before .group .ensures .0, stop-second (c .before .before .before .before .before .before .before .before .before .before .before .before .before .before .before .before .before .before .args .kinds .now) (c .before .before .before .before .before .before .before .before .before .before .before .before .before .before .before .before .before .before .args .rows .now) (c .before .before .before .before .before .before .before .before .before .before .before .before .before .before .before .before .before .before .args .columns .now) (c .before .before .before .before .before .before .before .before .before .before .before .before .before .before .before .before .before .before .args .model .now) (c .before .before .before .before .before .before .before .before .before .before .before .before .before .before .before .before .before .before .args .start) (c .before .before .before .before .before .before .before .before .before .before .before .before .before .before .before .before .before .before .args .outline .now) (c .before .before .before .before .before .before .before .before .before .before .before .group .last .1 .1 .1 .1 .1 .1 .0) (c .before .before .before .before .before .before .before .transitions .given .1) (c .before .before .before .before .before .before .before .before .before .before .before .group .ensures .1) (c .before .before .before .before .group2 .last .1 .1 .1 .1 .1 .1 .0) (c .enum-told2 .given .1) (c .before .before .before .before .group2 .ensures .1))
+
+group-requires-3 : tie.Need-group-requires-3
+group-requires-3 c κs = search needs
+
+enum-known-constraints : tie.Need-enum-known-constraints
+enum-known-constraints c = search needs
+
+enum-told-3 : tie.Need-enum-told-3
+enum-told-3 c = search needs
+
+same-length-3 : tie.Need-same-length-3
+same-length-3 c = search needs
+
+returns-3 : tie.Need-returns-3
+returns-3 c = (c .before .before .before .before .group3 .ensures .0 ∙ (c .before .before .before .before .before .before .before .before .before .before .before .group2 .ensures .0 ∙ c .before .before .before .before .before .before .before .before .before .before .before .before .before .before .before .before .before .before .group .ensures .0), stop-third (c .before .before .before .before .before .before .before .before .before .before .before .before .before .before .before .before .before .before .before .before .before .before .before .before .before .args .kinds .now) (c .before .before .before .before .before .before .before .before .before .before .before .before .before .before .before .before .before .before .before .before .before .before .before .before .before .args .rows .now) (c .before .before .before .before .before .before .before .before .before .before .before .before .before .before .before .before .before .before .before .before .before .before .before .before .before .args .columns .now) (c .before .before .before .before .before .before .before .before .before .before .before .before .before .before .before .before .before .before .before .before .before .before .before .before .before .args .model .now) (c .before .before .before .before .before .before .before .before .before .before .before .before .before .before .before .before .before .before .before .before .before .before .before .before .before .args .start) (c .before .before .before .before .before .before .before .before .before .before .before .before .before .before .before .before .before .before .before .before .before .before .before .before .before .args .outline .now) (c .before .before .before .before .before .before .before .before .before .before .before .before .before .before .before .before .before .before .group .last .1 .1 .1 .1 .1 .1 .0) (c .before .before .before .before .before .before .before .before .before .before .before .before .before .before .transitions .given .1) (c .before .before .before .before .before .before .before .before .before .before .before .before .before .before .before .before .before .before .group .ensures .1) (c .before .before .before .before .before .before .before .before .before .before .before .group2 .last .1 .1 .1 .1 .1 .1 .0) (c .before .before .before .before .before .before .before .base-cases .given .1) (c .before .before .before .before .before .before .before .before .before .before .before .group2 .ensures .1) (c .before .before .before .before .group3 .last .1 .1 .1 .1 .1 .1 .0) (c .enum-told3 .given .1) (c .before .before .before .before .group3 .ensures .1))
+
+group-requires-4 : tie.Need-group-requires-4
+group-requires-4 c κs = (c .before .before .before .before .before .before .before .before .before .before .before .before .before .before .before .before .before .before .before .before .before .before .before .before .before .before .before .pre .0, omega (arith, c .before .before .before .before .before .before .before .before .before .before .before .before .before .before .before .before .before .before .before .before .group .ensures .0, c .before .before .before .before .before .before .before .before .before .before .before .before .before .group2 .ensures .0, c .before .before .before .before .before .before .group3 .ensures .0, c .before .before .before .before .before .before .before .before .before .before .before .before .before .before .before .before .before .before .before .before .before .before .before .before .before .before .before .pre .1))
+
+enum-known-bounds : tie.Need-enum-known-bounds
+enum-known-bounds c = search needs
+
+enum-told-4 : tie.Need-enum-told-4
+enum-told-4 c = search needs
+
+same-length-4 : tie.Need-same-length-4
+same-length-4 c = search needs
+
+returns-4 : tie.Need-returns-4
+returns-4 c = (c .before .before .before .before .group4 .ensures .0 ∙ (c .before .before .before .before .before .before .before .before .before .before .before .group3 .ensures .0 ∙ (c .before .before .before .before .before .before .before .before .before .before .before .before .before .before .before .before .before .before .group2 .ensures .0 ∙ c .before .before .before .before .before .before .before .before .before .before .before .before .before .before .before .before .before .before .before .before .before .before .before .before .before .group .ensures .0)), stop-fourth (c .before .before .before .before .before .before .before .before .before .before .before .before .before .before .before .before .before .before .before .before .before .before .before .before .before .before .before .before .before .before .before .before .args .kinds .now) (c .before .before .before .before .before .before .before .before .before .before .before .before .before .before .before .before .before .before .before .before .before .before .before .before .before .before .before .before .before .before .before .before .args .rows .now) (c .before .before .before .before .before .before .before .before .before .before .before .before .before .before .before .before .before .before .before .before .before .before .before .before .before .before .before .before .before .before .before .before .args .columns .now) (c .before .before .before .before .before .before .before .before .before .before .before .before .before .before .before .before .before .before .before .before .before .before .before .before .before .before .before .before .before .before .before .before .args .model .now) (c .before .before .before .before .before .before .before .before .before .before .before .before .before .before .before .before .before .before .before .before .before .before .before .before .before .before .before .before .before .before .before .before .args .start) (c .before .before .before .before .before .before .before .before .before .before .before .before .before .before .before .before .before .before .before .before .before .before .before .before .before .before .before .before .before .before .before .before .args .outline .now) (c .before .before .before .before .before .before .before .before .before .before .before .before .before .before .before .before .before .before .before .before .before .before .before .before .before .group .last .1 .1 .1 .1 .1 .1 .0) (c .before .before .before .before .before .before .before .before .before .before .before .before .before .before .before .before .before .before .before .before .before .transitions .given .1) (c .before .before .before .before .before .before .before .before .before .before .before .before .before .before .before .before .before .before .before .before .before .before .before .before .before .group .ensures .1) (c .before .before .before .before .before .before .before .before .before .before .before .before .before .before .before .before .before .before .group2 .last .1 .1 .1 .1 .1 .1 .0) (c .before .before .before .before .before .before .before .before .before .before .before .before .before .before .base-cases .given .1) (c .before .before .before .before .before .before .before .before .before .before .before .before .before .before .before .before .before .before .group2 .ensures .1) (c .before .before .before .before .before .before .before .before .before .before .before .group3 .last .1 .1 .1 .1 .1 .1 .0) (c .before .before .before .before .before .before .before .constraints .given .1) (c .before .before .before .before .before .before .before .before .before .before .before .group3 .ensures .1) (c .before .before .before .before .group4 .last .1 .1 .1 .1 .1 .1 .0) (c .enum-told4 .given .1) (c .before .before .before .before .group4 .ensures .1))
+
+finish-requires : tie.Need-finish-requires
+finish-requires c κs = search needs
+
+same-length-5 : tie.Need-same-length-5
+same-length-5 c = c .before .before .before .before .before .before .group4 .ensures .0 ∙ (c .before .before .before .before .before .before .before .before .before .before .before .before .before .group3 .ensures .0 ∙ (c .before .before .before .before .before .before .before .before .before .before .before .before .before .before .before .before .before .before .before .before .group2 .ensures .0 ∙ c .before .before .before .before .before .before .before .before .before .before .before .before .before .before .before .before .before .before .before .before .before .before .before .before .before .before .before .group .ensures .0))
+
+returns-5 : tie.Need-returns-5
+returns-5 c = (c .before .before .before .before .before .before .group4 .ensures .0 ∙ (c .before .before .before .before .before .before .before .before .before .before .before .before .before .group3 .ensures .0 ∙ (c .before .before .before .before .before .before .before .before .before .before .before .before .before .before .before .before .before .before .before .before .group2 .ensures .0 ∙ c .before .before .before .before .before .before .before .before .before .before .before .before .before .before .before .before .before .before .before .before .before .before .before .before .before .before .before .group .ensures .0)), stop-last (c .before .before .before .before .before .before .before .before .before .before .before .before .before .before .before .before .before .before .before .before .before .before .before .before .before .before .before .before .before .before .before .before .before .before .args .kinds .now) (c .before .before .before .before .before .before .before .before .before .before .before .before .before .before .before .before .before .before .before .before .before .before .before .before .before .before .before .before .before .before .before .before .before .before .args .rows .now) (c .before .before .before .before .before .before .before .before .before .before .before .before .before .before .before .before .before .before .before .before .before .before .before .before .before .before .before .before .before .before .before .before .before .before .args .columns .now) (c .before .before .before .before .before .before .before .before .before .before .before .before .before .before .before .before .before .before .before .before .before .before .before .before .before .before .before .before .before .before .before .before .before .before .args .model .now) (c .before .before .before .before .before .before .before .before .before .before .before .before .before .before .before .before .before .before .before .before .before .before .before .before .before .before .before .before .before .before .before .before .before .before .args .start) (c .before .before .before .before .before .before .before .before .before .before .before .before .before .before .before .before .before .before .before .before .before .before .before .before .before .before .before .before .before .before .before .before .before .before .args .outline .now) (c .before .before .before .before .before .before .before .before .before .before .before .before .before .before .before .before .before .before .before .before .before .before .before .before .before .before .before .group .last .1 .1 .1 .1 .1 .1 .0) (c .before .before .before .before .before .before .before .before .before .before .before .before .before .before .before .before .before .before .before .before .before .before .before .transitions .given .1) (c .before .before .before .before .before .before .before .before .before .before .before .before .before .before .before .before .before .before .before .before .before .before .before .before .before .before .before .group .ensures .1) (c .before .before .before .before .before .before .before .before .before .before .before .before .before .before .before .before .before .before .before .before .group2 .last .1 .1 .1 .1 .1 .1 .0) (c .before .before .before .before .before .before .before .before .before .before .before .before .before .before .before .before .base-cases .given .1) (c .before .before .before .before .before .before .before .before .before .before .before .before .before .before .before .before .before .before .before .before .group2 .ensures .1) (c .before .before .before .before .before .before .before .before .before .before .before .before .before .group3 .last .1 .1 .1 .1 .1 .1 .0) (c .before .before .before .before .before .before .before .before .before .constraints .given .1) (c .before .before .before .before .before .before .before .before .before .before .before .before .before .group3 .ensures .1) (c .before .before .before .before .before .before .group4 .last .1 .1 .1 .1 .1 .1 .0) (c .before .before .bounds .given .1) (c .before .before .before .before .before .before .group4 .ensures .1) (c .finish .ensures))
+
+pub groups-spec : {M : Type 1} → statement M
+groups-spec =
+    tie.close
+    (tie.spec
+    group-requires
+    enum-known-transitions
+    enum-told
+    same-length
+    returns
+    group-requires-2
+    enum-known-base-cases
+    enum-told-2
+    same-length-2
+    returns-2
+    group-requires-3
+    enum-known-constraints
+    enum-told-3
+    same-length-3
+    returns-3
+    group-requires-4
+    enum-known-bounds
+    enum-told-4
+    same-length-4
+    returns-4
+    finish-requires
+    same-length-5
+    returns-5)

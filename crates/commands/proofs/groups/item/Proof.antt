@@ -1,0 +1,66 @@
+-- `commands::groups::item` meets its contract. The item by its group.
+use mathlib.Core.Path.{_≡_, sym, subst}
+use borrow.Author.Needs.{needs}
+use Rattle.words.specs.Signature.{variablesOf, tablesOf}
+use Rattle.commands.specs.declared.Group.{Group}
+use Rattle.commands.specs.Groups.{itemOf}
+use Rattle.commands.specs.Places.{readAt, placeOf}
+use Rattle.commands.proofs.groups.item.Statement.{statement}
+use Rattle.commands.proofs.groups.item.Tie as tie
+
+enum-told : tie.Need-enum-told
+enum-told c = search needs
+
+transition-requires : tie.Need-transition-requires
+transition-requires c κs = search needs
+
+enum-told-2 : tie.Need-enum-told-2
+enum-told-2 c = search needs
+
+conditions-requires : tie.Need-conditions-requires
+conditions-requires c κs = search needs
+
+enum-told-3 : tie.Need-enum-told-3
+enum-told-3 c = search needs
+
+condition-at-requires : tie.Need-condition-at-requires
+condition-at-requires c κs = search needs
+
+enum-told-4 : tie.Need-enum-told-4
+enum-told-4 c = search needs
+
+number-at-requires : tie.Need-number-at-requires
+number-at-requires c κs = search needs
+
+returns : tie.Need-returns
+unfolding itemOf
+returns c = subst (λ (g : Group). c .transition .result ≡ placeOf (readAt (itemOf (variablesOf (c .before .before .before .before .before .before .before .args .kinds .now)) (tablesOf (c .before .before .before .before .before .before .before .args .rows .now) (c .before .before .before .before .before .before .before .args .columns .now)) g) (c .before .before .before .before .before .before .before .args .at) (c .before .before .before .before .before .before .before .args .model .now))) (sym (c .before .enum-told .given .1)) (c .transition .ensures)
+
+returns-2 : tie.Need-returns-2
+unfolding itemOf
+returns-2 c = subst (λ (g : Group). c .conditions .result ≡ placeOf (readAt (itemOf (variablesOf (c .before .before .before .before .before .before .before .args .kinds .now)) (tablesOf (c .before .before .before .before .before .before .before .args .rows .now) (c .before .before .before .before .before .before .before .args .columns .now)) g) (c .before .before .before .before .before .before .before .args .at) (c .before .before .before .before .before .before .before .args .model .now))) (sym (c .before .enum-told2 .given .1)) (c .conditions .ensures)
+
+returns-3 : tie.Need-returns-3
+unfolding itemOf
+returns-3 c = subst (λ (g : Group). c .condition-at .result ≡ placeOf (readAt (itemOf (variablesOf (c .before .before .before .before .before .before .before .args .kinds .now)) (tablesOf (c .before .before .before .before .before .before .before .args .rows .now) (c .before .before .before .before .before .before .before .args .columns .now)) g) (c .before .before .before .before .before .before .before .args .at) (c .before .before .before .before .before .before .before .args .model .now))) (sym (c .before .enum-told3 .given .1)) (c .condition-at .ensures)
+
+returns-4 : tie.Need-returns-4
+unfolding itemOf
+returns-4 c = subst (λ (g : Group). c .number-at .result ≡ placeOf (readAt (itemOf (variablesOf (c .before .before .before .before .before .before .before .args .kinds .now)) (tablesOf (c .before .before .before .before .before .before .before .args .rows .now) (c .before .before .before .before .before .before .before .args .columns .now)) g) (c .before .before .before .before .before .before .before .args .at) (c .before .before .before .before .before .before .before .args .model .now))) (sym (c .before .enum-told4 .given .1)) (c .number-at .ensures)
+
+pub item-spec : {M : Type 1} → statement M
+item-spec =
+    tie.close
+    (tie.spec
+    enum-told
+    transition-requires
+    enum-told-2
+    conditions-requires
+    enum-told-3
+    condition-at-requires
+    enum-told-4
+    number-at-requires
+    returns
+    returns-2
+    returns-3
+    returns-4)

@@ -1,0 +1,107 @@
+-- `commands::groups::items` meets its contract. The invariant: so many items are read, their offsets are stored, and the loop goes on from here. The measure is the room that is left.
+use Prim.Native.Nat.{_-_, _+_}
+use mathlib.Core.Path.{sym, _∙_}
+use native.Mathlib.Omega.{arith}
+use lib.ListN.{length}
+use borrow.Author.Needs.{needs}
+use Rattle.words.specs.Signature.{variablesOf, tablesOf}
+use Rattle.commands.specs.Groups.{codeOf, itemOf}
+use Rattle.commands.specs.Places.{readAt}
+use Rattle.commands.proofs.Outlining.{code-positive}
+use Rattle.commands.proofs.Items.{OffsetsSoFar, no-offsets, offset-more, offsets-end, item-too-many, item-refused, items-early}
+use Rattle.commands.proofs.Positions.{byte-inside, place-read, place-refused}
+use Rattle.commands.proofs.groups.items.Statement.{statement}
+use Rattle.commands.proofs.groups.items.Tie as tie
+
+abbrev Inv-loop : tie.InvT-loop
+Inv-loop group model start kinds rows columns offsets₀ c at₀ n₀ offsets at n = OffsetsSoFar (codeOf group) (itemOf (variablesOf kinds) (tablesOf rows columns) group) model (length offsets₀) start at n offsets
+
+abbrev μ-loop : tie.MeasureT-loop
+μ-loop group model start kinds rows columns offsets₀ c at₀ n₀ offsets at n = length offsets₀ - n
+
+code-requires : tie.Need-code-requires Inv-loop μ-loop
+code-requires c κs = search needs
+
+loop-holds : tie.Need-loop-holds Inv-loop μ-loop
+loop-holds c = no-offsets (codeOf (c .before .before .before .before .before .before .args .group)) (itemOf (variablesOf (c .before .before .before .before .before .before .args .kinds .now)) (tablesOf (c .before .before .before .before .before .before .args .rows .now) (c .before .before .before .before .before .before .args .columns .now)) (c .before .before .before .before .before .before .args .group)) (c .before .before .before .before .before .before .args .model .now) (c .before .before .before .before .before .before .args .start) (c .before .before .before .before .before .before .args .offsets .now)
+
+byte-at-requires : tie.Need-byte-at-requires Inv-loop μ-loop
+byte-at-requires c κs = search needs
+
+same-length : tie.Need-same-length Inv-loop μ-loop
+same-length c = c .before .before .before .loop .inv .size
+
+returns : tie.Need-returns Inv-loop μ-loop
+returns c = item-too-many (codeOf (c .before .before .before .before .before .before .before .before .before .before .args .group)) (itemOf (variablesOf (c .before .before .before .before .before .before .before .before .before .before .args .kinds .now)) (tablesOf (c .before .before .before .before .before .before .before .before .before .before .args .rows .now) (c .before .before .before .before .before .before .before .before .before .before .args .columns .now)) (c .before .before .before .before .before .before .before .before .before .before .args .group)) (c .before .before .before .before .before .before .before .before .before .before .args .model .now) (length (c .before .before .before .before .before .before .before .before .before .before .args .offsets .now)) (c .before .before .before .before .before .before .before .before .before .before .args .start) (c .before .before .before .loop .at) (c .before .before .before .loop .n) (c .before .before .before .loop .inv .so-far) (code-positive (c .before .before .before .before .before .before .before .before .before .before .args .group)) (sym (c .before .before .byte-at .ensures) ∙ (c .before .if1 .taken ∙ c .before .before .before .before .code .ensures)) (omega (arith, c .if2 .taken, c .before .before .before .loop .inv .size))
+
+add-behind : tie.Need-add-behind Inv-loop μ-loop
+add-behind c = record { fits = omega (arith, c .before .before .before .before .before .before .before .before .before .before .good, byte-inside (c .before .before .before .before .before .before .before .before .before .before .args .model .now) (c .before .before .before .loop .at) (codeOf (c .before .before .before .before .before .before .before .before .before .before .args .group)) (code-positive (c .before .before .before .before .before .before .before .before .before .before .args .group)) (sym (c .before .before .byte-at .ensures) ∙ (c .before .if1 .taken ∙ c .before .before .before .before .code .ensures))) }
+
+item-requires : tie.Need-item-requires Inv-loop μ-loop
+item-requires c κs = search needs
+
+enum-known-end : tie.Need-enum-known-end Inv-loop μ-loop
+enum-known-end c = search needs
+
+mul-offsets : tie.Need-mul-offsets Inv-loop μ-loop
+mul-offsets c = omega (arith, c .before .before .before .before .before .before .before .loop .inv .so-far .few, c .before .before .before .before .if2 .left, c .before .before .before .before .before .before .before .loop .inv .size, c .before .before .before .before .before .before .before .before .before .before .before .before .before .before .good)
+
+slice-write-offsets : tie.Need-slice-write-offsets Inv-loop μ-loop
+slice-write-offsets c = omega (arith, c .before .before .before .before .before .before .before .loop .inv .so-far .few, c .before .before .before .before .if2 .left, c .before .before .before .before .before .before .before .loop .inv .size)
+
+add-n : tie.Need-add-n Inv-loop μ-loop
+add-n c = omega (arith, c .before .before .before .before .before .before .before .loop .inv .so-far .few, c .before .before .before .before .before .before .before .before .before .before .before .before .before .before .good)
+
+loop-less : tie.Need-loop-less Inv-loop μ-loop
+loop-less c = omega (arith, c .before .before .before .before .before .before .before .loop .inv .so-far .few, c .before .before .before .before .if2 .left, c .before .before .before .before .before .before .before .loop .inv .size)
+
+loop-again : tie.Need-loop-again Inv-loop μ-loop
+loop-again c = offset-more (codeOf (c .before .before .before .before .before .before .before .before .before .before .before .before .before .before .args .group)) (itemOf (variablesOf (c .before .before .before .before .before .before .before .before .before .before .before .before .before .before .args .kinds .now)) (tablesOf (c .before .before .before .before .before .before .before .before .before .before .before .before .before .before .args .rows .now) (c .before .before .before .before .before .before .before .before .before .before .before .before .before .before .args .columns .now)) (c .before .before .before .before .before .before .before .before .before .before .before .before .before .before .args .group)) (c .before .before .before .before .before .before .before .before .before .before .before .before .before .before .args .model .now) (length (c .before .before .before .before .before .before .before .before .before .before .before .before .before .before .args .offsets .now)) (c .before .before .before .before .before .before .before .before .before .before .before .before .before .before .args .start) (c .before .before .before .before .before .before .before .loop .at) (c .before .before .before .before .before .before .before .loop .n) (c .before .before .before .before .before .before .before .loop .offsets) (c .before .before .before .before .before .before .before .loop .inv) (code-positive (c .before .before .before .before .before .before .before .before .before .before .before .before .before .before .args .group)) (sym (c .before .before .before .before .before .before .byte-at .ensures) ∙ (c .before .before .before .before .before .if1 .taken ∙ c .before .before .before .before .before .before .before .before .code .ensures)) (omega (arith, c .before .before .before .before .before .before .before .loop .inv .so-far .few, c .before .before .before .before .if2 .left, c .before .before .before .before .before .before .before .loop .inv .size)) (place-read (readAt (itemOf (variablesOf (c .before .before .before .before .before .before .before .before .before .before .before .before .before .before .args .kinds .now)) (tablesOf (c .before .before .before .before .before .before .before .before .before .before .before .before .before .before .args .rows .now) (c .before .before .before .before .before .before .before .before .before .before .before .before .before .before .args .columns .now)) (c .before .before .before .before .before .before .before .before .before .before .before .before .before .before .args .group)) (c .before .before .before .before .before .before .before .loop .at + 1) (c .before .before .before .before .before .before .before .before .before .before .before .before .before .before .args .model .now)) (sym (c .before .end .given .1) ∙ c .before .before .before .item .ensures) .1)
+
+enum-known-t : tie.Need-enum-known-t Inv-loop μ-loop
+enum-known-t c = search needs
+
+same-length-2 : tie.Need-same-length-2 Inv-loop μ-loop
+same-length-2 c = c .before .before .before .before .before .before .before .loop .inv .size
+
+returns-2 : tie.Need-returns-2 Inv-loop μ-loop
+returns-2 c = item-refused (codeOf (c .before .before .before .before .before .before .before .before .before .before .before .before .before .before .args .group)) (itemOf (variablesOf (c .before .before .before .before .before .before .before .before .before .before .before .before .before .before .args .kinds .now)) (tablesOf (c .before .before .before .before .before .before .before .before .before .before .before .before .before .before .args .rows .now) (c .before .before .before .before .before .before .before .before .before .before .before .before .before .before .args .columns .now)) (c .before .before .before .before .before .before .before .before .before .before .before .before .before .before .args .group)) (c .before .before .before .before .before .before .before .before .before .before .before .before .before .before .args .model .now) (length (c .before .before .before .before .before .before .before .before .before .before .before .before .before .before .args .offsets .now)) (c .before .before .before .before .before .before .before .before .before .before .before .before .before .before .args .start) (c .before .before .before .before .before .before .before .loop .at) (c .before .before .before .before .before .before .before .loop .n) (c .before .before .before .before .before .before .before .loop .inv .so-far) (code-positive (c .before .before .before .before .before .before .before .before .before .before .before .before .before .before .args .group)) (sym (c .before .before .before .before .before .before .byte-at .ensures) ∙ (c .before .before .before .before .before .if1 .taken ∙ c .before .before .before .before .before .before .before .before .code .ensures)) (omega (arith, c .before .before .before .before .before .before .before .loop .inv .so-far .few, c .before .before .before .before .if2 .left, c .before .before .before .before .before .before .before .loop .inv .size)) (place-refused (readAt (itemOf (variablesOf (c .before .before .before .before .before .before .before .before .before .before .before .before .before .before .args .kinds .now)) (tablesOf (c .before .before .before .before .before .before .before .before .before .before .before .before .before .before .args .rows .now) (c .before .before .before .before .before .before .before .before .before .before .before .before .before .before .args .columns .now)) (c .before .before .before .before .before .before .before .before .before .before .before .before .before .before .args .group)) (c .before .before .before .before .before .before .before .loop .at + 1) (c .before .before .before .before .before .before .before .before .before .before .before .before .before .before .args .model .now)) (sym (c .before .t .given .1) ∙ c .before .before .before .item .ensures))
+
+same-length-3 : tie.Need-same-length-3 Inv-loop μ-loop
+same-length-3 c = c .before .before .before .loop .inv .size
+
+returns-3 : tie.Need-returns-3 Inv-loop μ-loop
+returns-3 c = offsets-end (codeOf (c .before .before .before .before .before .before .before .before .before .before .args .group)) (itemOf (variablesOf (c .before .before .before .before .before .before .before .before .before .before .args .kinds .now)) (tablesOf (c .before .before .before .before .before .before .before .before .before .before .args .rows .now) (c .before .before .before .before .before .before .before .before .before .before .args .columns .now)) (c .before .before .before .before .before .before .before .before .before .before .args .group)) (c .before .before .before .before .before .before .before .before .before .before .args .model .now) (length (c .before .before .before .before .before .before .before .before .before .before .args .offsets .now)) (c .before .before .before .before .before .before .before .before .before .before .args .start) (c .before .before .before .loop .at) (c .before .before .before .loop .n) (c .before .before .before .loop .offsets) (c .before .before .before .loop .inv) (c .if3 .taken) (λ q. c .before .if1 .left (c .before .before .byte-at .ensures ∙ (q ∙ sym (c .before .before .before .before .code .ensures))))
+
+same-length-4 : tie.Need-same-length-4 Inv-loop μ-loop
+same-length-4 c = c .before .before .before .loop .inv .size
+
+returns-4 : tie.Need-returns-4 Inv-loop μ-loop
+returns-4 c = items-early (codeOf (c .before .before .before .before .before .before .before .before .before .before .args .group)) (itemOf (variablesOf (c .before .before .before .before .before .before .before .before .before .before .args .kinds .now)) (tablesOf (c .before .before .before .before .before .before .before .before .before .before .args .rows .now) (c .before .before .before .before .before .before .before .before .before .before .args .columns .now)) (c .before .before .before .before .before .before .before .before .before .before .args .group)) (c .before .before .before .before .before .before .before .before .before .before .args .model .now) (length (c .before .before .before .before .before .before .before .before .before .before .args .offsets .now)) (c .before .before .before .before .before .before .before .before .before .before .args .start) (c .before .before .before .loop .at) (c .before .before .before .loop .n) (c .before .before .before .loop .inv .so-far) (c .if3 .left)
+
+pub items-spec : {M : Type 1} → statement M
+items-spec =
+    tie.close
+    (tie.spec
+    Inv-loop
+    μ-loop
+    code-requires
+    loop-holds
+    byte-at-requires
+    same-length
+    returns
+    add-behind
+    item-requires
+    enum-known-end
+    mul-offsets
+    slice-write-offsets
+    add-n
+    loop-less
+    loop-again
+    enum-known-t
+    same-length-2
+    returns-2
+    same-length-3
+    returns-3
+    same-length-4
+    returns-4)
