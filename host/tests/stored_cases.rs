@@ -1,6 +1,6 @@
 //! The stored cases: answers stated by hand, strength against planted slips, and the files written from them.
 
-use repgypsum_host::cases::text::{files, CASES_PER_FILE};
+use repgypsum_host::cases::text::{files, plan_checks, CASES_PER_FILE};
 use repgypsum_host::cases::{groups, Outcome};
 use repgypsum_host::slip::{Slip, ALL};
 use std::collections::BTreeSet;
@@ -120,5 +120,22 @@ fn files_repeat_and_are_stored() {
     println!(
         "{} files, compared with stored ones: {stored}",
         written.len()
+    );
+}
+
+/// The stored input and output of the program `plan_checks` are what the generator writes.
+#[test]
+fn plan_checks_are_stored() {
+    let directory = Path::new(env!("CARGO_MANIFEST_DIR")).join("../crates/plan_checks");
+    let (input, output) = plan_checks();
+    assert!(std::fs::read(directory.join("stdin")).unwrap() == input);
+    assert_eq!(
+        std::fs::read_to_string(directory.join("stdout")).unwrap(),
+        output
+    );
+    println!(
+        "{} plan checks, {} bytes",
+        output.lines().count(),
+        input.len()
     );
 }

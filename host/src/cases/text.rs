@@ -1,6 +1,7 @@
 //! The cases as source text of vector modules.
 
 use super::{groups, Call, Case, Outcome};
+use crate::reference::plan_check;
 use crate::slip::Slip;
 use std::fmt::Write;
 
@@ -88,4 +89,44 @@ pub fn files() -> Vec<(String, String)> {
         }
     }
     files
+}
+
+/// What the program `plan_checks` reads and writes: for each plan check of the cases the lengths of model and plan, two bytes each,
+/// the model and the plan; and a line with the answer number and the cost of each, and of four more at the greatest lengths.
+pub fn plan_checks() -> (Vec<u8>, String) {
+    let mut input = Vec::new();
+    let mut output = String::new();
+    for (_, cases) in groups() {
+        for case in cases {
+            let Call::Check { model, plan } = &case.call else {
+                continue;
+            };
+            if model.len() > LONGEST_HEX {
+                continue;
+            }
+            let Outcome::Check(answer, cost) = case.call.run(Slip::Nothing) else {
+                unreachable!("a check has a check's outcome")
+            };
+            for length in [model.len(), plan.len()] {
+                let length = u16::try_from(length).expect("a case's lengths fit two bytes");
+                input.extend(length.to_le_bytes());
+            }
+            input.extend(model);
+            input.extend(plan);
+            writeln!(output, "{answer} {cost}").unwrap();
+        }
+    }
+    // the lengths at which 1 and 2 are told, which the program makes itself
+    let model = [0; 65_537];
+    let plan = [0; 257];
+    for (model, plan) in [
+        (&model[..65_536], &plan[..0]),
+        (&model, &plan[..0]),
+        (&model, &plan),
+        (&model[..65_536], &plan),
+    ] {
+        let (answer, cost) = plan_check(model, plan);
+        writeln!(output, "{answer} {cost}").unwrap();
+    }
+    (input, output)
 }

@@ -1,0 +1,2 @@
+-- What the plan check comes to, by its tests.
+pub mod Tests
