@@ -1,5 +1,5 @@
 -- A transition, and each item of a group, is read alike over the declared variables and tables and over their bytes.
-use Prim.Native.Nat.{ℕ, zero, suc, _+_, _-_, _≤_}
+use Prim.Native.Nat.{ℕ, zero, suc, _+_}
 use mathlib.Core.Path.{_≡_, refl, sym, ap, subst, _∙_, fun-ext}
 use mathlib.Core.Bool.{Bool, true, false}
 use mathlib.Core.List.{List, [], _∷_, map}
@@ -10,14 +10,14 @@ use lib.ListN.{drop, getElem?}
 use lib.Dec.{eqb}
 use borrow.Author.Tests.{le-leb, lt-leb, ne-eqb}
 use Rattle.laws.specs.Lists.{All, any}
-use Rattle.model.specs.Numbers.{offLimits, mostVariables, mostNesting}
-use Rattle.model.specs.Readers.{Read, read, refused, Reader, after, many, one}
-use Rattle.model.specs.Syntax.{Kind, aSet, anElement, aNumber, Expression, Variable, Table, Effect}
+use Rattle.model.specs.Numbers.{mostVariables, mostNesting}
+use Rattle.model.specs.Readers.{Read, read, refused, Reader, after, many}
+use Rattle.model.specs.Syntax.{Kind, aSet, anElement, aNumber, Variable, Table, Effect}
 use Rattle.model.specs.Commands.{conditions, effectTarget, expressionFor, effectOn, transition}
 use Rattle.model.proofs.Loops.{many-more, many-end, many-full, many-early, many-head-refused, many-body-refused}
 use Rattle.words.specs.Signature.{variableOf, variablesOf, tablesOf, kindByteOf, kindByte, Objects, WellFormed}
 use Rattle.expressions.proofs.Alike.{ReadsAlike, reads-alike}
-use Rattle.commands.specs.Groups.{Item, itemOf, VariablesDeclared, TablesDeclared}
+use Rattle.commands.specs.Groups.{itemOf, VariablesDeclared, TablesDeclared}
 use Rattle.commands.specs.Transitions.{effectsBehind}
 use Rattle.commands.specs.declared.Group.{Group}
 use Rattle.commands.specs.declared.Group.the-variants as G

@@ -1,5 +1,5 @@
 -- Laws of the loops that read variables and tables: what is so far read and stored, and what a turn makes of it.
-use Prim.Native.Nat.{ℕ, zero, suc, _+_, _-_, _*_, _^_, _<_, _≤_}
+use Prim.Native.Nat.{ℕ, _+_, _-_, _*_, _<_, _≤_}
 use mathlib.Core.Path.{_≡_, refl, sym, ap, _∙_}
 use mathlib.Core.Bool.{Bool, true, false}
 use mathlib.Core.List.{List, [], _∷_, _++_, map}
@@ -9,9 +9,8 @@ use lib.ListN.{length, getD, drop, take, set, length-set}
 use lib.Seq.{getD-set-same, getD-set-other, take-suc-set}
 use lib.Dec.{eqb}
 use borrow.Author.Tests.{eq-eqb, ne-eqb}
-use lib.IntN.{ℤ, pos}
-use Rattle.model.specs.Numbers.{mostVariables, mostTables, endsEarly, offLimits}
-use Rattle.model.specs.Readers.{Read, read, refused, Reader, give, one}
+use Rattle.model.specs.Numbers.{endsEarly, offLimits}
+use Rattle.model.specs.Readers.{Read, read, refused, give, one}
 use Rattle.model.specs.Syntax.{Variable, Table}
 use Rattle.model.specs.Expressions.{among}
 use Rattle.model.specs.Commands.{variableOf, variables, sides, tableOf, tables, entries}

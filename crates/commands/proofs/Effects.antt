@@ -1,9 +1,8 @@
 -- Laws of transitions: expressions at positions, the result of an effect, the effects of a transition, and the transition itself.
 use Prim.Native.Nat.{ℕ, zero, suc, _+_, _-_, _<_, _≤_}
-use mathlib.Core.Path.{_≡_, refl, sym, ap, subst, _∙_}
-use mathlib.Core.Bool.{Bool, true, false, cond, not, _||_}
-use mathlib.Core.List.{List, [], _∷_, _++_, map, reverse}
-use mathlib.Core.Option.{Option}
+use mathlib.Core.Path.{_≡_, refl, sym, ap, _∙_}
+use mathlib.Core.Bool.{Bool, true, false, cond, _||_}
+use mathlib.Core.List.{List, [], _∷_, _++_, reverse}
 use mathlib.Core.Option as O
 use native.Mathlib.Omega.{arith}
 use lib.ListN.{length, getD, getElem?, drop, set, length-drop, replicate}
@@ -13,7 +12,7 @@ use borrow.Author.Tests.{eq-eqb, ne-eqb, eqb-true, eqb-false}
 use Rattle.laws.specs.Lists.{any}
 use Rattle.model.specs.Numbers.{endsEarly, mismatch, offLimits, mostVariables, mostNesting}
 use Rattle.model.specs.Readers.{Read, read, refused, Reader, after, continue, _>>=_, _>>_, give, refuse, require, one, word, byte, command}
-use Rattle.model.specs.Syntax.{Number, Condition, Element, Set, elementCount, setCount, Kind, aSet, anElement, aNumber, Expression, ofSet, ofElement, Variable, Table, Effect, Transition}
+use Rattle.model.specs.Syntax.{Number, Condition, Element, Set, elementCount, setCount, Kind, aSet, anElement, aNumber, ofSet, ofElement, Variable, Table, Effect, Transition}
 use Rattle.model.specs.Expressions as X
 use Rattle.model.specs.Expressions.{declared, element, number, condition}
 use Rattle.model.specs.Commands.{conditions, effectTarget, expressionFor, effectOn, transition}
@@ -23,12 +22,11 @@ use Rattle.expressions.specs.declared.Due.{Due}
 use Rattle.expressions.specs.declared.Due.the-variants as D
 use Rattle.expressions.specs.declared.Part.{Part}
 use Rattle.expressions.specs.declared.Part.the-variants as R
-use Rattle.expressions.proofs.Forms.{part-empty}
 use Rattle.commands.specs.Places.{readAt, placeOf}
 use Rattle.commands.specs.Transitions.{placeOfPart, dueFor, countFits, partFrom, costNumber, effectsBehind, Marked, Changed}
 use Rattle.commands.specs.declared.Place.the-variants.{At, Refused}
 use Rattle.commands.proofs.Operands.{word-one}
-use Rattle.commands.proofs.Positions.{front, nothing, byte-inside, reads-at, refuses-at, give-at, given-at, place-read, place-refused, then-read, then-refused, next-read, next-refused, next-split, command-there, reverse-more, rest, turn, turn-full, turn-head-refused, turn-body-refused, turn-end, turn-early}
+use Rattle.commands.proofs.Positions.{front, byte-inside, reads-at, refuses-at, give-at, given-at, place-read, place-refused, then-read, then-refused, next-read, next-refused, next-split, reverse-more, turn, turn-full, turn-head-refused, turn-body-refused, turn-end, turn-early}
 
 -- ---- an expression at a position
 

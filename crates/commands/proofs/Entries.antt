@@ -1,14 +1,13 @@
 -- Laws of the entries of a table, one behind the other, and of a table's sides.
-use Prim.Native.Nat.{ℕ, zero, suc, _+_, _-_, _*_, _<_, _≤_}
+use Prim.Native.Nat.{ℕ, zero, suc, _+_, _-_, _<_, _≤_}
 use mathlib.Core.Path.{_≡_, refl, sym, ap, _∙_}
 use mathlib.Core.Bool.{Bool, true, false, _&&_}
 use mathlib.Core.List.{List, [], _∷_}
 use native.Mathlib.Omega.{arith}
 use lib.ListN.{length, getD, drop, length-drop}
-use lib.IntN.{ℤ}
 use Rattle.laws.proofs.Bools.{and-both}
 use Rattle.model.specs.Numbers.{endsEarly, notDue}
-use Rattle.model.specs.Readers.{Read, read, refused, Reader, _>>=_, _>>_, give, command, integer}
+use Rattle.model.specs.Readers.{Read, read, refused, _>>=_, give, command, integer}
 use Rattle.model.specs.Expressions.{isCount}
 use Rattle.model.specs.Commands.{entries, sides}
 use Rattle.words.proofs.Literal.{word-is, integer-is, integer-short}

@@ -1,6 +1,6 @@
 -- Laws of a loop of commands that have no operands of their own: what is so far read, and what a turn makes of it.
-use Prim.Native.Nat.{ℕ, zero, suc, _+_, _-_, _<_, _≤_}
-use mathlib.Core.Path.{_≡_, refl, sym, ap, _∙_}
+use Prim.Native.Nat.{ℕ, _+_, _-_, _<_, _≤_}
+use mathlib.Core.Path.{_≡_, refl, sym, _∙_}
 use mathlib.Core.Bool.{true}
 use mathlib.Core.List.{List, [], _∷_, _++_}
 use native.Mathlib.Omega.{arith}
@@ -11,10 +11,9 @@ use lib.Dec.{eqb}
 use borrow.Author.Tests.{eq-eqb, ne-eqb}
 use Rattle.model.specs.Numbers.{endsEarly, offLimits}
 use Rattle.model.specs.Readers.{Read, read, refused, Reader, give, many, upTo}
-use Rattle.commands.specs.Places.{readAt, placeOf, Each}
+use Rattle.commands.specs.Places.{readAt, Each}
 use Rattle.commands.specs.Groups.{ItemIn, ItemsRead}
-use Rattle.commands.specs.declared.Place.the-variants.{At, Refused}
-use Rattle.commands.proofs.Positions.{at-reads, give-at, place-read, place-refused, byte-inside, rest, turn, turn-full, turn-body-refused, turn-end, turn-early}
+use Rattle.commands.proofs.Positions.{at-reads, give-at, byte-inside, rest, turn, turn-full, turn-body-refused, turn-end, turn-early}
 use Rattle.commands.proofs.Lists.{each-none, each-more, length-more}
 
 module _ {B : Type 0} (c : ℕ) (r : Reader B) (bytes : List ℕ) where

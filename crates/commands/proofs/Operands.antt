@@ -4,15 +4,15 @@ use mathlib.Core.Path.{_≡_, refl, sym, ap, _∙_}
 use mathlib.Core.Bool.{Bool, true, false, _&&_}
 use mathlib.Core.List.{List, [], _∷_}
 use native.Mathlib.Omega.{arith}
-use native.Mathlib.Nat.{add-zero, mul-le-mul}
+use native.Mathlib.Nat.{mul-le-mul}
 use lib.Pow.{pow-pos}
 use lib.ListN.{length, drop, getD}
-use lib.Dec.{leb, ltb, eqb}
+use lib.Dec.{leb, ltb}
 use lib.IntN.{ℤ, pos, _+ℤ_}
 use borrow.Author.Tests.{lt-ltb, le-ltb, ltb-true, le-leb, leb-true, leb-false, eq-eqb, ne-eqb}
 use Rattle.laws.proofs.Bools.{and-both}
-use Rattle.model.specs.Numbers.{endsEarly, notDue, mismatch, offLimits, rangeEnd}
-use Rattle.model.specs.Readers.{Read, read, refused, Reader, after, continue, _>>=_, _>>_, give, require, byte, word, one, integer, command}
+use Rattle.model.specs.Numbers.{endsEarly, notDue, offLimits, rangeEnd}
+use Rattle.model.specs.Readers.{Read, read, refused, after, continue, _>>=_, _>>_, give, require, byte, word, one, integer, command}
 use Rattle.model.specs.Syntax.{aSet, anElement, aNumber, none, Variable}
 use Rattle.model.specs.Expressions.{among, isCount, objectsAndMembers}
 use Rattle.model.specs.Commands.{ruleOf, costRule, preferenceOf, setVariable, elementVariable, numberVariable, variableOf, entries, sides}
@@ -21,11 +21,8 @@ use Rattle.words.specs.Signature.{kindByteOf, kindByte}
 use Rattle.words.proofs.Literal.{word-is, word-short, integer-is, integer-short}
 use Rattle.words.proofs.Integers.{word-back}
 use Rattle.outline.specs.Outline.{preferenceNumber, ruleNumber}
-use Rattle.commands.specs.Places.{readAt, placeOf}
-use Rattle.commands.specs.Declarations.{Declares, sidesOf}
+use Rattle.commands.specs.Declarations.{Declares}
 use Rattle.commands.specs.declared.Declaration.{Declaration}
-use Rattle.commands.specs.declared.Place.the-variants.{At, Refused}
-use Rattle.commands.proofs.Positions.{front, reads-at, refuses-at, then-read, then-refused, next-read, next-refused, given-at, command-there, command-other, command-early}
 
 pub word-one : (b : ℕ) (e : List ℕ) → word 1 (b ∷ e) ≡ read b 1
 unfolding word byte give _>>=_ continue after

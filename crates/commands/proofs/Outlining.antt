@@ -1,18 +1,18 @@
 -- Laws of the groups: the words that one group writes, its code, and the end of the model.
-use Prim.Native.Nat.{ℕ, zero, suc, _+_, _-_, _<_, _≤_}
-use mathlib.Core.Path.{_≡_, refl, sym, ap, _∙_}
-use mathlib.Core.Logic.{_⊎_, inl, inr, ⊎-elim}
-use mathlib.Core.List.{List, [], _∷_}
+use Prim.Native.Nat.{ℕ, _+_, _-_, _<_, _≤_}
+use mathlib.Core.Path.{_≡_, sym, ap, _∙_}
+use mathlib.Core.Logic.{⊎-elim}
+use mathlib.Core.List.{List}
 use native.Mathlib.Omega.{arith}
 use lib.ListN.{length, getD, take, drop, set, length-take, length-drop, length-set}
 use lib.Seq.{getD-set-same, getD-set-other}
 use Rattle.model.specs.Numbers.{endsEarly, notDue, bytesAfterEnd}
-use Rattle.model.specs.Readers.{Read, read, refused, Reader, _>>_, command, upTo}
+use Rattle.model.specs.Readers.{read, refused, command, upTo}
 use Rattle.model.specs.Syntax.{Variable, Table}
 use Rattle.model.specs.Commands.{nothingMore}
-use Rattle.outline.specs.Outline.{Items, outlineWords}
+use Rattle.outline.specs.Outline.{outlineWords}
 use Rattle.commands.specs.Places.{readAt, placeOf}
-use Rattle.commands.specs.Groups.{Item, codeOf, mostOf, countAt, offsetsFrom, itemOf, ItemsRead, Outside, GroupRead, theEnd}
+use Rattle.commands.specs.Groups.{codeOf, mostOf, countAt, offsetsFrom, itemOf, ItemsRead, GroupRead, theEnd}
 use Rattle.commands.specs.declared.Group.{Group}
 use Rattle.commands.specs.declared.Group.the-variants as G
 use Rattle.commands.specs.declared.Place.the-variants.{At, Refused}

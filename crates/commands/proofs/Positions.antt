@@ -1,5 +1,5 @@
 -- Laws of reading at positions: one reader behind the other, and the turns of a loop of commands.
-use Prim.Native.Nat.{ℕ, zero, suc, _+_, _-_, _<_, _≤_}
+use Prim.Native.Nat.{ℕ, suc, _+_, _-_, _<_, _≤_}
 use mathlib.Core.Path.{_≡_, refl, sym, ap, _∙_}
 use mathlib.Core.Bool.{Bool, true, false}
 use mathlib.Core.List.{List, [], _∷_, _++_, reverse, reverse-append, reverse-reverse}
@@ -7,11 +7,11 @@ use native.Mathlib.Omega.{arith}
 use native.Mathlib.Nat.{add-zero}
 use native.Mathlib.Numerals.{add-one}
 use lib.ListN.{length, drop, getD, length-drop, List·getD-eq-default}
-use lib.Seq.{drop-cons, drop-drop, drop-length}
-use lib.Dec.{leb, eqb}
+use lib.Seq.{drop-cons, drop-drop}
+use lib.Dec.{leb}
 use borrow.Author.Tests.{leb-true, leb-false, eq-eqb, ne-eqb}
 use Rattle.model.specs.Numbers.{endsEarly, notDue, offLimits}
-use Rattle.model.specs.Readers.{Read, read, refused, Reader, after, continue, _>>=_, _>>_, give, require, byte, command, many, upTo}
+use Rattle.model.specs.Readers.{Read, read, refused, Reader, after, continue, _>>=_, _>>_, give, require, byte, command, many}
 use Rattle.model.proofs.Loops.{after-after, many-more, many-end, many-full, many-early, many-head-refused, many-body-refused}
 use Rattle.commands.specs.Places.{readAt, placeOf}
 use Rattle.commands.specs.declared.Place.the-variants.{At, Refused}

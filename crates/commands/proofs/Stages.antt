@@ -1,19 +1,18 @@
 -- Laws of the model's reading from its groups on: what each group leaves to the next, where a refusal stops it, and what the words say at the end.
-use Prim.Native.Nat.{ℕ, zero, suc, _+_, _-_, _<_, _≤_}
+use Prim.Native.Nat.{ℕ, _+_, _<_, _≤_}
 use mathlib.Core.Path.{_≡_, refl, sym, ap, subst, _∙_}
 use mathlib.Core.Logic.{_⊎_, inl, inr, ⊎-elim}
-use mathlib.Core.List.{List, [], _∷_}
+use mathlib.Core.List.{List}
 use native.Mathlib.Omega.{arith}
-use lib.ListN.{length, getD}
+use lib.ListN.{getD}
 use Rattle.model.specs.Numbers.{mostTransitions, mostBaseCases, mostConstraints, mostBounds, mostNesting}
-use Rattle.model.specs.Readers.{Read, read, refused, Reader, _>>=_, _>>_, give, command, upTo}
+use Rattle.model.specs.Readers.{Read, read, refused, Reader, _>>_, give, command, upTo}
 use Rattle.model.specs.Syntax.{Number, Condition, Rule, Variable, Table, Transition, Model}
 use Rattle.model.specs.Expressions.{number, condition}
 use Rattle.model.specs.Commands.{conditions, transition, nothingMore}
 use Rattle.words.specs.Signature.{variablesOf, tablesOf}
-use Rattle.outline.specs.Outline.{Items}
 use Rattle.commands.specs.Places.{readAt, placeOf}
-use Rattle.commands.specs.Groups.{Item, codeOf, mostOf, countAt, offsetsFrom, itemOf, Outside, GroupAt, GroupRead, GroupTold, theEnd, behindBounds, behindConstraints, behindBaseCases, behindTransitions, behindTables, VariablesDeclared, TablesDeclared, GroupsAt, GroupsRead, GroupsKeep, GroupsTold, GroupsAs}
+use Rattle.commands.specs.Groups.{codeOf, mostOf, countAt, offsetsFrom, itemOf, Outside, GroupAt, GroupRead, GroupTold, theEnd, behindBounds, behindConstraints, behindBaseCases, behindTransitions, behindTables, VariablesDeclared, TablesDeclared, GroupsAt, GroupsRead, GroupsKeep, GroupsTold, GroupsAs}
 use Rattle.commands.specs.declared.Group.{Group}
 use Rattle.commands.specs.declared.Group.the-variants as G
 use Rattle.commands.specs.declared.Place.{Place}

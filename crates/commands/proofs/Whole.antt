@@ -1,32 +1,26 @@
 -- Laws of the whole model: what follows the variables, what follows the rule, and the outline at the end.
-use Prim.Native.Nat.{ℕ, zero, suc, _+_, _-_, _^_, _<_, _≤_}
+use Prim.Native.Nat.{ℕ, _+_, _<_, _≤_}
 use mathlib.Core.Path.{_≡_, refl, sym, ap, subst, _∙_}
-use mathlib.Core.Logic.{_⊎_, inl, inr, ⊎-elim}
+use mathlib.Core.Logic.{inl, inr, ⊎-elim}
 use mathlib.Core.Bool.{Bool, true, false}
-use mathlib.Core.List.{List, [], _∷_, map}
-use mathlib.Core.Option.{some}
+use mathlib.Core.List.{List, [], _∷_}
 use native.Mathlib.Omega.{arith}
 use native.Mathlib.Nat.{zero-add}
-use lib.ListN.{length, getD, getElem?, take, drop, set, length-set}
+use lib.ListN.{length, getD, take, set, length-set}
 use lib.Seq.{getD-set-same, getD-set-other}
 use lib.Dec.{eqb, ltb}
 use borrow.Author.Tests.{eqb-true, eqb-false, ltb-true, ltb-false}
-use Rattle.laws.specs.Lists.{All}
-use Rattle.model.specs.Numbers.{mostNesting}
-use Rattle.model.specs.Readers.{Read, read, refused, Reader, _>>=_, upTo}
-use Rattle.model.specs.Syntax.{aSet, Rule, Variable, Table, Model, tableAt}
+use Rattle.model.specs.Readers.{read, refused, Reader}
+use Rattle.model.specs.Syntax.{Rule, Variable, tableAt}
 use Rattle.model.specs.Commands.{ruleOf, costRule, variables, tables, model}
 use Rattle.model.proofs.Loops.{after-zero}
 use Rattle.model.proofs.Reading.{model-refusal}
-use Rattle.words.specs.States.{valueOf}
-use Rattle.words.specs.Signature.{kindByte, WellFormed}
+use Rattle.words.specs.Signature.{WellFormed}
 use Rattle.words.specs.Tables.{Tabled}
 use Rattle.outline.specs.Outline.{outlineWords, VariableAt, Items, ruleNumber, readModel, modelOf, refusalOf, Outlines}
 use Rattle.commands.specs.Places.{readAt, placeOf, Each}
 use Rattle.commands.specs.Declarations.{VariablesRead, VariablesTold, TablesRead, TablesTold}
-use Rattle.commands.specs.Groups.{GroupAt, behindTables, behindVariables, behindRule, VariablesDeclared, TablesDeclared, GroupsAt, TablesAt, GroupsRead, GroupsTold, GroupsAs, PartsRead, PartsKeep, PartsTold, PartsAs, VariablesAt, ModelRead, ModelTold, ModelAs}
-use Rattle.commands.specs.declared.Group.{Group}
-use Rattle.commands.specs.declared.Group.the-variants as G
+use Rattle.commands.specs.Groups.{behindTables, behindVariables, behindRule, VariablesDeclared, GroupsTold, GroupsAs, PartsTold, PartsAs, ModelRead, ModelTold, ModelAs}
 use Rattle.commands.specs.declared.Listed.{Listed}
 use Rattle.commands.specs.declared.Listed.the-variants as L
 use Rattle.commands.specs.declared.Place.{Place}

@@ -1,8 +1,8 @@
 -- Words compare as the values that they stand for, so the order of two states is that of their words.
 use Prim.Native.Nat.{ℕ, suc, _+_, _-_, _%_, _^_, _≤_, _<_}
-use mathlib.Core.Path.{_≡_, refl, sym, ap, _∙_}
+use mathlib.Core.Path.{_≡_, refl, sym, _∙_}
 use mathlib.Core.Bool.{Bool, true, false, cond, _&&_}
-use mathlib.Core.List.{List, [], _∷_}
+use mathlib.Core.List.{List}
 use mathlib.Core.Option.{some}
 use native.Mathlib.Omega.{arith}
 use native.Mathlib.Numerals.{add-one}
@@ -13,9 +13,9 @@ use lib.Signed.{leZ}
 use borrow.Author.Tests.{ltb-true, ltb-false, leb-true, leb-false, le-leb, lt-leb, eq-eqb, ne-eqb}
 use Rattle.model.specs.Numbers.{rangeEnd, mostObjects}
 use Rattle.model.specs.Syntax.{Kind, aSet, anElement, aNumber, Preference, none, less, more, Variable}
-use Rattle.model.specs.Meaning.{State, numberAt, equalZ}
+use Rattle.model.specs.Meaning.{numberAt, equalZ}
 use Rattle.model.specs.Steps.{noWorse, noneWorse, systemOf}
-use Rattle.words.specs.States.{valueOf, stateOf}
+use Rattle.words.specs.States.{valueOf}
 use Rattle.words.specs.Signature.{kindByteOf, kindByte, Objects}
 use Rattle.outline.specs.Outline.{modelOf, preferenceNumber}
 use Rattle.steps.specs.Held.{Outlined, systemIn, stateIn}

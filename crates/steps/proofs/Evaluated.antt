@@ -1,8 +1,8 @@
 -- The evaluators on a model's own bytes: what their answers are of expressions that stand there, by the outline's words.
 use Prim.Native.Nat.{ℕ, _-_, _≤_, _<_}
-use mathlib.Core.Path.{_≡_, sym, ap, _∙_}
+use mathlib.Core.Path.{_≡_, ap, _∙_}
 use mathlib.Core.List.{List}
-use lib.ListN.{length, getD, take, drop, length-drop}
+use lib.ListN.{length, take, drop, length-drop}
 use lib.Seq.{getD-drop}
 use Rattle.model.specs.Numbers.{mostNesting, mostObjects}
 use Rattle.words.proofs.Literal.{suffix}
@@ -16,7 +16,7 @@ use Rattle.evaluator.specs.Runs.{Place, place, runElement, runSet, runNumber, r
 use Rattle.evaluator.specs.Promise.{Describes}
 use Rattle.evaluator.proofs.Promises.{run-number, run-condition, run-set, run-element}
 use Rattle.evaluator.proofs.Within.{number-within, condition-within, set-within, element-within, element-small}
-use Rattle.steps.specs.Held.{Outlined, stateIn}
+use Rattle.steps.specs.Held.{Outlined}
 use Rattle.steps.specs.Says.{ConditionSays, NumberSays, ElementSays, SetSays}
 
 -- the part of a slice that is lent from n on

@@ -1,16 +1,16 @@
 -- The plan check turn by turn: what one transition comes to, and what is left of the plan.
-use Prim.Native.Nat.{ℕ, zero, suc, _+_, _*_, _≤_, _<_, _^_, max}
+use Prim.Native.Nat.{ℕ, _+_, _*_, _≤_, _<_, _^_, max}
 use mathlib.Core.Path.{_≡_, refl, sym, ap, _∙_}
 use mathlib.Core.Bool.{Bool, true, false, cond}
-use mathlib.Core.List.{List, [], _∷_}
+use mathlib.Core.List.{List, _∷_}
 use native.Mathlib.Omega.{arith}
 use native.Mathlib.Numerals.{add-one}
 use lib.ListN.{length, getD, drop, drop-of-length-le}
 use lib.Seq.{drop-cons}
 use lib.Dec.{ltb}
-use borrow.Author.Tests.{ltb-true, ltb-false}
-use Rattle.model.specs.Numbers.{rangeEnd, notAPlan, mostSteps}
-use Rattle.model.specs.Values.{Value, value, trouble}
+use borrow.Author.Tests.{ltb-false}
+use Rattle.model.specs.Numbers.{rangeEnd, notAPlan}
+use Rattle.model.specs.Values.{Value, trouble}
 use Rattle.model.specs.System.{Status, base, unfinished, noStatus, Move, blocked, moved, troubleBefore, troubleAfter}
 use Rattle.model.specs.Syntax.{Rule, sum, largest}
 use Rattle.model.specs.Meaning.{State}
@@ -24,7 +24,7 @@ use Rattle.steps.specs.declared.answers.MoveAnswer.the-variants as M
 use Rattle.steps.specs.declared.answers.TurnAnswer.{TurnAnswer}
 use Rattle.steps.specs.declared.answers.TurnAnswer.the-variants as T
 use Rattle.steps.specs.declared.answers.Checked.{Checked}
-use Rattle.steps.specs.Held.{Outlined, Held, stateIn, systemIn}
+use Rattle.steps.specs.Held.{Outlined, stateIn, systemIn}
 use Rattle.steps.specs.Answers.{statusAnswer, moveAnswer}
 use Rattle.steps.specs.Says.{MoveSays}
 use Rattle.steps.specs.Follow.{costsIn, followIn, movedOn, finished, TurnIs, CheckedIs}

@@ -2,12 +2,12 @@
 use Prim.Native.Nat.{ℕ, _+_, _-_, _≤_, _<_}
 use mathlib.Core.Path.{_≡_, refl, sym, ap, _∙_}
 use mathlib.Core.Bool.{Bool, true, false}
-use mathlib.Core.List.{List, [], _∷_}
+use mathlib.Core.List.{List}
 use native.Mathlib.Omega.{arith}
 use lib.ListN.{length, getD, drop, List·getD-eq-default}
 use lib.Dec.{leb}
 use borrow.Author.Tests.{leb-true, leb-false}
-use Rattle.model.specs.Numbers.{rangeEnd, mostNesting}
+use Rattle.model.specs.Numbers.{rangeEnd}
 use Rattle.model.specs.Values.{Value, value, trouble, _>>=_}
 use Rattle.model.specs.Readers.{read}
 use Rattle.model.specs.Syntax.{Condition}

@@ -1,16 +1,15 @@
 -- A transition's move from its parts: conditions, then cost and effects, then the new state's constraints.
 use Prim.Native.Nat.{ℕ, _+_, _≤_, _<_}
 use mathlib.Core.Path.{_≡_, refl, sym, ap, _∙_}
-use mathlib.Core.Bool.{Bool, true, false, cond}
-use mathlib.Core.List.{List, [], _∷_}
-use mathlib.Core.Option.{some, none}
+use mathlib.Core.Bool.{Bool, true, false}
+use mathlib.Core.List.{List}
 use native.Mathlib.Omega.{arith}
-use lib.ListN.{length, getD, getElem?, drop}
+use lib.ListN.{length, getD}
 use lib.IntN.{ℤ}
 use Rattle.model.specs.Numbers.{rangeEnd}
 use Rattle.model.specs.Values.{Value, value, trouble, _>>=_}
-use Rattle.model.specs.System.{Move, blocked, moved, troubleBefore, troubleAfter}
-use Rattle.model.specs.Syntax.{Transition, Effect, Model}
+use Rattle.model.specs.System.{blocked, moved, troubleBefore}
+use Rattle.model.specs.Syntax.{Transition, Model}
 use Rattle.model.specs.Meaning.{State, numberValue, allHold}
 use Rattle.model.specs.Steps.{costOf, effects, Attempt, notTaken, taken, attempt, constrained, moveOf, moveBy, move, systemOf}
 use Rattle.outline.specs.Outline.{modelOf, transitionsFrom}
@@ -26,8 +25,8 @@ use Rattle.steps.specs.declared.answers.MoveAnswer.{MoveAnswer}
 use Rattle.steps.specs.declared.answers.MoveAnswer.the-variants as M
 use Rattle.steps.specs.Held.{Outlined, stateIn, systemIn}
 use Rattle.steps.specs.Answers.{heldAnswer, costAnswer, effectsAnswer, attemptAnswer, moveAnswer}
-use Rattle.steps.specs.Says.{ReadsAt, HeldSays, CostSays, EffectsRead, EffectsSay, EffectsSays, takenIn, AttemptSay, TakenSays, TakenRead, TransitionRead, AttemptSays, MoveSays}
-use Rattle.steps.proofs.Items.{Nth, nth-of, none-beyond}
+use Rattle.steps.specs.Says.{HeldSays, CostSays, EffectsRead, EffectsSays, AttemptSay, TakenSays, TakenRead, TransitionRead, AttemptSays, Tried, MoveSays}
+use Rattle.steps.proofs.Items.{nth-of, none-beyond}
 use Rattle.steps.proofs.Readings.{PartsAt, parts-at}
 use Rattle.steps.proofs.Holding.{byte-inside}
 use Rattle.steps.proofs.Trials.{constraintsIn, all-held, one-fails, one-troubles}
@@ -74,16 +73,16 @@ attempt-troubles (trouble t) e = cc
 
 -- ---- answers that write nothing
 
-module _ (bytes : List ℕ) (at : ℕ) (state child : List ℕ) (v : Value Attempt) where
-  says-trouble : {t : ℕ} → v ≡ trouble t → AttemptSay bytes at state child (A.Trouble t) v
+module _ (bytes child : List ℕ) (v : Value Attempt) where
+  says-trouble : {t : ℕ} → v ≡ trouble t → AttemptSay bytes child (A.Trouble t) v
   unfolding attemptAnswer
   says-trouble e = record { answer = rw e; written = λ c u i. let z : _≡_ {A = ℕ} 0 1 = cc in absurd (omega arith) }
 
-  says-not-taken : v ≡ value notTaken → AttemptSay bytes at state child A.NotTaken v
+  says-not-taken : v ≡ value notTaken → AttemptSay bytes child A.NotTaken v
   unfolding attemptAnswer
   says-not-taken e = record { answer = rw e; written = λ c u i. let z : _≡_ {A = ℕ} 0 1 = cc in absurd (omega arith) }
 
-  says-taken : {c : ℕ} {u : State} → v ≡ value (taken c u) → stateIn bytes child ≡ u → AttemptSay bytes at state child (A.Taken c) v
+  says-taken : {c : ℕ} {u : State} → v ≡ value (taken c u) → stateIn bytes child ≡ u → AttemptSay bytes child (A.Taken c) v
   unfolding attemptAnswer
   says-taken {c} {u} e w = record { answer = rw e; written = λ d y i. let p : u ≡ y = cc in w ∙ p }
 
@@ -101,7 +100,7 @@ cost-stops (trouble t) f e = cc
 
 module _ (bytes : List ℕ) (at : ℕ) (state : List ℕ) (q : CostAnswer) (says : CostSays bytes at state q) where
   pub take-stops : {t : ℕ} (child : List ℕ) → q ≡ C.Trouble t → TakenSays bytes at state child (A.Trouble t)
-  take-stops child e x n l k h g = says-trouble bytes at state child _ (cost-stops _ _ (cost-troubles _ n (sym (says x n h) ∙ e)))
+  take-stops child e x n l k h g = says-trouble bytes child _ (cost-stops _ _ (cost-troubles _ n (sym (says x n h) ∙ e)))
 
   module _ {c used : ℕ} (e : q ≡ C.Cost c used) where
     -- where the effects begin
@@ -116,7 +115,7 @@ module _ (bytes : List ℕ) (at : ℕ) (state : List ℕ) (q : CostAnswer) (says
           let s = effected l k (rw (p .1) at g) in
           let w = effects-done _ (sym (s .answer) ∙ d) in
           let same : effects rangeEnd (modelOf bytes) l (stateIn bytes state) (stateIn bytes state) ≡ value (w .0) = ap (effects rangeEnd (modelOf bytes) l (stateIn bytes state)) (sym copied) ∙ w .1 in
-          says-taken bytes at state child _ (cost-then (numberValue rangeEnd (modelOf bytes .tables) x (stateIn bytes state)) (λ c. effects rangeEnd (modelOf bytes) l (stateIn bytes state) (stateIn bytes state) >>= λ new. value (taken c new)) (p .0) ∙ ap (λ (v : Value State). v >>= λ new. value (taken c new)) same) (s .written (w .0) (w .1))
+          says-taken bytes child _ (cost-then (numberValue rangeEnd (modelOf bytes .tables) x (stateIn bytes state)) (λ c. effects rangeEnd (modelOf bytes) l (stateIn bytes state) (stateIn bytes state) >>= λ new. value (taken c new)) (p .0) ∙ ap (λ (v : Value State). v >>= λ new. value (taken c new)) same) (s .written (w .0) (w .1))
 
       pub take-troubles : {t : ℕ} → r ≡ E.Trouble t → TakenSays bytes at state child (A.Trouble t)
       unfolding _>>=_
@@ -125,7 +124,7 @@ module _ (bytes : List ℕ) (at : ℕ) (state : List ℕ) (q : CostAnswer) (says
           let s = effected l k (rw (p .1) at g) in
           let w = effects-trouble _ (sym (s .answer) ∙ d) in
           let same : effects rangeEnd (modelOf bytes) l (stateIn bytes state) (stateIn bytes state) ≡ trouble t = ap (effects rangeEnd (modelOf bytes) l (stateIn bytes state)) (sym copied) ∙ w in
-          says-trouble bytes at state child _ (cost-then (numberValue rangeEnd (modelOf bytes .tables) x (stateIn bytes state)) (λ c. effects rangeEnd (modelOf bytes) l (stateIn bytes state) (stateIn bytes state) >>= λ new. value (taken c new)) (p .0) ∙ ap (λ (v : Value State). v >>= λ new. value (taken c new)) same)
+          says-trouble bytes child _ (cost-then (numberValue rangeEnd (modelOf bytes .tables) x (stateIn bytes state)) (λ c. effects rangeEnd (modelOf bytes) l (stateIn bytes state) (stateIn bytes state) >>= λ new. value (taken c new)) (p .0) ∙ ap (λ (v : Value State). v >>= λ new. value (taken c new)) same)
 
 -- ---- conditions, then the rest
 
@@ -141,14 +140,14 @@ module _ (bytes : List ℕ) (at : ℕ) (state : List ℕ) (q : HeldAnswer) (says
   attempt-blocked child e x n h =
       let p = parts-at _ _ bytes at x n h in
       let f = one-fails _ _ (held x p ∙ e) in
-      says-not-taken bytes at state child _ (rw f)
+      says-not-taken bytes child _ (rw f)
 
   pub attempt-stops : {t : ℕ} (child : List ℕ) → q ≡ H.Trouble t → AttemptSays bytes at state child (A.Trouble t)
   unfolding attempt _>>=_
   attempt-stops child e x n h =
       let p = parts-at _ _ bytes at x n h in
       let f = one-troubles _ _ (held x p ∙ e) in
-      says-trouble bytes at state child _ (rw f)
+      says-trouble bytes child _ (rw f)
 
   module _ {next : ℕ} (e : q ≡ H.All next) where
     pub rest-read : TransitionRead bytes at → TakenRead bytes (next + 1)
@@ -206,36 +205,36 @@ module _ (bytes words : List ℕ) (o : Outlined bytes words) (state : List ℕ) 
         let i = o .outlines .transitions t (n .nth) (n .found) in
         record { item = n .nth; used = i .used; reads = rw place (i .reads) }
 
-    module _ (child : List ℕ) (q : AttemptAnswer) (says : AttemptSays bytes at state child q) where
-      the-move : (n : Nth (modelOf bytes .transitions) t) → systemIn bytes .move (stateIn bytes state) t ≡ moveOf rangeEnd (modelOf bytes) (attempt rangeEnd (modelOf bytes) (n .nth) (stateIn bytes state))
-      unfolding systemOf move moveBy
-      the-move n = rw (n .found)
+    pub tried : (child : List ℕ) (q : AttemptAnswer) → AttemptSays bytes at state child q → Tried bytes state t child q
+    tried child q says =
+        let n = nth-of (modelOf bytes .transitions) t h in
+        let i = o .outlines .transitions t (n .nth) (n .found) in
+        record { transition-of = n .nth; declared = n .found; says = says (n .nth) (i .used) (rw place (i .reads)) }
 
-      said : (n : Nth (modelOf bytes .transitions) t) → AttemptSay bytes at state child q (attempt rangeEnd (modelOf bytes) (n .nth) (stateIn bytes state))
-      said n = let i = o .outlines .transitions t (n .nth) (n .found) in says (n .nth) (i .used) (rw place (i .reads))
+module _ (bytes state : List ℕ) (t : ℕ) (child : List ℕ) (q : AttemptAnswer) (a : Tried bytes state t child q) where
+  the-move : systemIn bytes .move (stateIn bytes state) t ≡ moveOf rangeEnd (modelOf bytes) (attempt rangeEnd (modelOf bytes) (a .transition-of) (stateIn bytes state))
+  unfolding systemOf move moveBy
+  the-move = rw (a .declared)
 
-      pub move-blocked : q ≡ A.NotTaken → MoveSays bytes state t child M.Blocked
-      unfolding moveOf moveAnswer
-      move-blocked e =
-          let n = nth-of (modelOf bytes .transitions) t h in
-          let a = not-taken _ (sym (said n .answer) ∙ e) in
-          let m : systemIn bytes .move (stateIn bytes state) t ≡ blocked = the-move n ∙ rw a in
-          record { answer = rw m; arrives = λ c u i. let z : _≡_ {A = ℕ} 0 1 = cc in absurd (omega arith) }
+  pub move-blocked : q ≡ A.NotTaken → MoveSays bytes state t child M.Blocked
+  unfolding moveOf moveAnswer
+  move-blocked e =
+      let v = not-taken _ (sym (a .says .answer) ∙ e) in
+      let m : systemIn bytes .move (stateIn bytes state) t ≡ blocked = the-move ∙ rw v in
+      record { answer = rw m; arrives = λ c u i. let z : _≡_ {A = ℕ} 0 1 = cc in absurd (omega arith) }
 
-      pub move-before : {k : ℕ} → q ≡ A.Trouble k → MoveSays bytes state t child (M.Before k)
-      unfolding moveOf moveAnswer
-      move-before {k} e =
-          let n = nth-of (modelOf bytes .transitions) t h in
-          let a = attempt-troubles _ (sym (said n .answer) ∙ e) in
-          let m : systemIn bytes .move (stateIn bytes state) t ≡ troubleBefore k = the-move n ∙ rw a in
-          record { answer = rw m; arrives = λ c u i. let z : _≡_ {A = ℕ} 0 1 = cc in absurd (omega arith) }
+  pub move-before : {k : ℕ} → q ≡ A.Trouble k → MoveSays bytes state t child (M.Before k)
+  unfolding moveOf moveAnswer
+  move-before {k} e =
+      let v = attempt-troubles _ (sym (a .says .answer) ∙ e) in
+      let m : systemIn bytes .move (stateIn bytes state) t ≡ troubleBefore k = the-move ∙ rw v in
+      record { answer = rw m; arrives = λ c u i. let z : _≡_ {A = ℕ} 0 1 = cc in absurd (omega arith) }
 
-      pub move-after : {c : ℕ} → q ≡ A.Taken c → (r : MoveAnswer) → r ≡ moveAnswer (constrained rangeEnd (modelOf bytes) c (stateIn bytes child) (constraintsIn bytes child)) → MoveSays bytes state t child r
-      unfolding moveOf
-      move-after {c} e r f =
-          let n = nth-of (modelOf bytes .transitions) t h in
-          let a = is-taken _ (sym (said n .answer) ∙ e) in
-          let w : stateIn bytes child ≡ a .0 = said n .written c (a .0) (a .1) in
-          let b : attempt rangeEnd (modelOf bytes) (n .nth) (stateIn bytes state) ≡ value (taken c (stateIn bytes child)) = a .1 ∙ ap (λ (u : State). value (taken c u)) (sym w) in
-          let m : systemIn bytes .move (stateIn bytes state) t ≡ constrained rangeEnd (modelOf bytes) c (stateIn bytes child) (constraintsIn bytes child) = the-move n ∙ rw b in
-          record { answer = f ∙ ap moveAnswer (sym m); arrives = λ d u i. new-state rangeEnd (modelOf bytes) c (stateIn bytes child) (constraintsIn bytes child) (sym m ∙ i) }
+  pub move-after : {c : ℕ} → q ≡ A.Taken c → (r : MoveAnswer) → r ≡ moveAnswer (constrained rangeEnd (modelOf bytes) c (stateIn bytes child) (constraintsIn bytes child)) → MoveSays bytes state t child r
+  unfolding moveOf
+  move-after {c} e r f =
+      let v = is-taken _ (sym (a .says .answer) ∙ e) in
+      let w : stateIn bytes child ≡ v .0 = a .says .written c (v .0) (v .1) in
+      let b : attempt rangeEnd (modelOf bytes) (a .transition-of) (stateIn bytes state) ≡ value (taken c (stateIn bytes child)) = v .1 ∙ ap (λ (u : State). value (taken c u)) (sym w) in
+      let m : systemIn bytes .move (stateIn bytes state) t ≡ constrained rangeEnd (modelOf bytes) c (stateIn bytes child) (constraintsIn bytes child) = the-move ∙ rw b in
+      record { answer = f ∙ ap moveAnswer (sym m); arrives = λ d u i. new-state rangeEnd (modelOf bytes) c (stateIn bytes child) (constraintsIn bytes child) (sym m ∙ i) }

@@ -2,13 +2,11 @@
 use Prim.Native.Nat.{ℕ, _+_, _≤_, _<_}
 use mathlib.Core.Path.{_≡_, ap, _∙_}
 use mathlib.Core.List.{List, _++_}
-use mathlib.Core.Option.{some}
 use native.Mathlib.Omega.{arith}
-use lib.ListN.{length, getD, getElem?, take, drop, length-drop, List·getD-append}
+use lib.ListN.{length, getD, take, drop, length-drop, List·getD-append}
 use lib.Seq.{length-take-le, getD-take, getD-drop}
-use Rattle.model.specs.Syntax.{Variable}
 use Rattle.model.specs.Steps.{target}
-use Rattle.words.specs.States.{valueOf, stateOf}
+use Rattle.words.specs.States.{valueOf}
 use Rattle.outline.specs.Outline.{modelOf}
 use Rattle.steps.specs.Held.{Outlined, Held, stateIn}
 use Rattle.steps.proofs.Items.{found-below}

@@ -2,12 +2,12 @@
 use Prim.Native.Nat.{ℕ, zero, suc, _+_, _≤_, _<_}
 use mathlib.Core.Path.{_≡_, refl, sym, ap, _∙_}
 use mathlib.Core.List.{List, [], _∷_, _++_, map}
-use mathlib.Core.Option.{Option, some, none}
+use mathlib.Core.Option.{some}
 use native.Mathlib.Omega.{arith}
 use native.Mathlib.Numerals.{add-one}
 use lib.ListN.{length, getD, getElem?, set, take, drop, length-set}
 use lib.Seq.{getD-drop, length-take-le, take-suc, drop-cons, append-snoc, set-at}
-use lib.IntN.{ℤ, pos}
+use lib.IntN.{pos}
 use Rattle.model.specs.Syntax.{Variable}
 use Rattle.model.specs.Meaning.{State}
 use Rattle.words.specs.States.{valueOf, stateOf}

@@ -1,15 +1,14 @@
 -- Base cases, constraints and bounds by their number: what is left of them, and the answers at the end.
 use Prim.Native.Nat.{ℕ, _+_, _-_, _≤_, _<_}
-use mathlib.Core.Path.{_≡_, refl, sym, ap, _∙_}
+use mathlib.Core.Path.{_≡_, refl, sym, _∙_}
 use mathlib.Core.Bool.{Bool, true, false}
-use mathlib.Core.List.{List, [], _∷_}
+use mathlib.Core.List.{List}
 use native.Mathlib.Omega.{arith}
 use lib.ListN.{length, getD, drop, drop-of-length-le}
 use lib.IntN.{ℤ}
 use lib.Signed.{mag}
 use Rattle.model.specs.Numbers.{rangeEnd}
 use Rattle.model.specs.Values.{Value, value, trouble, _>>=_}
-use Rattle.model.specs.Syntax.{Condition, Number}
 use Rattle.model.specs.Meaning.{numberValue, conditionValue, allHold, someHolds}
 use Rattle.model.specs.Steps.{statusOf, status, raise, greatest, bound, systemOf}
 use Rattle.outline.specs.Outline.{modelOf, baseCasesFrom, constraintsFrom, boundsFrom}

@@ -1,21 +1,17 @@
 -- Effects: the word for each variable, and the child's words while effects are written.
 use Prim.Native.Nat.{ℕ, _+_, _-_, _%_, _^_, _≤_, _<_}
 use mathlib.Core.Path.{_≡_, refl, sym, ap, _∙_}
-use mathlib.Core.Bool.{Bool, true, false}
-use mathlib.Core.List.{List, [], _∷_}
+use mathlib.Core.List.{List, _∷_}
 use mathlib.Core.Option.{some}
 use native.Mathlib.Omega.{arith}
 use lib.ListN.{length, getD, getElem?, set, drop, length-set}
 use lib.IntN.{ℤ, pos, _+ℤ_}
-use lib.Signed.{mag, ltZ}
-use mir.Syntax.{w64}
-use mir.Val.{SFits}
-use Rattle.model.specs.Numbers.{rangeEnd, negativeCost, mostObjects}
+use Rattle.model.specs.Numbers.{rangeEnd}
 use Rattle.model.specs.Values.{Value, value, trouble, _>>=_}
 use Rattle.model.specs.Readers.{read}
-use Rattle.model.specs.Syntax.{Kind, aSet, anElement, aNumber, Number, Expression, Variable, Effect}
+use Rattle.model.specs.Syntax.{Kind, aSet, anElement, aNumber, Expression, Variable, Effect}
 use Rattle.model.specs.Commands.{expressionFor}
-use Rattle.model.specs.Meaning.{State, elementValue, setValue, numberValue, expressionValue}
+use Rattle.model.specs.Meaning.{State, expressionValue}
 use Rattle.model.specs.Steps.{costOf, effects}
 use Rattle.words.specs.States.{valueOf}
 use Rattle.words.specs.Signature.{Objects, kindByteOf, kindByte}
@@ -30,9 +26,9 @@ use Rattle.steps.specs.declared.answers.CostAnswer.the-variants as C
 use Rattle.steps.specs.declared.answers.WordAnswer.{WordAnswer}
 use Rattle.steps.specs.declared.answers.WordAnswer.the-variants as W
 use Rattle.steps.specs.declared.answers.EffectsAnswer.the-variants as E
-use Rattle.steps.specs.Held.{Outlined, Held, stateIn}
+use Rattle.steps.specs.Held.{Outlined, stateIn}
 use Rattle.steps.specs.Answers.{costAnswer, effectsAnswer}
-use Rattle.steps.specs.Says.{effectList, NumberSays, ElementSays, SetSays, CostSays, CostWithin, WordIs, WordWithin, NumberWordSays, WordSays, EffectsRead, EffectsSay, EffectsSays}
+use Rattle.steps.specs.Says.{effectList, NumberSays, ElementSays, SetSays, CostSays, CostWithin, WordIs, WordWithin, NumberWordSays, WordSays, EffectsRead, EffectsSays}
 use Rattle.steps.proofs.Items.{found-below}
 use Rattle.steps.proofs.StateWords.{state-set}
 use Rattle.steps.proofs.Readings.{Listed, EffectAt, effects-listed, First, first-of, none-of, set-for, element-for, number-for}

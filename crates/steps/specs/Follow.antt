@@ -1,7 +1,7 @@
 -- The plan check of the model that stands in bytes, and what one turn of it is promised.
 use Prim.Native.Nat.{ℕ, _+_, _≤_}
 use mathlib.Core.Path.{_≡_}
-use mathlib.Core.List.{List, _∷_}
+use mathlib.Core.List.{List}
 use Rattle.model.specs.Numbers.{rangeEnd}
 use Rattle.model.specs.Values.{Value, trouble}
 use Rattle.model.specs.System.{Costs}

@@ -1,13 +1,12 @@
 -- What is promised of the parts of a model where they stand in its bytes: values in the state that the words stand for.
-use Prim.Native.Nat.{ℕ, _+_, _-_, _≤_, _<_}
+use Prim.Native.Nat.{ℕ, _+_, _-_, _≤_}
 use mathlib.Core.Path.{_≡_}
-use mathlib.Core.Bool.{Bool}
 use mathlib.Core.List.{List, []}
 use mathlib.Core.Option.{some}
 use lib.ListN.{length, getElem?, drop}
 use lib.Dec.{eqb}
 use lib.IntN.{ℤ}
-use Rattle.model.specs.Numbers.{rangeEnd, mostObjects, mostNesting, mostVariables}
+use Rattle.model.specs.Numbers.{rangeEnd, mostNesting, mostVariables}
 use Rattle.model.specs.Values.{Value, value, trouble, _>>=_}
 use Rattle.model.specs.System.{moved}
 use Rattle.model.specs.Readers.{Reader, read, many}
@@ -71,6 +70,11 @@ module _ (bytes : List ℕ) where
   abbrev pub TransitionRead : (at : ℕ) → Type 0
   TransitionRead at = ReadsAt (transition variablesIn tablesIn) bytes at
 
+  -- the answer, and the new state's words where the step is taken
+  pub record AttemptSay (child : List ℕ) (r : AttemptAnswer) (v : Value Attempt) : Type 0 where
+    pub answer : r ≡ attemptAnswer v
+    pub written : (c : ℕ) (u : State) → v ≡ value (taken c u) → stateIn bytes child ≡ u
+
   module _ (at : ℕ) (state : List ℕ) where
     abbrev pub ConditionSays : ConditionValue → Type 0
     ConditionSays r = (x : Condition) (n : ℕ) → reading.condition variablesIn tablesIn mostNesting (drop at bytes) ≡ read x n
@@ -120,11 +124,6 @@ module _ (bytes : List ℕ) where
     takenIn x l =
         numberValue rangeEnd tablesIn x (stateIn bytes state) >>= λ z. costOf z >>= λ c. effects rangeEnd (modelOf bytes) l (stateIn bytes state) (stateIn bytes state) >>= λ new. value (taken c new)
 
-    -- the answer, and the new state's words where the step is taken
-    pub record AttemptSay (child : List ℕ) (r : AttemptAnswer) (v : Value Attempt) : Type 0 where
-      pub answer : r ≡ attemptAnswer v
-      pub written : (c : ℕ) (u : State) → v ≡ value (taken c u) → stateIn bytes child ≡ u
-
     abbrev pub TakenSays : (child : List ℕ) → AttemptAnswer → Type 0
     TakenSays child r = (x : Number) (n : ℕ) (l : List Effect) (k : ℕ) → reading.number variablesIn tablesIn mostNesting (drop at bytes) ≡ read x n
         → effectList variablesIn tablesIn (drop (at + n) bytes) ≡ read l k → AttemptSay child r (takenIn x l)
@@ -139,6 +138,12 @@ module _ (bytes : List ℕ) where
     pub reads-cost : reading.number variablesIn tablesIn mostNesting (drop at bytes) ≡ read cost cost-used
     pub inside : at ≤ length bytes
     pub effects-read : EffectsRead (at + cost-used)
+
+  -- transition t was tried in the state
+  pub record Tried (state : List ℕ) (t : ℕ) (child : List ℕ) (r : AttemptAnswer) : Type 0 where
+    pub transition-of : Transition
+    pub declared : getElem? (modelOf bytes .transitions) t ≡ some transition-of
+    pub says : AttemptSay child r (attempt rangeEnd (modelOf bytes) transition-of (stateIn bytes state))
 
   -- the answer of a move, and the new state's words where it is one
   pub record MoveSays (state : List ℕ) (t : ℕ) (child : List ℕ) (r : MoveAnswer) : Type 0 where

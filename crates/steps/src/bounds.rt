@@ -2,12 +2,12 @@
 
 ghost use mathlib.Core.Path.{_≡_};
 ghost use Prim.Native.Nat.{_<_};
-ghost use lib.Signed.{mag};
-ghost use Rattle.model.specs.Numbers.{rangeEnd};
 ghost use Rattle.model.specs.Steps as steps;
 ghost use Rattle.steps.specs.Held.{Outlined, stateIn, systemIn};
 ghost use Rattle.steps.specs.Answers.{boundAnswer};
 use crate::answers::BoundAnswer;
+use crate::layout::BOUND_COUNT;
+use crate::layout::BOUNDS;
 use crate::parts::number_at;
 use evaluator::answers::NumberValue;
 use outline::word_at;
@@ -28,11 +28,11 @@ pub fn bound(model: &[u8], outline: &[u64], state: &[u64]) -> BoundAnswer
     requires { ⌜ Outlined (now model) (now outline) ⌝ }
     ensures { λ r. ⌜ r ≡ boundAnswer (systemIn (now (model .entry)) .bound (stateIn (now (model .entry)) (now (state .entry)))) ⌝ }
 {
-    let count = word_at(outline, 6) as usize;
+    let count = word_at(outline, BOUND_COUNT) as usize;
     let mut h: u64 = 0;
     let mut k: usize = 0;
     while k < count {
-        let at = word_at(outline, 416 + k) as usize;
+        let at = word_at(outline, BOUNDS + k) as usize;
         match number_at(model, at, outline, state) {
             NumberValue::Value(z, _) => {
                 h = raise(h, z);

@@ -10,9 +10,11 @@ ghost use Rattle.steps.specs.Held.{Outlined, Held, stateIn};
 ghost use Rattle.steps.specs.Follow.{costsIn, followIn, movedOn, finished, TurnIs, CheckedIs};
 use crate::answers::Checked;
 use crate::answers::MoveAnswer;
+use crate::answers::NOT_A_PLAN;
 use crate::answers::StatusAnswer;
 use crate::answers::TurnAnswer;
 use crate::conditions::status;
+use crate::layout::RULE;
 use crate::moves::step;
 use crate::states::start;
 use outline::word_at;
@@ -22,7 +24,7 @@ pub fn combine(model: &[u8], outline: &[u64], g: u64, c: u64) -> u64
     requires { ⌜ Outlined (now model) (now outline) × (g + c < 2 ^ 64) ⌝ }
     ensures { λ r. ⌜ r ≡ costsIn (now (model .entry)) .combine g c ⌝ }
 {
-    if word_at(outline, 0) == 0 {
+    if word_at(outline, RULE) == 0 {
         return g + c;
     }
     if g < c { c } else { g }
@@ -41,7 +43,7 @@ fn move_on(
     ensures { λ r. ⌜ TurnIs (now (model .entry)) (movedOn (now (model .entry)) (stateIn (now (model .entry)) (now (state .entry))) t g) (now (child .exit)) g r ⌝ }
 {
     match step(model, outline, state, t as usize, child) {
-        MoveAnswer::Blocked => TurnAnswer::Ended(14),
+        MoveAnswer::Blocked => TurnAnswer::Ended(NOT_A_PLAN),
         MoveAnswer::Moved(c) => TurnAnswer::On(combine(model, outline, g, c)),
         MoveAnswer::Before(n) => TurnAnswer::Ended(n),
         MoveAnswer::After(_, n) => TurnAnswer::Ended(n),
@@ -61,7 +63,7 @@ fn turn(
     ensures { λ r. ⌜ TurnIs (now (model .entry)) (λ plan. followIn (now (model .entry)) (t ∷ plan) (stateIn (now (model .entry)) (now (state .entry))) g) (now (child .exit)) g r ⌝ }
 {
     match status(model, outline, state) {
-        StatusAnswer::Base => TurnAnswer::Ended(14),
+        StatusAnswer::Base => TurnAnswer::Ended(NOT_A_PLAN),
         StatusAnswer::Unfinished => move_on(model, outline, state, t, g, child),
         StatusAnswer::Trouble(n) => TurnAnswer::Ended(n),
     }
@@ -75,7 +77,7 @@ fn finish(model: &[u8], outline: &[u64], state: &[u64], g: u64) -> Checked
     match status(model, outline, state) {
         StatusAnswer::Base => Checked { answer: 0, cost: g },
         StatusAnswer::Unfinished => Checked {
-            answer: 14,
+            answer: NOT_A_PLAN,
             cost: 0,
         },
         StatusAnswer::Trouble(n) => Checked { answer: n, cost: 0 },

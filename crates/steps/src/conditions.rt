@@ -9,6 +9,10 @@ ghost use Rattle.steps.specs.Answers.{heldAnswer, statusAnswer};
 ghost use Rattle.steps.specs.Says.{HeldSays};
 use crate::answers::HeldAnswer;
 use crate::answers::StatusAnswer;
+use crate::layout::BASE_CASE_COUNT;
+use crate::layout::BASE_CASES;
+use crate::layout::CONSTRAINT_COUNT;
+use crate::layout::CONSTRAINTS;
 use crate::parts::byte_at;
 use crate::parts::condition_at;
 use evaluator::answers::ConditionValue;
@@ -40,10 +44,10 @@ pub fn constraints_hold(model: &[u8], outline: &[u64], state: &[u64]) -> HeldAns
     requires { ⌜ Outlined (now model) (now outline) ⌝ }
     ensures { λ r. ⌜ r ≡ heldAnswer (allHold rangeEnd (modelOf (now (model .entry)) .tables) (modelOf (now (model .entry)) .constraints) (stateIn (now (model .entry)) (now (state .entry)))) 0 ⌝ }
 {
-    let count = word_at(outline, 5) as usize;
+    let count = word_at(outline, CONSTRAINT_COUNT) as usize;
     let mut k: usize = 0;
     while k < count {
-        let at = word_at(outline, 384 + k) as usize;
+        let at = word_at(outline, CONSTRAINTS + k) as usize;
         match condition_at(model, at, outline, state) {
             ConditionValue::Holds(holds, _) => {
                 if holds {
@@ -63,10 +67,10 @@ pub fn status(model: &[u8], outline: &[u64], state: &[u64]) -> StatusAnswer
     requires { ⌜ Outlined (now model) (now outline) ⌝ }
     ensures { λ r. ⌜ r ≡ statusAnswer (systemIn (now (model .entry)) .status (stateIn (now (model .entry)) (now (state .entry)))) ⌝ }
 {
-    let count = word_at(outline, 4) as usize;
+    let count = word_at(outline, BASE_CASE_COUNT) as usize;
     let mut k: usize = 0;
     while k < count {
-        let at = word_at(outline, 368 + k) as usize;
+        let at = word_at(outline, BASE_CASES + k) as usize;
         match conditions_hold(model, at, outline, state) {
             HeldAnswer::All(_) => return StatusAnswer::Base,
             HeldAnswer::Fails => {

@@ -9,15 +9,19 @@ ghost use Rattle.model.specs.Steps as steps;
 ghost use Rattle.outline.specs.Outline.{modelOf};
 ghost use Rattle.steps.specs.Held.{Outlined, Held, stateIn};
 ghost use Rattle.steps.specs.Answers.{moveAnswer};
-ghost use Rattle.steps.specs.Says.{CostSays, CostWithin, NumberWordSays, WordSays, WordWithin, EffectsRead, EffectsSays, TakenRead, TakenSays, TransitionRead, AttemptSays, MoveSays};
+ghost use Rattle.steps.specs.Says.{CostSays, CostWithin, NumberWordSays, WordSays, WordWithin, EffectsRead, EffectsSays, TakenRead, TakenSays, TransitionRead, AttemptSays, Tried, MoveSays};
 use crate::answers::AttemptAnswer;
 use crate::answers::CostAnswer;
 use crate::answers::EffectsAnswer;
 use crate::answers::HeldAnswer;
 use crate::answers::MoveAnswer;
+use crate::answers::NEGATIVE_COST;
 use crate::answers::WordAnswer;
 use crate::conditions::conditions_hold;
 use crate::conditions::constraints_hold;
+use crate::layout::KINDS;
+use crate::layout::TRANSITION_COUNT;
+use crate::layout::TRANSITIONS;
 use crate::parts::byte_at;
 use crate::parts::element_at;
 use crate::parts::number_at;
@@ -35,7 +39,7 @@ fn cost_at(model: &[u8], at: usize, outline: &[u64], state: &[u64]) -> CostAnswe
     match number_at(model, at, outline, state) {
         NumberValue::Value(z, used) => {
             if z < 0 {
-                return CostAnswer::Trouble(13);
+                return CostAnswer::Trouble(NEGATIVE_COST);
             }
             CostAnswer::Cost(z as u64, used)
         }
@@ -59,7 +63,7 @@ fn word_for(model: &[u8], at: usize, outline: &[u64], state: &[u64], v: usize) -
     requires { ⌜ Outlined (now model) (now outline) × (at ≤ length (now model)) × (v < 16) ⌝ }
     ensures { λ r. ⌜ WordSays (now (model .entry)) at (now (state .entry)) v r × WordWithin (length (now (model .entry)) - at) r ⌝ }
 {
-    let kind = word_at(outline, 16 + v);
+    let kind = word_at(outline, KINDS + v);
     if kind == 0 {
         return number_word(model, at, outline, state);
     }
@@ -143,18 +147,34 @@ fn constrained(model: &[u8], outline: &[u64], child: &[u64], cost: u64) -> MoveA
     }
 }
 
+// The move that was tried: where it is taken, the new state has to meet the constraints.
+fn settle(
+    model: &[u8],
+    outline: &[u64],
+    state: &[u64],
+    t: usize,
+    child: &[u64],
+    tried: AttemptAnswer,
+) -> MoveAnswer
+    requires { ⌜ Outlined (now model) (now outline) × Tried (now model) (now state) t (now child) tried ⌝ }
+    ensures { λ r. ⌜ MoveSays (now (model .entry)) (now (state .entry)) t (now (child .entry)) r ⌝ }
+{
+    match tried {
+        AttemptAnswer::NotTaken => MoveAnswer::Blocked,
+        AttemptAnswer::Taken(cost) => constrained(model, outline, child, cost),
+        AttemptAnswer::Trouble(n) => MoveAnswer::Before(n),
+    }
+}
+
 // Tries transition t in a state, and writes the new state's words. A number that is not declared is blocked.
 pub fn step(model: &[u8], outline: &[u64], state: &[u64], t: usize, child: &mut [u64]) -> MoveAnswer
     requires { ⌜ Outlined (now model) (now outline) × Held (now state) × Held (now child) ⌝ }
     ensures { λ r. ⌜ MoveSays (now (model .entry)) (now (state .entry)) t (now (child .exit)) r ⌝ }
 {
-    if word_at(outline, 3) as usize <= t {
+    if word_at(outline, TRANSITION_COUNT) as usize <= t {
         return MoveAnswer::Blocked;
     }
-    let at = word_at(outline, 112 + t) as usize;
-    match attempt(model, at, outline, state, child) {
-        AttemptAnswer::NotTaken => MoveAnswer::Blocked,
-        AttemptAnswer::Taken(cost) => constrained(model, outline, child, cost),
-        AttemptAnswer::Trouble(t) => MoveAnswer::Before(t),
-    }
+    let at = word_at(outline, TRANSITIONS + t) as usize;
+    let tried = attempt(model, at, outline, state, child);
+    settle(model, outline, state, t, child, tried)
 }

@@ -6,6 +6,8 @@ ghost use lib.ListN.{length, getD};
 ghost use Rattle.evaluator.specs.Bounds.{NumberWithin, ConditionWithin};
 ghost use Rattle.steps.specs.Held.{Outlined};
 ghost use Rattle.steps.specs.Says.{ConditionSays, NumberSays, ElementSays, SetSays};
+use crate::layout::FULL_SETS;
+use crate::layout::TABLES;
 use evaluator::answers::ConditionValue;
 use evaluator::answers::ElementValue;
 use evaluator::answers::NumberValue;
@@ -31,8 +33,8 @@ pub fn condition_at(model: &[u8], at: usize, outline: &[u64], state: &[u64]) -> 
         &model[at..],
         model,
         state,
-        &outline[64..],
-        &outline[80..],
+        &outline[FULL_SETS..],
+        &outline[TABLES..],
         32,
     )
 }
@@ -46,8 +48,8 @@ pub fn number_at(model: &[u8], at: usize, outline: &[u64], state: &[u64]) -> Num
         &model[at..],
         model,
         state,
-        &outline[64..],
-        &outline[80..],
+        &outline[FULL_SETS..],
+        &outline[TABLES..],
         32,
     )
 }
@@ -65,5 +67,5 @@ pub fn set_at(model: &[u8], at: usize, outline: &[u64], state: &[u64]) -> SetVal
     requires { ⌜ Outlined (now model) (now outline) × (at ≤ length (now model)) ⌝ }
     ensures { λ r. ⌜ SetSays (now (model .entry)) at (now (state .entry)) r × (r .used ≤ length (now (model .entry)) - at) ⌝ }
 {
-    set(&model[at..], state, &outline[64..], 32)
+    set(&model[at..], state, &outline[FULL_SETS..], 32)
 }

@@ -2,12 +2,16 @@
 
 ghost use mathlib.Core.Path.{_≡_};
 ghost use mathlib.Core.List.{_++_};
-ghost use Prim.Native.Nat.{_≤_, _<_};
-ghost use lib.ListN.{length, take, drop};
+ghost use Prim.Native.Nat.{_<_};
+ghost use lib.ListN.{take, drop};
 ghost use Rattle.model.specs.Steps.{target};
 ghost use Rattle.outline.specs.Outline.{modelOf};
 ghost use Rattle.steps.specs.Held.{Outlined, Held, stateIn, systemIn};
 ghost use Rattle.steps.specs.Order.{comparedWord, noWorseBy, noWorseAt};
+use crate::layout::KINDS;
+use crate::layout::PREFERENCES;
+use crate::layout::STARTS;
+use crate::layout::VARIABLE_COUNT;
 use outline::word_at;
 
 // Copies the words of a state.
@@ -27,7 +31,7 @@ pub fn start(model: &[u8], outline: &[u64], state: &mut [u64])
     requires { ⌜ Outlined (now model) (now outline) × Held (now state) ⌝ }
     ensures { λ r. ⌜ stateIn (now (model .entry)) (now (state .exit)) ≡ target (modelOf (now (model .entry))) ⌝ }
 {
-    copy_state(&outline[48..], state);
+    copy_state(&outline[STARTS..], state);
 }
 
 // What is compared of a word, by the byte of its variable's kind.
@@ -61,8 +65,8 @@ fn no_worse_at(outline: &[u64], v: usize, t: &[u64], s: &[u64]) -> bool
     requires { ⌜ v < 16 ⌝ }
     ensures { λ r. ⌜ r ≡ noWorseAt (now (outline .entry)) v (now (t .entry)) (now (s .entry)) ⌝ }
 {
-    let kind = word_at(outline, 16 + v);
-    let preference = word_at(outline, 32 + v);
+    let kind = word_at(outline, KINDS + v);
+    let preference = word_at(outline, PREFERENCES + v);
     no_worse_by(
         preference,
         compared_word(kind, word_at(t, v)),
@@ -75,7 +79,7 @@ pub fn dominates(model: &[u8], outline: &[u64], t: &[u64], s: &[u64]) -> bool
     requires { ⌜ Outlined (now model) (now outline) ⌝ }
     ensures { λ r. ⌜ r ≡ systemIn (now (model .entry)) .dominates (stateIn (now (model .entry)) (now (t .entry))) (stateIn (now (model .entry)) (now (s .entry))) ⌝ }
 {
-    let count = word_at(outline, 1) as usize;
+    let count = word_at(outline, VARIABLE_COUNT) as usize;
     let mut v: usize = 0;
     while v < count {
         if no_worse_at(outline, v, t, s) {

@@ -1,3 +1,4 @@
+-- `steps::bounds::bound` meets its contract. The invariant: h is the greatest of 0 and the bounds passed.
 use Rattle.steps.proofs.Signs.{range-fits}
 use Rattle.words.proofs.Integers.{back}
 -- `steps::bounds::bound` meets its contract. The invariant: h is the greatest of 0 and the bounds passed.

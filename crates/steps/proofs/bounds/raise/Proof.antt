@@ -1,7 +1,7 @@
+-- `steps::bounds::raise` meets its contract.
 use Rattle.words.proofs.Integers.{back}
 use Rattle.steps.proofs.Signs.{unsigned-cast, raise-low, raise-high, raise-keeps}
 -- `steps::bounds::raise` meets its contract.
-use borrow.Author.Needs.{needs}
 use Rattle.steps.proofs.bounds.raise.Statement.{statement}
 use Rattle.steps.proofs.bounds.raise.Tie as tie
 

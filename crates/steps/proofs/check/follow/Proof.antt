@@ -3,7 +3,7 @@ use Rattle.steps.proofs.Following.{Followed, followed-first, cost-small
 use lib.ListN.{length}
 use native.Mathlib.Omega.{arith}
 use mathlib.Core.Path.{refl, _≡_, sym}
-use Prim.Native.Nat.{_-_, _<_}
+use Prim.Native.Nat.{_-_}
 use borrow.Author.Needs.{needs}
 use Rattle.steps.proofs.check.follow.Statement.{statement}
 use Rattle.steps.proofs.check.follow.Tie as tie

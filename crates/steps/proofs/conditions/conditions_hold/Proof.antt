@@ -2,9 +2,8 @@
 use Rattle.steps.proofs.Holding.{Trying, byte-inside, holds-within, trying-first, trying-more, trying-fails, trying-troubles, trying-last, inside}
 use lib.ListN.{length}
 use native.Mathlib.Omega.{arith}
-use mathlib.Core.Bool.{true, false}
-use mathlib.Core.Path.{_≡_, sym, _∙_}
-use Prim.Native.Nat.{_-_, _<_}
+use mathlib.Core.Path.{sym, _∙_}
+use Prim.Native.Nat.{_-_}
 use borrow.Author.Needs.{needs}
 use Rattle.steps.proofs.conditions.conditions_hold.Statement.{statement}
 use Rattle.steps.proofs.conditions.conditions_hold.Tie as tie

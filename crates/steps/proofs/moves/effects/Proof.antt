@@ -4,7 +4,7 @@ use Rattle.steps.proofs.Holding.{byte-inside}
 use lib.ListN.{length}
 use native.Mathlib.Omega.{arith}
 use mathlib.Core.Path.{sym, _∙_}
-use Prim.Native.Nat.{_-_, _<_}
+use Prim.Native.Nat.{_-_}
 use borrow.Author.Needs.{needs}
 use Rattle.steps.proofs.moves.effects.Statement.{statement}
 use Rattle.steps.proofs.moves.effects.Tie as tie

@@ -4,7 +4,7 @@ use Rattle.steps.proofs.Writing.{cost-within}
 use Rattle.steps.proofs.Outlined.{copied-state}
 use Rattle.steps.specs.Held.{stateIn}
 use native.Mathlib.Omega.{arith}
-use mathlib.Core.Path.{ap, sym, _∙_}
+use mathlib.Core.Path.{ap, _∙_}
 use borrow.Author.Needs.{needs}
 use Rattle.steps.proofs.moves.take.Statement.{statement}
 use Rattle.steps.proofs.moves.take.Tie as tie

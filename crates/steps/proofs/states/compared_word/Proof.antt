@@ -1,7 +1,6 @@
 -- `steps::states::compared_word` meets its contract.
 use Rattle.steps.specs.Order.{comparedWord}
 use borrow.Author.Tests.{eq-eqb, ne-eqb, le-leb, lt-leb}
-use borrow.Author.Needs.{needs}
 use Rattle.steps.proofs.states.compared_word.Statement.{statement}
 use Rattle.steps.proofs.states.compared_word.Tie as tie
 

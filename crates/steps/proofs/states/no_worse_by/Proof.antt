@@ -1,7 +1,6 @@
 -- `steps::states::no_worse_by` meets its contract.
 use Rattle.steps.specs.Order.{noWorseBy}
 use borrow.Author.Tests.{eq-eqb, ne-eqb}
-use borrow.Author.Needs.{needs}
 use Rattle.steps.proofs.states.no_worse_by.Statement.{statement}
 use Rattle.steps.proofs.states.no_worse_by.Tie as tie
 

@@ -3,9 +3,7 @@ use Rattle.steps.proofs.Outlined.{start-state}
 use Rattle.steps.specs.Held.{stateIn}
 use Rattle.words.proofs.Literal.{suffix}
 use native.Mathlib.Omega.{arith}
-use lib.ListN.{take, drop, length, length-take, length-drop}
-use Prim.Native.Nat.{ℕ}
-use mathlib.Core.List.{List, _++_}
+use lib.ListN.{length-take, length-drop}
 use mathlib.Core.Path.{ap, _∙_}
 use borrow.Author.Needs.{needs}
 use Rattle.steps.proofs.states.start.Statement.{statement}

@@ -1,0 +1,38 @@
+-- `steps::moves::settle` meets its contract.
+use Rattle.steps.proofs.Moving.{move-blocked, move-before, move-after}
+use borrow.Author.Needs.{needs}
+use Rattle.steps.proofs.moves.settle.Statement.{statement}
+use Rattle.steps.proofs.moves.settle.Tie as tie
+
+enum-told : tie.Need-enum-told
+enum-told c = search needs
+
+enum-known-tried : tie.Need-enum-known-tried
+enum-known-tried c = search needs
+
+constrained-requires : tie.Need-constrained-requires
+constrained-requires c κs = search needs
+
+enum-known-tried-2 : tie.Need-enum-known-tried-2
+enum-known-tried-2 c = search needs
+
+returns : tie.Need-returns
+returns c = move-blocked _ _ _ _ _ (c .before .before .before .before .before .before .pre .1) (c .enum-told .given .1)
+
+returns-2 : tie.Need-returns-2
+returns-2 c = move-after _ _ _ _ _ (c .before .before .before .before .before .before .before .before .pre .1) (c .before .before .tried .given .1) _ (c .constrained .ensures)
+
+returns-3 : tie.Need-returns-3
+returns-3 c = move-before _ _ _ _ _ (c .before .before .before .before .before .before .before .pre .1) (c .before .tried2 .given .1)
+
+pub settle-spec : {M : Type 1} → statement M
+settle-spec =
+    tie.close
+    (tie.spec
+    enum-told
+    enum-known-tried
+    constrained-requires
+    enum-known-tried-2
+    returns
+    returns-2
+    returns-3)

@@ -1,0 +1,33 @@
+// Which word of the outline holds what, as specs/Outline of the crate `outline` has it.
+
+pub const RULE: usize = 0;
+
+// How many there are.
+pub const VARIABLE_COUNT: usize = 1;
+
+pub const TRANSITION_COUNT: usize = 3;
+
+pub const BASE_CASE_COUNT: usize = 4;
+
+pub const CONSTRAINT_COUNT: usize = 5;
+
+pub const BOUND_COUNT: usize = 6;
+
+// Where the words of each begin.
+pub const KINDS: usize = 16;
+
+pub const PREFERENCES: usize = 32;
+
+pub const STARTS: usize = 48;
+
+pub const FULL_SETS: usize = 64;
+
+pub const TABLES: usize = 80;
+
+pub const TRANSITIONS: usize = 112;
+
+pub const BASE_CASES: usize = 368;
+
+pub const CONSTRAINTS: usize = 384;
+
+pub const BOUNDS: usize = 416;
