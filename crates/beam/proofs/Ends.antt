@@ -1,0 +1,129 @@
+-- The layer's end: those with f below the best stand first, and the least f is the first one's.
+use Prim.Native.Nat.{ℕ, zero, suc, _+_, _*_, _-_, _≤_, _<_}
+use mathlib.Core.Path.{_≡_, refl, sym, ap, _∙_}
+use mathlib.Core.Bool.{Bool, true, false, cond, not}
+use mathlib.Core.List.{List, [], _∷_, map}
+use mathlib.Core.Option.{some, none}
+use native.Mathlib.Omega.{arith}
+use borrow.Author.Tests.{lt-ltb, le-ltb, le-leb}
+use lib.Dec.{ltb, leb}
+use lib.ListN.{length, take, getD}
+use lib.Seq.{getD-take, take-take, length-take-le}
+use Rattle.laws.specs.Lists.{filter, All}
+use Rattle.model.specs.System.{System}
+use Rattle.model.specs.Syntax.{Rule, Variable}
+use Rattle.model.specs.Meaning.{State}
+use Rattle.model.specs.Steps.{costsOf}
+use Rattle.search.specs.Search.{Node, Route, less, belowBest, leastF}
+use Rattle.order.specs.Slots.{slotWords, fAt, wordsIn, before, Sorted, more}
+use Rattle.order.specs.Order.{keptIn}
+use Rattle.order.proofs.Arrays.{word-in}
+use Rattle.order.proofs.Ranks.{f-order, sorted-take}
+use Rattle.beam.specs.Nodes.{nodeOf, nodesIn}
+use Rattle.beam.specs.Parts.{Layer}
+use Rattle.beam.proofs.Mapped.{filter-map, filter-same, take-map, not-at-most}
+
+-- ---- a test that the first r pass and the others do not
+
+filter-first : {A : Type 0} (p : A → Bool) (at : ℕ → A) (k : List ℕ) (r : ℕ) → r ≤ length k → ((i : ℕ) → i < r → p (at (getD k i 0)) ≡ true) → ((i : ℕ) → r ≤ i → i < length k → p (at (getD k i 0)) ≡ false)
+    → filter p (map at k) ≡ map at (take r k)
+unfolding filter
+filter-first p at [] zero h yes-first no-rest = refl
+filter-first p at [] (suc r) h yes-first no-rest = absurd (omega arith)
+filter-first p at (x ∷ k) zero h yes-first no-rest =
+    rw (no-rest 0 (omega arith) (omega arith)) (filter-first p at k zero (omega arith) (λ i l. absurd (omega arith)) (λ i a l. no-rest (suc i) (omega arith) (omega arith)))
+filter-first {A} p at (x ∷ k) (suc r) h yes-first no-rest =
+    rw (yes-first 0 (omega arith)) (ap (λ (l : List A). at x ∷ l) (filter-first p at k r (omega arith) (λ i l. yes-first (suc i) (omega arith)) (λ i a l. no-rest (suc i) (omega arith) (omega arith))))
+
+-- ---- f rises along a layer
+
+f-first : (m : List ℕ) (at : ℕ → List ℕ) (k : List ℕ) (j : ℕ) → All (λ n. before n m ≡ false) (map at k) → j < length k → getD m fAt 0 ≤ getD (at (getD k j 0)) fAt 0
+f-first m at [] j a h = absurd (omega arith)
+f-first m at (x ∷ k) zero a h = f-order m (at x) (a .0)
+f-first m at (x ∷ k) (suc j) a h = f-first m at k j (a .1) (omega arith)
+
+f-rises : (at : ℕ → List ℕ) (k : List ℕ) (i j : ℕ) → Sorted (map at k) → i ≤ j → j < length k → getD (at (getD k i 0)) fAt 0 ≤ getD (at (getD k j 0)) fAt 0
+f-rises at [] i j s l h = absurd (omega arith)
+f-rises at (x ∷ k) zero zero (more a s) l h = omega arith
+f-rises at (x ∷ k) zero (suc j) (more a s) l h = f-first (at x) at k j a (omega arith)
+f-rises at (x ∷ k) (suc i) zero (more a s) l h = absurd (omega arith)
+f-rises at (x ∷ k) (suc i) (suc j) (more a s) l h = f-rises at k i j s (omega arith) (omega arith)
+
+-- rule 6 over two lists
+pub record Below (w n count best : ℕ) (slots order : List ℕ) : Type 0 where
+  pub fewer : count ≤ n
+  pub layer : Layer w count slots order
+  pub left : (rule : Rule) (M : System State ℕ) (vs : List Variable) (parentPath : ℕ → List ℕ) (b : Route ℕ) → b .cost ≡ best
+      → nodesIn vs parentPath slots order count ≡ filter (λ m. belowBest (costsOf rule) M (m .f) (some b)) (nodesIn vs parentPath slots order n)
+
+module _ {w n : ℕ} {slots order : List ℕ} (la : Layer w n slots order) where
+  long : length (take n order) ≡ n
+  long = length-take-le n order (la .inside .room)
+
+  -- the f at a place
+  f-at : (i : ℕ) → i < n → getD (wordsIn slots (getD (take n order) i 0)) fAt 0 ≡ getD slots (getD order i 0 * slotWords + fAt) 0
+  f-at i h = ap (λ (s : ℕ). getD (wordsIn slots s) fAt 0) (getD-take n order i 0 h) ∙ word-in slots (getD order i 0) fAt (omega arith)
+
+  f-up : (i j : ℕ) → i ≤ j → j < n → getD slots (getD order i 0 * slotWords + fAt) 0 ≤ getD slots (getD order j 0 * slotWords + fAt) 0
+  f-up i j l h =
+      let s : Sorted (map (wordsIn slots) (take n order)) = unfold keptIn in la .sorted in
+      omega (arith, f-rises (wordsIn slots) (take n order) i j s l (omega (arith, long)), f-at i (omega arith), f-at j h)
+
+  -- the first r have an f below the best, the others have not
+  pub ends-at : (r best : ℕ) → r ≤ n → ((i : ℕ) → i < r → getD slots (getD order i 0 * slotWords + fAt) 0 < best) → ((i : ℕ) → r ≤ i → i < n → best ≤ getD slots (getD order i 0 * slotWords + fAt) 0) → Below w n r best slots order
+  ends-at r best h low high =
+      record {
+        fewer = h;
+        layer = record { slots-long = la .slots-long; inside = record { room = omega (arith, la .inside .room); each = λ i l. la .inside .each i (omega arith) }; sorted = shorter };
+        left = λ rule M vs path b e. sym (selected rule M vs path b e);
+      }
+    where
+      first : take r (take n order) ≡ take r order
+      first = take-take r n order h
+
+      kept-first : keptIn slots order r ≡ take r (keptIn slots order n)
+      kept-first = unfold keptIn in ap (map (wordsIn slots)) (sym first) ∙ sym (take-map (wordsIn slots) r (take n order))
+
+      shorter : Sorted (keptIn slots order r)
+      shorter = rw kept-first (sorted-take r (keptIn slots order n) (la .sorted))
+
+      below : List ℕ → Bool
+      below m = ltb (getD m fAt 0) best
+
+      words-left : filter below (keptIn slots order n) ≡ keptIn slots order r
+      words-left =
+          unfold keptIn in
+          filter-first below (wordsIn slots) (take n order) r (omega (arith, long))
+          (λ i l. lt-ltb _ best (rw (f-at i (omega arith)) (low i l)))
+          (λ i a l. let z : i < n = omega (arith, long) in le-ltb _ best (rw (f-at i z) (high i a z)))
+          ∙ ap (map (wordsIn slots)) first
+
+      selected : (rule : Rule) (M : System State ℕ) (vs : List Variable) (path : ℕ → List ℕ) (b : Route ℕ) → b .cost ≡ best
+          → filter (λ m. belowBest (costsOf rule) M (m .f) (some b)) (nodesIn vs path slots order n) ≡ nodesIn vs path slots order r
+      selected rule M vs path b e =
+          unfold nodesIn in
+          filter-map (nodeOf vs path) (λ m. belowBest (costsOf rule) M (m .f) (some b)) (keptIn slots order n)
+          ∙ ap (map (nodeOf vs path)) (filter-same (λ m. belowBest (costsOf rule) M (nodeOf vs path m .f) (some b)) below (keptIn slots order n) (λ m. unfold belowBest less costsOf nodeOf in rw e (not-at-most (getD m fAt 0) best)) ∙ words-left)
+
+  -- where the one before place r is below the best, all before it are
+  pub low-before : (r best : ℕ) → 0 < r → r ≤ n → getD slots (getD order (r - 1) 0 * slotWords + fAt) 0 < best → (i : ℕ) → i < r → getD slots (getD order i 0 * slotWords + fAt) 0 < best
+  low-before r best pos h l i k = omega (arith, f-up i (r - 1) (omega arith) (omega arith))
+
+-- without a best all are left
+pub filter-no-best : (rule : Rule) (M : System State ℕ) (l : List (Node State ℕ)) → filter (λ m. belowBest (costsOf rule) M (m .f) none) l ≡ l
+unfolding filter belowBest
+filter-no-best rule M [] = refl
+filter-no-best rule M (x ∷ l) = ap (λ (m : List (Node State ℕ)). x ∷ m) (filter-no-best rule M l)
+
+-- ---- the least f
+
+least-of : (rule : Rule) (M : System State ℕ) (vs : List Variable) (path : ℕ → List ℕ) (m : List ℕ) (l : List (List ℕ)) → All (λ n. before n m ≡ false) l → leastF (costsOf rule) M (getD m fAt 0) (map (nodeOf vs path) l) ≡ getD m fAt 0
+unfolding leastF costsOf nodeOf
+least-of rule M vs path m [] a = refl
+least-of rule M vs path m (x ∷ l) a =
+    let e : cond (leb (getD m fAt 0) (getD x fAt 0)) (getD m fAt 0) (getD x fAt 0) ≡ getD m fAt 0 = rw (le-leb (getD m fAt 0) (getD x fAt 0) (f-order m x (a .0))) in
+    ap (λ (k : ℕ). leastF (costsOf rule) M k (map (nodeOf vs path) l)) e ∙ least-of rule M vs path m l (a .1)
+
+-- of a layer in order the least f is that of the first
+pub least-first : (rule : Rule) (M : System State ℕ) (vs : List Variable) (path : ℕ → List ℕ) (m : List ℕ) (l : List (List ℕ)) → Sorted (m ∷ l) → leastF (costsOf rule) M (nodeOf vs path m .f) (map (nodeOf vs path) l) ≡ getD m fAt 0
+least-first rule M vs path m l (more a s) = unfold nodeOf in least-of rule M vs path m l a

@@ -1,0 +1,192 @@
+-- Lists of words as lists of nodes: the definition's tests, placing, filtering and cutting on nodes are those on their words.
+use Prim.Native.Nat.{ℕ, zero, suc, _+_, _≤_, _<_}
+use mathlib.Core.Path.{_≡_, refl, sym, ap, _∙_}
+use mathlib.Core.Bool.{Bool, true, false, cond, not, _&&_, _||_}
+use mathlib.Core.List.{List, [], _∷_, _++_, map, dropLast}
+use native.Mathlib.Omega.{arith}
+use borrow.Author.Tests.{ltb-true, ltb-false, le-leb, lt-leb}
+use lib.Dec.{ltb, leb}
+use lib.ListN.{length, getD, take, length-map}
+use Rattle.laws.specs.Lists.{any, filter}
+use Rattle.laws.proofs.Bools.{or-neither}
+use Rattle.model.specs.System.{Costs, System}
+use Rattle.model.specs.Syntax.{Rule, Variable}
+use Rattle.model.specs.Meaning.{State}
+use Rattle.model.specs.Steps.{noneWorse, systemOf, costsOf}
+use Rattle.words.specs.States.{stateOf}
+use Rattle.outline.specs.Outline.{modelOf}
+use Rattle.steps.specs.Held.{systemIn, stateIn}
+use Rattle.search.specs.Search.{Node, Round, less, before as before·node, place, beats as beats·node, cut, insert}
+use Rattle.order.specs.Slots.{gAt, hAt, fAt, earlier, before, placed}
+use Rattle.order.specs.Order.{without}
+use Rattle.beam.specs.Nodes.{stateWords, nodeOf, beats}
+use Rattle.beam.specs.Held.{roundWith}
+
+-- ---- any list
+
+module _ {A B : Type 0} (f : A → B) where
+  pub any-map : (p : B → Bool) (l : List A) → any p (map f l) ≡ any (λ x. p (f x)) l
+  unfolding any
+  any-map p [] = refl
+  any-map p (x ∷ l) = ap (λ (t : Bool). p (f x) || t) (any-map p l)
+
+  pub filter-map : (p : B → Bool) (l : List A) → filter p (map f l) ≡ map f (filter (λ x. p (f x)) l)
+  unfolding filter
+  filter-map p [] = refl
+  filter-map p (x ∷ l) = rw (filter-map p l) (by-test (p (f x)))
+    where
+      by-test : (t : Bool) → cond t (f x ∷ map f (filter (λ y. p (f y)) l)) (map f (filter (λ y. p (f y)) l)) ≡ map f (cond t (x ∷ filter (λ y. p (f y)) l) (filter (λ y. p (f y)) l))
+      by-test true = refl
+      by-test false = refl
+
+  pub map-append : (a b : List A) → map f (a ++ b) ≡ map f a ++ map f b
+  map-append [] b = refl
+  map-append (x ∷ a) b = ap (λ (l : List B). f x ∷ l) (map-append a b)
+
+  pub cut-map : (l : List A) → dropLast (map f l) ≡ map f (dropLast l)
+  cut-map [] = refl
+  cut-map (x ∷ []) = refl
+  cut-map (x ∷ y ∷ l) = ap (λ (m : List B). f x ∷ m) (cut-map (y ∷ l))
+
+  pub take-map : (n : ℕ) (l : List A) → take n (map f l) ≡ map f (take n l)
+  take-map zero l = refl
+  take-map (suc n) [] = refl
+  take-map (suc n) (x ∷ l) = ap (λ (m : List B). f x ∷ m) (take-map n l)
+
+module _ {A : Type 0} where
+  pub filter-same : (p q : A → Bool) (l : List A) → ((x : A) → p x ≡ q x) → filter p l ≡ filter q l
+  unfolding filter
+  filter-same p q [] e = refl
+  filter-same p q (x ∷ l) e = rw (e x, filter-same p q l e)
+
+  pub any-same : (p q : A → Bool) (l : List A) → ((x : A) → p x ≡ q x) → any p l ≡ any q l
+  unfolding any
+  any-same p q [] e = refl
+  any-same p q (x ∷ l) e = rw (e x, any-same p q l e)
+
+  -- none fails: all stay
+  pub filter-all : (p : A → Bool) (l : List A) → any p l ≡ false → filter (λ m. not (p m)) l ≡ l
+  unfolding filter any
+  filter-all p [] e = refl
+  filter-all p (x ∷ l) e =
+      let r = or-neither (p x) (any p l) e in
+      rw (r .0) (ap (λ (m : List A). x ∷ m) (filter-all p l (r .1)))
+
+-- one that fails is missing
+pub filter-without : {A : Type 0} (q : A → Bool) (at : ℕ → A) (p : ℕ) (k : List ℕ) → p < length k → q (at (getD k p 0)) ≡ false → filter q (without p (map at k)) ≡ filter q (map at k)
+unfolding filter without
+filter-without q at p [] h e = absurd (omega arith)
+filter-without q at zero (x ∷ k) h e = rw e
+filter-without {A} q at (suc p) (x ∷ k) h e = by-test (q (at x)) (filter-without q at p k (omega arith) e)
+  where
+    by-test : (t : Bool) → filter q (without p (map at k)) ≡ filter q (map at k) → cond t (at x ∷ filter q (without p (map at k))) (filter q (without p (map at k))) ≡ cond t (at x ∷ filter q (map at k)) (filter q (map at k))
+    by-test true r = ap (λ (l : List A). at x ∷ l) r
+    by-test false r = r
+
+-- ---- tests
+
+-- "less" is the words' test
+pub not-at-most : (a b : ℕ) → not (leb b a) ≡ ltb a b
+not-at-most a b = by-test (ltb a b) refl
+  where
+    by-test : (t : Bool) → ltb a b ≡ t → not (leb b a) ≡ t
+    by-test true e = rw (lt-leb b a (ltb-true a b e))
+    by-test false e = rw (le-leb b a (ltb-false a b e))
+
+module _ (rule : Rule) (M : System State ℕ) (vs : List Variable) (parentPath : ℕ → List ℕ) where
+  abbrev K : Costs ℕ
+  K = costsOf rule
+
+  abbrev node : List ℕ → Node State ℕ
+  node = nodeOf vs parentPath
+
+  by-order : (f h f′ h′ : ℕ) → (not (leb f′ f) || (leb f f′ && not (leb h′ h))) ≡ cond (ltb f f′) true (cond (ltb f′ f) false (ltb h h′))
+  by-order f h f′ h′ = rw (not-at-most f f′, not-at-most h h′) (by-tests (ltb f f′) (ltb f′ f) refl)
+    where
+      by-tests : (t u : Bool) → ltb f′ f ≡ u → (t || (leb f f′ && ltb h h′)) ≡ cond t true (cond u false (ltb h h′))
+      by-tests true u e = refl
+      by-tests false true e = rw (lt-leb f f′ (ltb-true f′ f e))
+      by-tests false false e = rw (le-leb f f′ (ltb-false f′ f e))
+
+  pub same-before : (a b : List ℕ) → before·node K M (node a) (node b) ≡ before a b
+  unfolding before·node less costsOf nodeOf earlier
+  same-before a b = by-order (getD a fAt 0) (getD a hAt 0) (getD b fAt 0) (getD b hAt 0)
+
+  pub same-place : (c : List ℕ) (l : List (List ℕ)) → place K M (node c) (map node l) ≡ map node (placed c l)
+  unfolding place placed
+  same-place c [] = refl
+  same-place c (m ∷ l) = rw (same-before c m, same-place c l) (by-test (before c m))
+    where
+      by-test : (t : Bool) → cond t (node c ∷ node m ∷ map node l) (node m ∷ map node (placed c l)) ≡ map node (cond t (c ∷ m ∷ l) (m ∷ placed c l))
+      by-test true = refl
+      by-test false = refl
+
+module _ (bytes : List ℕ) (rule : Rule) (parentPath : ℕ → List ℕ) where
+  abbrev variables : List Variable
+  variables = modelOf bytes .variables
+
+  abbrev at : List ℕ → Node State ℕ
+  at = nodeOf variables parentPath
+
+  pub same-beats : (a b : List ℕ) → beats·node (costsOf rule) (systemIn bytes) (at a) (at b) ≡ beats variables a b
+  unfolding beats·node costsOf systemOf nodeOf beats
+  same-beats a b = refl
+
+  -- ---- rule 5 on words
+
+  abbrev left : (c : List ℕ) (l : List (List ℕ)) → List (List ℕ)
+  left c l = placed c (filter (λ m. not (beats variables c m)) l)
+
+  pub round-same : (r : Round State ℕ) (l : List (Node State ℕ)) → r .kept ≡ l → r ≡ roundWith l false r
+  unfolding roundWith
+  round-same r l e = rw (← e) (ap (λ (t : Bool). record { kept = r .kept; widthMark = t; lengthMark = r .lengthMark; improved = r .improved; progress = r .progress }) (unmarked (r .widthMark)))
+    where
+      unmarked : (t : Bool) → t ≡ (t || false)
+      unmarked true = refl
+      unmarked false = refl
+
+  module _ (w : ℕ) (c : List ℕ) (l : List (List ℕ)) (r : Round State ℕ) (is : r .kept ≡ map at l) where
+    tested : any (λ k. beats·node (costsOf rule) (systemIn bytes) k (at c)) (r .kept) ≡ any (λ m. beats variables m c) l
+    tested = ap (any (λ k. beats·node (costsOf rule) (systemIn bytes) k (at c))) is ∙ any-map at (λ k. beats·node (costsOf rule) (systemIn bytes) k (at c)) l ∙ any-same _ _ l (λ m. same-beats m c)
+
+    placed-left : place (costsOf rule) (systemIn bytes) (at c) (filter (λ k. not (beats·node (costsOf rule) (systemIn bytes) (at c) k)) (r .kept)) ≡ map at (left c l)
+    placed-left =
+        ap (λ (k : List (Node State ℕ)). place (costsOf rule) (systemIn bytes) (at c) (filter (λ x. not (beats·node (costsOf rule) (systemIn bytes) (at c) x)) k)) is
+        ∙ ap (place (costsOf rule) (systemIn bytes) (at c)) (filter-map at (λ x. not (beats·node (costsOf rule) (systemIn bytes) (at c) x)) l ∙ ap (map at) (filter-same _ _ l (λ m. ap not (same-beats c m))))
+        ∙ same-place rule (systemIn bytes) variables parentPath c (filter (λ m. not (beats variables c m)) l)
+
+    -- a kept node beats·node the child
+    pub insert-dropped : any (λ m. beats variables m c) l ≡ true → insert (costsOf rule) (systemIn bytes) w (at c) r ≡ roundWith (map at l) false r
+    unfolding insert
+    insert-dropped e = rw (tested, e) (round-same r (map at l) is)
+
+    -- none does: the child is placed among those that it does not beat, and the last is cut or none
+    pub insert-placed : (marked : Bool) (after : List (List ℕ)) → any (λ m. beats variables m c) l ≡ false → ltb w (length (left c l)) ≡ marked → after ≡ cond marked (dropLast (left c l)) (left c l)
+        → insert (costsOf rule) (systemIn bytes) w (at c) r ≡ roundWith (map at after) marked r
+    unfolding insert cut roundWith
+    insert-placed marked after e m k =
+        let long : ltb w (length (map at (left c l))) ≡ marked = rw (length-map (left c l) at) m in
+        rw (tested, e, placed-left, long, k) (by-mark marked)
+      where
+        by-mark : (t : Bool) → _≡_ {A = Round State ℕ} (record { kept = cond t (dropLast (map at (left c l))) (map at (left c l)); widthMark = r .widthMark || t; lengthMark = r .lengthMark; improved = r .improved; progress = r .progress })
+            (record { kept = map at (cond t (dropLast (left c l)) (left c l)); widthMark = r .widthMark || t; lengthMark = r .lengthMark; improved = r .improved; progress = r .progress })
+        by-mark true = rw (cut-map at (left c l))
+        by-mark false = refl
+
+-- ---- the code's test
+
+pub beats-by : (bytes a b : List ℕ) (r : Bool) → getD a gAt 0 ≤ getD b gAt 0 → r ≡ systemIn bytes .dominates (stateIn bytes (stateWords a)) (stateIn bytes (stateWords b)) → r ≡ beats (modelOf bytes .variables) a b
+unfolding beats systemOf
+beats-by bytes a b r h e = e ∙ rw (le-leb (getD a gAt 0) (getD b gAt 0) h) (sym (both _))
+  where
+    both : (t : Bool) → (t && true) ≡ t
+    both true = refl
+    both false = refl
+
+pub beats-not : (vs : List Variable) (a b : List ℕ) → getD b gAt 0 < getD a gAt 0 → false ≡ beats vs a b
+unfolding beats
+beats-not vs a b h = rw (lt-leb (getD a gAt 0) (getD b gAt 0) h) (sym (neither (noneWorse vs 0 (stateOf vs (stateWords a)) (stateOf vs (stateWords b)))))
+  where
+    neither : (t : Bool) → (t && false) ≡ false
+    neither true = refl
+    neither false = refl

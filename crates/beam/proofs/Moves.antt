@@ -1,0 +1,210 @@
+-- What each move leaves of a layer in one list: the laws of three lists, at its parts.
+use Prim.Native.Nat.{ℕ, _+_, _*_, _-_, _^_, _≤_, _<_}
+use mathlib.Core.Path.{_≡_, refl, sym, ap, subst, _∙_}
+use mathlib.Core.Bool.{Bool, true, false, not}
+use mathlib.Core.List.{List, _++_}
+use native.Mathlib.Omega.{arith}
+use lib.ListN.{length, drop, getD}
+use lib.Seq.{length-take-le, getD-take}
+use Rattle.laws.specs.Lists.{any, filter}
+use Rattle.outline.specs.Outline.{modelOf}
+use Rattle.steps.specs.Held.{Outlined}
+use Rattle.order.specs.Slots.{slotWords, fAt, hAt, wordsIn}
+use Rattle.order.specs.Order.{used, keptIn, inserted, removed, upFrom, earlierAt, Cutoff, FoundBelow}
+use Rattle.links.specs.Links.{Added, Cleared, Found}
+use Rattle.links.specs.Links as L
+use Rattle.beam.specs.Nodes.{stateWords, beats}
+use Rattle.beam.specs.Buckets.{bucketOf}
+use Rattle.beam.specs.Parts.{bucketIn, written, sought, Removed, Placed, SlotRemoved, BeatenRemoved, LastReplaced}
+use Rattle.beam.specs.Parts as P
+use Rattle.beam.specs.Held.{slotsOf, orderOf, linksOf, Held, InsertedInto, Layer, Below, Emptied}
+use Rattle.beam.proofs.Layers.{slot-inside, layer, held-removed, held-placed, emptied}
+use Rattle.beam.proofs.Removals.{slot-found, beaten-none}
+use Rattle.beam.proofs.Cases as C
+use Rattle.beam.proofs.Ends as E
+use Rattle.beam.proofs.Whole.{put, part-length, part-at, Holds, holds, order-lent, links-lent, slots-lent}
+
+module _ (w : ℕ) (words : List ℕ) (long : 26 * w ≤ length words) where
+  pub slots-length : length (slotsOf w words) ≡ 20 * w
+  slots-length = length-take-le (20 * w) words (omega arith)
+
+  pub order-length : length (orderOf w words) ≡ w
+  order-length = part-length (20 * w) (21 * w) words (omega arith) (omega arith) ∙ omega arith
+
+  pub links-length : length (linksOf w words) ≡ 5 * w
+  links-length = part-length (21 * w) (26 * w) words (omega arith) long ∙ omega arith
+
+pub order-at : (w : ℕ) (words : List ℕ) (i : ℕ) → i < w → getD (orderOf w words) i 0 ≡ getD words (20 * w + i) 0
+order-at w words i h = part-at (20 * w) (21 * w) words i (omega arith)
+
+-- ---- a layer that holds parts that are held
+
+pub held-in : {outline : List ℕ} {w n : ℕ} {words slots order links : List ℕ} → Holds w words slots order links → P.Held outline w (4 * w) n slots order links → Held outline w n words
+held-in h p = record { long = h .long; parts = rw (h .slots-in, h .order-in, h .links-in) p }
+
+pub rest-held : {outline : List ℕ} {w n : ℕ} (words words′ : List ℕ) → 26 * w ≤ length words → length words′ ≡ length words → slotsOf w words′ ≡ slotsOf w words
+    → P.Held outline w (4 * w) n (slotsOf w words) (orderOf w words′) (linksOf w words′) → Held outline w n words′
+rest-held words words′ long l e p = held-in (record { long = omega arith; slots-in = e; order-in = refl; links-in = refl }) p
+
+pub layer-of : {outline : List ℕ} {w n : ℕ} {words : List ℕ} → Held outline w n words → Layer w n words
+layer-of h = record { long = h .long; parts = layer (h .parts) }
+
+pub width-positive : {outline : List ℕ} {w n : ℕ} {words : List ℕ} → Held outline w n words → 0 < w
+width-positive h = omega (arith, h .parts .some-bucket)
+
+-- the slot at a place
+pub slot-at : {outline : List ℕ} {w n : ℕ} {words : List ℕ} → Held outline w n words → (p : ℕ) → p < w → getD words (20 * w + p) 0 < w
+slot-at {w = w} {words = words} h p hp = subst (λ (s : ℕ). s < w) (order-at w words p hp) (slot-inside (h .parts) p hp)
+
+-- a used slot is found before the place where a node like its own would go
+pub slot-found-in : {outline : List ℕ} {w n : ℕ} {words : List ℕ} → Held outline w n words → (s end p : ℕ) → s < w → used (orderOf w words) n s ≡ true
+    → Cutoff (earlierAt (slotsOf w words) (orderOf w words) (getD words (s * slotWords + fAt) 0) (getD words (s * slotWords + hAt) 0)) n end → FoundBelow (orderOf w words) end s p
+    → (p < n) × (getD (orderOf w words) p 0 ≡ s)
+slot-found-in {w = w} {n} {words} h s end p hs u cut found =
+    let f : getD (slotsOf w words) (s * slotWords + fAt) 0 ≡ getD words (s * slotWords + fAt) 0 = getD-take (20 * w) words (s * slotWords + fAt) 0 (omega arith) in
+    let g : getD (slotsOf w words) (s * slotWords + hAt) 0 ≡ getD words (s * slotWords + hAt) 0 = getD-take (20 * w) words (s * slotWords + hAt) 0 (omega arith) in
+    let cut₁ : Cutoff (earlierAt (slotsOf w words) (orderOf w words) (getD (slotsOf w words) (s * slotWords + fAt) 0) (getD words (s * slotWords + hAt) 0)) n end =
+    subst (λ (x : ℕ). Cutoff (earlierAt (slotsOf w words) (orderOf w words) x (getD words (s * slotWords + hAt) 0)) n end) (sym f) cut in
+    slot-found (h .parts) s end p u (subst (λ (x : ℕ). Cutoff (earlierAt (slotsOf w words) (orderOf w words) (getD (slotsOf w words) (s * slotWords + fAt) 0) x) n end) (sym g) cut₁) found
+
+-- ---- none
+
+pub emptied-in : (w : ℕ) (words os ls : List ℕ) → 0 < w → w ≤ 2 ^ 30 → 26 * w ≤ length words → length os ≡ length (orderOf w words) → os ≡ upFrom 0 (length (orderOf w words))
+    → length ls ≡ length (linksOf w (put (20 * w) (21 * w) words os)) → Cleared ls → Emptied w (put (21 * w) (26 * w) (put (20 * w) (21 * w) words os) ls)
+emptied-in w words os ls pos few long lo eo ll c =
+    let one = order-lent (holds w words long) os lo in
+    let o : length os ≡ w = lo ∙ order-length w words long in
+    let l : length ls ≡ 5 * w = ll ∙ links-length w (put (20 * w) (21 * w) words os) (one .long) in
+    record {
+      held = λ outline. held-in (links-lent one ls ll) (emptied outline (slotsOf w words) os ls w (4 * w) (omega arith) (omega arith) (omega (arith, slots-length w words long)) o (omega arith) (eo ∙ ap (upFrom 0) (order-length w words long)) c);
+    }
+
+-- ---- one out
+
+pub removed-in : {outline : List ℕ} {w n p k : ℕ} {words ls os : List ℕ} → Held outline w n words → p < n → bucketIn outline (slotsOf w words) (4 * w) (getD (orderOf w words) p 0) ≡ k
+    → length ls ≡ length (linksOf w words) → L.Removed (linksOf w words) ls w k (getD words (20 * w + p) 0)
+    → length os ≡ length (orderOf w (put (21 * w) (26 * w) words ls)) → os ≡ removed (orderOf w (put (21 * w) (26 * w) words ls)) n p
+    → (slotsOf w (put (20 * w) (21 * w) (put (21 * w) (26 * w) words ls) os) ≡ slotsOf w words)
+    × Removed outline w (4 * w) n p (slotsOf w words) (orderOf w words) (orderOf w (put (20 * w) (21 * w) (put (21 * w) (26 * w) words ls) os)) (linksOf w (put (20 * w) (21 * w) (put (21 * w) (26 * w) words ls) os))
+removed-in {outline} {w} {n} {p} {k} {words} {ls} {os} h hp key ll rm lo eo =
+    let one = links-lent (holds w words (h .long)) ls ll in
+    let two = order-lent one os lo in
+    let lo₀ : length os ≡ length (orderOf w words) = lo ∙ ap length (one .order-in) in
+    let eo₀ : os ≡ removed (orderOf w words) n p = eo ∙ ap (λ (l : List ℕ). removed l n p) (one .order-in) in
+    let at : getD (orderOf w words) p 0 ≡ getD words (20 * w + p) 0 = order-at w words p (omega (arith, h .parts .few)) in
+    let rm₀ : L.Removed (linksOf w words) ls w k (getD (orderOf w words) p 0) = subst (L.Removed (linksOf w words) ls w k) (sym at) rm in
+    let r : Removed outline w (4 * w) n p (slotsOf w words) (orderOf w words) os ls = held-removed (h .parts) hp key lo₀ ll eo₀ rm₀ in
+    (two .slots-in, rw (two .order-in, two .links-in) r)
+
+pub slot-gone : {outline : List ℕ} {w n s : ℕ} (words words′ : List ℕ) → slotsOf w words′ ≡ slotsOf w words → SlotRemoved outline w (4 * w) n s (slotsOf w words) (orderOf w words) (orderOf w words′) (linksOf w words′)
+    → (p : List ℕ → Bool) → p (wordsIn (slotsOf w words) s) ≡ false → filter p (keptIn (slotsOf w words′) (orderOf w words′) (n - 1)) ≡ filter p (keptIn (slotsOf w words) (orderOf w words) n)
+slot-gone {w = w} {n} words words′ e r p f = ap (λ (l : List ℕ). filter p (keptIn l (orderOf w words′) (n - 1))) e ∙ r .kept p f
+
+-- all that the child beats are out
+pub beaten-gone : (bytes : List ℕ) {outline : List ℕ} {w n m k : ℕ} (words₀ words c : List ℕ) → Outlined bytes outline → bucketOf outline (stateWords c) (4 * w) ≡ k → slotsOf w words ≡ slotsOf w words₀ → Held outline w m words
+    → (q : ℕ) → Found (linksOf w words) w k (sought (modelOf bytes .variables) (slotsOf w words) c true) q → q ≡ 0
+    → filter (λ m. not (beats (modelOf bytes .variables) c m)) (keptIn (slotsOf w words) (orderOf w words) m) ≡ filter (λ m. not (beats (modelOf bytes .variables) c m)) (keptIn (slotsOf w words₀) (orderOf w words₀) n)
+    → BeatenRemoved (modelOf bytes .variables) outline w (4 * w) n m (slotsOf w words₀) (orderOf w words₀) (orderOf w words) (linksOf w words) c
+beaten-gone bytes {outline} {w} {n} {m} {k} words₀ words c o key e h q found z same =
+    record {
+      held = subst (λ (l : List ℕ). P.Held outline w (4 * w) m l (orderOf w words) (linksOf w words)) e (h .parts);
+      kept = ap (λ (l : List ℕ). keptIn l (orderOf w words) m) (sym e) ∙ sym (beaten-none bytes (h .parts) k c o key q found z) ∙ same;
+    }
+
+-- ---- one in
+
+pub placed-in : {outline : List ℕ} {w n p k : ℕ} {words os ss ls c : List ℕ} → Held outline w n words → n < w → length c ≡ slotWords → bucketOf outline (stateWords c) (4 * w) ≡ k
+    → Cutoff (earlierAt (slotsOf w words) (orderOf w words) (getD c fAt 0) (getD c hAt 0)) n p
+    → length os ≡ length (orderOf w words) → os ≡ inserted (orderOf w words) n p (getD words (20 * w + n) 0)
+    → length ss ≡ length (slotsOf w (put (20 * w) (21 * w) words os)) → ss ≡ written (slotsOf w (put (20 * w) (21 * w) words os)) (getD words (20 * w + n) 0) c
+    → length ls ≡ length (linksOf w (ss ++ drop (20 * w) (put (20 * w) (21 * w) words os))) → Added (linksOf w (ss ++ drop (20 * w) (put (20 * w) (21 * w) words os))) ls w k (getD words (20 * w + n) 0)
+    → (let after = put (21 * w) (26 * w) (ss ++ drop (20 * w) (put (20 * w) (21 * w) words os)) ls in Placed outline w (4 * w) n (slotsOf w words) (orderOf w words) (slotsOf w after) (orderOf w after) (linksOf w after) c)
+placed-in {outline} {w} {n} {p} {k} {words} {os} {ss} {ls} {c} h hn full key cut lo eo lw ew ll ad =
+    let one = order-lent (holds w words (h .long)) os lo in
+    let two = slots-lent one ss lw in
+    let three = links-lent two ls ll in
+    let at : getD (orderOf w words) n 0 ≡ getD words (20 * w + n) 0 = order-at w words n hn in
+    let eo₀ : os ≡ inserted (orderOf w words) n p (getD (orderOf w words) n 0) = eo ∙ ap (inserted (orderOf w words) n p) (sym at) in
+    let ew₀ : ss ≡ written (slotsOf w words) (getD (orderOf w words) n 0) c = ew ∙ ap (λ (l : List ℕ). written l (getD words (20 * w + n) 0) c) (one .slots-in) ∙ ap (λ (s : ℕ). written (slotsOf w words) s c) (sym at) in
+    let ad₁ : Added (linksOf w words) ls w k (getD words (20 * w + n) 0) = subst (λ (l : List ℕ). Added l ls w k (getD words (20 * w + n) 0)) (two .links-in) ad in
+    let ad₀ : Added (linksOf w words) ls w k (getD (orderOf w words) n 0) = subst (Added (linksOf w words) ls w k) (sym at) ad₁ in
+    let r : Placed outline w (4 * w) n (slotsOf w words) (orderOf w words) ss os ls c = held-placed (h .parts) hn full key (lw ∙ ap length (one .slots-in)) lo (ll ∙ ap length (two .links-in)) cut eo₀ ew₀ ad₀ in
+    rw (three .slots-in, three .order-in, three .links-in) r
+
+-- ---- the last replaced
+
+pub last-replaced-in : {outline : List ℕ} {w : ℕ} {words : List ℕ} (words₁ : List ℕ) {slots′ order′ links′ c : List ℕ} → Held outline w w words → slotsOf w words₁ ≡ slotsOf w words
+    → Removed outline w (4 * w) w (w - 1) (slotsOf w words) (orderOf w words) (orderOf w words₁) (linksOf w words₁) → Placed outline w (4 * w) (w - 1) (slotsOf w words₁) (orderOf w words₁) slots′ order′ links′ c
+    → LastReplaced outline w (4 * w) (slotsOf w words) (orderOf w words) slots′ order′ links′ c
+last-replaced-in {outline} {w} {words} words₁ {slots′} {order′} {links′} {c} h e r p =
+    C.last-replaced (h .parts) (width-positive h) r (subst (λ (s : List ℕ). Placed outline w (4 * w) (w - 1) s (orderOf w words₁) slots′ order′ links′ c) e p)
+
+-- ---- the four ways that an insertion ends
+
+inserted-in : {bytes outline : List ℕ} {w n count : ℕ} {cut : Bool} {words words′ c : List ℕ} → 26 * w ≤ length words → length words′ ≡ length words
+    → C.InsertedInto bytes outline w (4 * w) n count cut (slotsOf w words) (orderOf w words) (slotsOf w words′) (orderOf w words′) (linksOf w words′) c → InsertedInto bytes outline w n count cut words words′ c
+inserted-in long l i = record { held = record { long = omega arith; parts = i .held }; inserts = i .inserts }
+
+pub dropped-in : {bytes outline : List ℕ} {w n : ℕ} {words c : List ℕ} → Held outline w n words → any (λ m. beats (modelOf bytes .variables) m c) (keptIn (slotsOf w words) (orderOf w words) n) ≡ true
+    → InsertedInto bytes outline w n n false words words c
+dropped-in h e = inserted-in (h .long) refl (C.dropped (h .parts) e)
+
+module _ (bytes : List ℕ) {outline : List ℕ} {w n m : ℕ} {words : List ℕ} (words₁ c : List ℕ) (h : Held outline w n words)
+    (l₁ : length words₁ ≡ length words) (e : slotsOf w words₁ ≡ slotsOf w words)
+    (b : BeatenRemoved (modelOf bytes .variables) outline w (4 * w) n m (slotsOf w words) (orderOf w words) (orderOf w words₁) (linksOf w words₁) c) where
+  pub beaten-held : Held outline w m words₁
+  beaten-held = rest-held words words₁ (h .long) l₁ e (b .held)
+
+  pub full-held : w ≤ m → Held outline w w words₁
+  full-held hm = rest-held words words₁ (h .long) l₁ e (C.full-removed b hm .held)
+
+  module _ (free : any (λ m. beats (modelOf bytes .variables) m c) (keptIn (slotsOf w words) (orderOf w words) n) ≡ false) where
+    pub roomed-in : (words′ : List ℕ) → m < w → length words′ ≡ length words₁ → Placed outline w (4 * w) m (slotsOf w words₁) (orderOf w words₁) (slotsOf w words′) (orderOf w words′) (linksOf w words′) c
+        → InsertedInto bytes outline w n (m + 1) false words words′ c
+    roomed-in words′ hm l p =
+        inserted-in (h .long) (l ∙ l₁) (C.roomed free b hm (subst (λ (s : List ℕ). Placed outline w (4 * w) m s (orderOf w words₁) (slotsOf w words′) (orderOf w words′) (linksOf w words′) c) e p))
+
+    pub last-cut-in : (words′ : List ℕ) → w ≤ m → earlierAt (slotsOf w words₁) (orderOf w words₁) (getD c fAt 0) (getD c hAt 0) (w - 1) ≡ true → length words′ ≡ length words₁
+        → LastReplaced outline w (4 * w) (slotsOf w words₁) (orderOf w words₁) (slotsOf w words′) (orderOf w words′) (linksOf w words′) c → InsertedInto bytes outline w n w true words words′ c
+    last-cut-in words′ hm t l p =
+        inserted-in (h .long) (l ∙ l₁)
+        (C.last-cut free (C.full-removed b hm) (width-positive h) (subst (λ (s : List ℕ). earlierAt s (orderOf w words₁) (getD c fAt 0) (getD c hAt 0) (w - 1) ≡ true) e t)
+        (subst (λ (s : List ℕ). LastReplaced outline w (4 * w) s (orderOf w words₁) (slotsOf w words′) (orderOf w words′) (linksOf w words′) c) e p))
+
+    pub child-cut-in : w ≤ m → earlierAt (slotsOf w words₁) (orderOf w words₁) (getD c fAt 0) (getD c hAt 0) (w - 1) ≡ false → InsertedInto bytes outline w n w true words words₁ c
+    child-cut-in hm t =
+        inserted-in (h .long) l₁
+        (subst (λ (s : List ℕ). C.InsertedInto bytes outline w (4 * w) n w true (slotsOf w words) (orderOf w words) s (orderOf w words₁) (linksOf w words₁) c) (sym e)
+        (C.child-cut free (C.full-removed b hm) (width-positive h) (subst (λ (s : List ℕ). earlierAt s (orderOf w words₁) (getD c fAt 0) (getD c hAt 0) (w - 1) ≡ false) e t)))
+
+-- ---- the layer's end
+
+module _ {w n : ℕ} {words : List ℕ} (la : Layer w n words) where
+  pub few-in : n ≤ w
+  few-in = omega (arith, la .parts .inside .room, order-length w words (la .long))
+
+  pub place-below : (i : ℕ) → i < n → getD words (20 * w + i) 0 < w
+  place-below i h = subst (λ (s : ℕ). s < w) (order-at w words i (omega (arith, few-in))) (la .parts .inside .each i h)
+
+  -- the f at a place
+  pub f-in : (i : ℕ) → i < n → getD (slotsOf w words) (getD (orderOf w words) i 0 * slotWords + fAt) 0 ≡ getD words (getD words (20 * w + i) 0 * slotWords + fAt) 0
+  f-in i h =
+      ap (λ (s : ℕ). getD (slotsOf w words) (s * slotWords + fAt) 0) (order-at w words i (omega (arith, few-in)))
+      ∙ getD-take (20 * w) words (getD words (20 * w + i) 0 * slotWords + fAt) 0 (omega (arith, place-below i h))
+
+  below-in : {r best : ℕ} → E.Below w n r best (slotsOf w words) (orderOf w words) → Below w n r best words
+  below-in b = record { fewer = b .fewer; layer = record { long = la .long; parts = b .layer }; left = b .left }
+
+  -- from place r on no f is below the best
+  abbrev pub Rest : (r best : ℕ) → Type 0
+  Rest r best = (i : ℕ) → r ≤ i → i < n → best ≤ getD words (getD words (20 * w + i) 0 * slotWords + fAt) 0
+
+  pub below-at : (r best : ℕ) → 0 < r → r ≤ n → getD words (getD words (20 * w + (r - 1)) 0 * slotWords + fAt) 0 < best → Rest r best → Below w n r best words
+  below-at r best pos h low rest =
+      below-in
+      (E.ends-at (la .parts) r best h
+      (E.low-before (la .parts) r best pos h (omega (arith, f-in (r - 1) (omega arith))))
+      (λ i a b. omega (arith, f-in i b, rest i a b)))
+
+  pub below-none : (best : ℕ) → Rest 0 best → Below w n 0 best words
+  below-none best rest = below-in (E.ends-at (la .parts) 0 best (omega arith) (λ i l. absurd (omega arith)) (λ i a b. omega (arith, f-in i b, rest i a b)))

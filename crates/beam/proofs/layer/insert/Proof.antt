@@ -1,0 +1,141 @@
+-- `beam::layer::insert` meets its contract. By the four ways of Moves.
+use Prim.Native.Nat.{ℕ, _≤_}
+use mathlib.Core.Path.{_≡_, sym, _∙_}
+use mathlib.Core.Bool.{false}
+use mathlib.Core.List.{List}
+use native.Mathlib.Omega.{arith}
+use borrow.Author.Needs.{needs}
+use lib.Seq.{length-take-le}
+use lib.ListN.{getD}
+use Rattle.laws.specs.Lists.{any}
+use Rattle.model.specs.Numbers.{mostVariables}
+use Rattle.outline.specs.Outline.{modelOf, variableCountAt}
+use Rattle.steps.specs.Held.{Outlined}
+use Rattle.order.specs.Order.{keptIn}
+use Rattle.beam.specs.Nodes.{beats}
+use Rattle.beam.specs.Held.{slotsOf, orderOf}
+use Rattle.beam.proofs.Removals.{beating-none, beating-one}
+use Rattle.beam.proofs.Moves.{layer-of, width-positive, beaten-held, full-held, dropped-in, roomed-in, last-cut-in, child-cut-in}
+use Rattle.beam.proofs.layer.insert.Statement.{statement}
+use Rattle.beam.proofs.layer.insert.Tie as tie
+
+-- no kept node beats the child
+free : (c : tie.Else1) → (let a = c .before .before .before .before .before .before .before .before .before .args in any (λ m. beats (modelOf (a .model .now) .variables) m (a .child .now)) (keptIn (slotsOf (a .width) (a .layer .now)) (orderOf (a .width) (a .layer .now)) (a .n)) ≡ false)
+free c =
+    let start = c .before .before .before .before .before .before .before .before .before in
+    let k = c .before .before .before .bucket in
+    beating-none (start .args .model .now) (start .pre .0 .parts) (k .result) (start .args .child .now) (start .pre .1 .0) (sym (k .ensures .1)) (c .before .find-in .result) (c .before .find-in .ensures) (omega (arith, c .if1 .left))
+
+few-variables : {bytes outline : List ℕ} → Outlined bytes outline → getD outline variableCountAt 0 ≤ mostVariables
+few-variables o = omega (arith, o .outlines .variable-count, o .outlines .few-variables)
+
+slice-aggregate-bucket : tie.Need-slice-aggregate-bucket
+slice-aggregate-bucket c =
+    let start = c .before .before .before .before .before in
+    sym (length-take-le 16 (start .args .child .now) (omega (arith, start .pre .1 .1)))
+
+mul-bucket : tie.Need-mul-bucket
+mul-bucket c = search needs
+
+bucket-requires : tie.Need-bucket-requires
+bucket-requires c κs =
+    let start = c .before .before .before .before .before in
+    (few-variables (start .pre .1 .0), (start .pre .0 .parts .some-bucket, start .pre .0 .parts .few-buckets))
+
+find-in-requires : tie.Need-find-in-requires
+find-in-requires c κs = search needs
+
+same-length : tie.Need-same-length
+same-length c = search needs
+
+returns : tie.Need-returns
+returns c =
+    let start = c .before .before .before .before .before .before .before .before .before in
+    let k = c .before .before .before .bucket in
+    dropped-in (start .pre .0) (beating-one (start .args .model .now) (start .pre .0 .parts) (k .result) (start .args .child .now) (start .pre .1 .0) (sym (k .ensures .1)) (c .before .find-in .result) (c .before .find-in .ensures) (c .if1 .taken))
+
+remove-beaten-requires : tie.Need-remove-beaten-requires
+remove-beaten-requires c κs =
+    let start = c .before .before .before .before .before .before .before .before .before .before in
+    let k = c .before .before .before .before .bucket in
+    (start .pre .0, (start .pre .1 .0, (k .ensures .0, (start .pre .1 .1, sym (k .ensures .1)))))
+
+add-child-requires : tie.Need-add-child-requires
+add-child-requires c κs =
+    let start = c .before .before .before .before .before .before .before .before .before .before .before .before .before .before .before in
+    let rest = c .before .before .before .before .remove-beaten in
+    let k = c .before .before .before .before .before .before .before .before .before .bucket in
+    (beaten-held (start .args .model .now) (rest .last .0) (start .args .child .now) (start .pre .0) (rest .kept .0) (rest .ensures .0) (rest .ensures .1), (c .before .if2 .taken, (k .ensures .0, (start .pre .1 .1, sym (k .ensures .1)))))
+
+add-t22 : tie.Need-add-t22
+add-t22 c = search needs
+
+same-length-2 : tie.Need-same-length-2
+same-length-2 c = search needs
+
+returns-2 : tie.Need-returns-2
+returns-2 c =
+    let start = c .before .before .before .before .before .before .before .before .before .before .before .before .before .before .before .before .before .before in
+    let rest = c .before .before .before .before .before .before .before .remove-beaten in
+    roomed-in (start .args .model .now) (rest .last .0) (start .args .child .now) (start .pre .0) (rest .kept .0) (rest .ensures .0) (rest .ensures .1) (free (c .before .before .before .before .before .before .before .before .before)) (c .before .before .add-child .last .0) (c .before .before .before .before .if2 .taken) (c .before .before .add-child .kept .0) (c .before .before .add-child .ensures)
+
+shared-slice-read-f : tie.Need-shared-slice-read-f
+shared-slice-read-f c = search needs
+
+shared-slice-read-h : tie.Need-shared-slice-read-h
+shared-slice-read-h c = search needs
+
+before-last-requires : tie.Need-before-last-requires
+before-last-requires c κs =
+    let start = c .before .before .before .before .before .before .before .before .before .before .before .before .before .before .before .before .before in
+    let rest = c .before .before .before .before .before .before .remove-beaten in
+    (width-positive (start .pre .0), layer-of (full-held (start .args .model .now) (rest .last .0) (start .args .child .now) (start .pre .0) (rest .kept .0) (rest .ensures .0) (rest .ensures .1) (c .before .before .before .if2 .left)))
+
+replace-last-requires : tie.Need-replace-last-requires
+replace-last-requires c κs =
+    let start = c .before .before .before .before .before .before .before .before .before .before .before .before .before .before .before .before .before .before .before .before in
+    let rest = c .before .before .before .before .before .before .before .before .before .remove-beaten in
+    let k = c .before .before .before .before .before .before .before .before .before .before .before .before .before .before .bucket in
+    (full-held (start .args .model .now) (rest .last .0) (start .args .child .now) (start .pre .0) (rest .kept .0) (rest .ensures .0) (rest .ensures .1) (c .before .before .before .before .before .before .if2 .left), (few-variables (start .pre .1 .0), (k .ensures .0, (start .pre .1 .1, sym (k .ensures .1)))))
+
+same-length-3 : tie.Need-same-length-3
+same-length-3 c = search needs
+
+returns-3 : tie.Need-returns-3
+returns-3 c =
+    let start = c .before .before .before .before .before .before .before .before .before .before .before .before .before .before .before .before .before .before .before .before .before .before .before in
+    let rest = c .before .before .before .before .before .before .before .before .before .before .before .before .remove-beaten in
+    last-cut-in (start .args .model .now) (rest .last .0) (start .args .child .now) (start .pre .0) (rest .kept .0) (rest .ensures .0) (rest .ensures .1) (free (c .before .before .before .before .before .before .before .before .before .before .before .before .before .before)) (c .before .before .replace-last .last .0) (c .before .before .before .before .before .before .before .before .before .if2 .left) (sym (c .before .before .before .before .before .before-last .ensures) ∙ c .before .before .before .before .if3 .taken) (c .before .before .replace-last .kept .0) (c .before .before .replace-last .ensures)
+
+same-length-4 : tie.Need-same-length-4
+same-length-4 c = search needs
+
+returns-4 : tie.Need-returns-4
+returns-4 c =
+    let start = c .before .before .before .before .before .before .before .before .before .before .before .before .before .before .before .before .before .before .before in
+    let rest = c .before .before .before .before .before .before .before .before .remove-beaten in
+    child-cut-in (start .args .model .now) (rest .last .0) (start .args .child .now) (start .pre .0) (rest .kept .0) (rest .ensures .0) (rest .ensures .1) (free (c .before .before .before .before .before .before .before .before .before .before)) (c .before .before .before .before .before .if2 .left) (sym (c .before .before-last .ensures) ∙ c .if3 .left)
+
+pub insert-spec : {M : Type 1} → statement M
+insert-spec =
+    tie.close
+    (tie.spec
+    slice-aggregate-bucket
+    mul-bucket
+    bucket-requires
+    find-in-requires
+    same-length
+    returns
+    remove-beaten-requires
+    add-child-requires
+    add-t22
+    same-length-2
+    returns-2
+    shared-slice-read-f
+    shared-slice-read-h
+    before-last-requires
+    replace-last-requires
+    same-length-3
+    returns-3
+    same-length-4
+    returns-4)

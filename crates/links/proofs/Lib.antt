@@ -1,0 +1,3 @@
+-- Laws of the index.
+pub mod Highest
+pub mod Linked

@@ -1,0 +1,2 @@
+-- An index of slots by buckets, in words.
+pub mod Links

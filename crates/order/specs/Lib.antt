@@ -1,0 +1,3 @@
+-- Slots of words, and an array that keeps their numbers in order.
+pub mod Slots
+pub mod Order
