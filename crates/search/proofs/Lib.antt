@@ -1,7 +1,7 @@
 -- What is proved of the search's definition.
 pub mod Opened
 pub mod Cases
-pub mod Examples
+pub mod CasesOfRules
 pub mod Induction
 pub mod Rounds
 pub mod Invariant

@@ -70,6 +70,6 @@ told =
     ∷ answer true (13 ∷ 0 ∷ 1 ∷ 1 ∷ 2 ∷ 3 ∷ 1 ∷ 1 ∷ []) (hex 5 0x00_00_a5_a5_a5)
     ∷ []
 
-pub examples : allOpened asked ≡ told
+pub rule-cases : allOpened asked ≡ told
 unfolding allOpened opened hex
-examples = refl
+rule-cases = refl
