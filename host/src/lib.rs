@@ -1,10 +1,16 @@
-//! A plain second implementation of document 01, its enumeration and its test vectors.
+//! What stands outside the proofs: a plain second implementation of document 01 with its enumeration, test vectors and model
+//! families, a fast one to measure against, the proved libraries, and the text form of models.
 
+pub mod bench;
 pub mod build;
 pub mod cases;
 pub mod enumerate;
+pub mod families;
+pub mod fast;
 pub mod generate;
 pub mod line;
 pub mod models;
+pub mod proved;
 pub mod reference;
 pub mod slip;
+pub mod text;

@@ -1,6 +1,6 @@
 //! The one line that the program prints for a model, at document 01's settings.
 
-use crate::reference::{refusal, search, words_needed};
+use crate::reference::{refusal, search, words_needed, Answer};
 
 /// The program's settings: the longest model, the widest beam, the length limit and the budget.
 pub const LONGEST_MODEL: usize = 16_384;
@@ -21,12 +21,21 @@ pub fn line_at(model: &[u8], width: u64, length: u64, budget: u64) -> String {
     let mut buffer = vec![0; length as usize];
     let words = words_needed(width, length);
     let answer = search(model, width, length, budget, &mut buffer, words);
+    answer_line(&answer, &buffer)
+}
+
+/// The line of an answer whose steps are at the front of the buffer.
+pub fn answer_line(answer: &Answer, buffer: &[u8]) -> String {
     if answer.refused {
         return format!("refused {}", answer.number);
     }
+    format!("{} {}", answer.number, fields(answer, buffer))
+}
+
+/// The fields behind the verdict, a colon and the steps.
+pub fn fields(answer: &Answer, buffer: &[u8]) -> String {
     let mut line = format!(
-        "{} {} {} {} {} {} {} {} :",
-        answer.number,
+        "{} {} {} {} {} {} {} :",
         u8::from(answer.plan_flag),
         answer.cost,
         answer.bound,

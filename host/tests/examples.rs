@@ -1,20 +1,100 @@
-//! The example models are those of `models`, and plan to the lines stored beside them.
+//! The example texts assemble to the models beside them, which plan to the lines stored beside them.
 
+use repgypsum_host::enumerate::Space;
 use repgypsum_host::line::line;
 use repgypsum_host::models::{sop, three_designs, tsptw};
-use std::path::Path;
+use repgypsum_host::reference::read_model;
+use repgypsum_host::text::{assemble, names};
+use std::path::{Path, PathBuf};
+
+/// The most states that an example may have.
+const STATES: usize = 1_000;
+
+fn directory() -> PathBuf {
+    Path::new(env!("CARGO_MANIFEST_DIR")).join("../examples")
+}
+
+/// The names of the example texts.
+fn examples() -> Vec<String> {
+    let files = std::fs::read_dir(directory()).unwrap();
+    let paths = files.map(|file| file.unwrap().path());
+    let texts = paths.filter(|path| path.extension().is_some_and(|found| found == "dp"));
+    let mut examples: Vec<String> = texts
+        .map(|path| path.file_stem().unwrap().to_string_lossy().into_owned())
+        .collect();
+    examples.sort();
+    examples
+}
+
+fn text(name: &str) -> String {
+    std::fs::read_to_string(directory().join(format!("{name}.dp"))).unwrap()
+}
+
+fn model(name: &str) -> Vec<u8> {
+    std::fs::read(directory().join(format!("{name}.model"))).unwrap()
+}
 
 #[test]
 fn examples_print_their_lines() {
-    let directory = Path::new(env!("CARGO_MANIFEST_DIR")).join("../examples");
-    for (name, bytes) in [
+    let due = [
+        "assembly-line",
+        "open-stacks",
+        "sop",
+        "tardiness",
+        "three-designs",
+        "tsptw",
+    ];
+    assert_eq!(examples(), due);
+    for name in examples() {
+        let out = directory().join(format!("{name}.out"));
+        let printed = std::fs::read_to_string(out).unwrap();
+        assert_eq!(printed, format!("{}\n", line(&model(&name))), "{name}");
+    }
+}
+
+#[test]
+fn texts_assemble_to_their_models() {
+    for name in examples() {
+        let assembled = assemble(&text(&name)).unwrap_or_else(|error| panic!("{name}: {error}"));
+        assert_eq!(assembled, model(&name), "{name}");
+    }
+}
+
+#[test]
+fn models_typed_in_twice_agree() {
+    let typed_in = [
         ("three-designs", three_designs()),
         ("tsptw", tsptw()),
         ("sop", sop()),
-    ] {
-        let model = std::fs::read(directory.join(format!("{name}.model"))).unwrap();
-        let printed = std::fs::read_to_string(directory.join(format!("{name}.out"))).unwrap();
-        assert_eq!(model, bytes, "{name}");
-        assert_eq!(printed, format!("{}\n", line(&model)), "{name}");
+    ];
+    for (name, bytes) in typed_in {
+        assert_eq!(model(name), bytes, "{name}");
+    }
+}
+
+/// Every example has true declarations, and its line states the cost that full enumeration finds.
+#[test]
+fn examples_are_cheapest_by_enumeration() {
+    for name in examples() {
+        let read = read_model(&model(&name)).unwrap();
+        let space = Space::of(&read, STATES).unwrap();
+        assert!(
+            space.bounds_true(&read) && space.preferences_true(&read),
+            "{name}"
+        );
+        let cheapest = space.to_go[0].unwrap();
+        let due = format!("0 1 {cheapest} {cheapest} ");
+        assert!(line(&model(&name)).starts_with(&due), "{name}");
+    }
+}
+
+/// Every transition of the examples has a name.
+#[test]
+fn examples_name_their_steps() {
+    for name in examples() {
+        let read = read_model(&model(&name)).unwrap();
+        let names = names(&text(&name)).unwrap();
+        assert_eq!(names.transitions.len(), read.transitions.len());
+        assert!(names.transitions.iter().all(Option::is_some), "{name}");
     }
 }

@@ -1,6 +1,6 @@
 //! The stored cases: answers stated by hand, strength against planted slips, and the files written from them.
 
-use repgypsum_host::cases::text::{files, plan_checks, CASES_PER_FILE};
+use repgypsum_host::cases::text::{files, plan_checks, search_cases, CASES_PER_FILE};
 use repgypsum_host::cases::{groups, Outcome};
 use repgypsum_host::slip::{Slip, ALL};
 use std::collections::BTreeSet;
@@ -137,5 +137,27 @@ fn plan_checks_are_stored() {
         "{} plan checks, {} bytes",
         output.lines().count(),
         input.len()
+    );
+}
+
+/// The stored arguments, models and output of the program `cases` are what the generator writes.
+#[test]
+fn search_cases_are_stored() {
+    let directory = Path::new(env!("CARGO_MANIFEST_DIR")).join("../crates/cases");
+    let cases = search_cases();
+    let stored = |name: &str| std::fs::read_to_string(directory.join(name)).unwrap();
+    assert_eq!(stored("args"), cases.arguments);
+    assert_eq!(stored("stdout"), cases.output);
+    let names: BTreeSet<&str> = cases.models.iter().map(|(name, _)| name.as_str()).collect();
+    assert_eq!(names.len(), cases.models.len());
+    for (name, bytes) in &cases.models {
+        assert!(std::fs::read(directory.join("data").join(name)).unwrap() == *bytes);
+    }
+    let entries = std::fs::read_dir(directory.join("data")).unwrap();
+    assert_eq!(entries.count(), cases.models.len());
+    println!(
+        "{} searches of {} models",
+        cases.arguments.lines().count() / 7,
+        cases.models.len()
     );
 }

@@ -32,3 +32,7 @@ module _ (vs : List Variable) (parentPath : ℕ → List ℕ) where
 -- the node of words a dominates that of b, with g no greater
 unfoldable pub beats : (vs : List Variable) (a b : List ℕ) → Bool
 beats vs a b = noneWorse vs 0 (stateOf vs (stateWords a)) (stateOf vs (stateWords b)) && leb (getD a gAt 0) (getD b gAt 0)
+
+-- the node in slot i of a layer, by its words; path: the path to each slot of this layer
+unfoldable pub nodeAt : (vs : List Variable) (path : ℕ → List ℕ) (i : ℕ) (words : List ℕ) → Node State ℕ
+nodeAt vs path i ws = record { state = stateOf vs (stateWords ws); g = getD ws gAt 0; h = getD ws hAt 0; f = getD ws fAt 0; path = path i }

@@ -15,7 +15,7 @@ use steps::states::dominates;
 const G_AT: usize = 16;
 
 // Copies all words.
-fn copy_words(from: &[u64], to: &mut [u64])
+pub fn copy_words(from: &[u64], to: &mut [u64])
     requires { ⌜ length (now from) ≡ length (now to) ⌝ }
     ensures { λ _. ⌜ now (to .exit) ≡ now (from .entry) ⌝ }
 {

@@ -109,7 +109,7 @@ module _ {S C : Type 0} (K : Costs C) (M : System S C) (budget width : ℕ) wher
       visit-holds {left} unfinished e p = advance-holds left e p
       visit-holds (noStatus x) e p = changes .no-status p e
 
-      layer-holds : {k left : ℕ} {r : Round S C} (ns : List (Node S C)) → P k left (taking ns) r → Holds (P k left (taking [])) Q (layer K M budget width left ns r)
+      pub layer-holds : {k left : ℕ} {r : Round S C} (ns : List (Node S C)) → P k left (taking ns) r → Holds (P k left (taking [])) Q (layer K M budget width left ns r)
       unfolding layer
       layer-holds [] p = p
       layer-holds {k} {left} {r} (n ∷ ns) p =

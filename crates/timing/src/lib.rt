@@ -1,4 +1,6 @@
-// The evaluators for C, to be timed; see host/bench.
+// The evaluators and the insertion for C, to be timed; see host/bench.
+
+pub mod insertions;
 
 ghost use mathlib.Core.Path.{_≡_};
 ghost use Rattle.evaluator.specs.Runs.{place, runNumber, runCondition};

@@ -1,6 +1,7 @@
-//! Writes the vector modules, and what the program `plan_checks` reads and writes, into the repository named by the first argument.
+//! Writes the vector modules, and what the programs `plan_checks` and `cases` are given and write, into the repository named by the
+//! first argument.
 
-use repgypsum_host::cases::text::{files, plan_checks};
+use repgypsum_host::cases::text::{files, plan_checks, search_cases};
 use std::path::Path;
 
 fn main() -> std::io::Result<()> {
@@ -18,5 +19,14 @@ fn main() -> std::io::Result<()> {
     std::fs::create_dir_all(&program)?;
     let (input, output) = plan_checks();
     std::fs::write(program.join("stdin"), input)?;
-    std::fs::write(program.join("stdout"), output)
+    std::fs::write(program.join("stdout"), output)?;
+    let program = crates.join("cases");
+    let data = program.join("data");
+    std::fs::create_dir_all(&data)?;
+    let cases = search_cases();
+    for (name, bytes) in &cases.models {
+        std::fs::write(data.join(name), bytes)?;
+    }
+    std::fs::write(program.join("args"), cases.arguments)?;
+    std::fs::write(program.join("stdout"), cases.output)
 }

@@ -1,7 +1,8 @@
 //! The cases as source text of vector modules.
 
 use super::{groups, Call, Case, Outcome};
-use crate::reference::plan_check;
+use crate::line::{answer_line, fields, LONGEST_MODEL};
+use crate::reference::{plan_check, refusal};
 use crate::slip::Slip;
 use std::fmt::Write;
 
@@ -129,4 +130,98 @@ pub fn plan_checks() -> (Vec<u8>, String) {
         writeln!(output, "{answer} {cost}").unwrap();
     }
     (input, output)
+}
+
+/// The most words and plan bytes that the program `cases` lends.
+const MOST_WORDS: u64 = 300_000;
+const MOST_PLAN_BYTES: usize = 300;
+
+/// What the program `cases` is given and writes: its arguments, the model files, a line for each case, and one more with the path
+/// at a refusal by the state.
+#[derive(Default, PartialEq, Eq, Debug)]
+pub struct SearchCases {
+    pub arguments: String,
+    pub models: Vec<(String, Vec<u8>)>,
+    pub output: String,
+}
+
+/// A note as a name of letters, digits and hyphens.
+fn slug(note: &str) -> String {
+    let plain = |c: char| {
+        if c.is_ascii_alphanumeric() {
+            c.to_ascii_lowercase()
+        } else {
+            ' '
+        }
+    };
+    let words: String = note.replace(',', "").chars().map(plain).collect();
+    words.split_whitespace().collect::<Vec<_>>().join("-")
+}
+
+impl SearchCases {
+    /// The file of a model, which is stored once.
+    fn file(&mut self, name: &str, model: &[u8]) -> String {
+        if let Some((file, _)) = self.models.iter().find(|(_, bytes)| bytes == model) {
+            return file.clone();
+        }
+        let file = format!("{name}.model");
+        self.models.push((file.clone(), model.to_vec()));
+        file
+    }
+
+    fn add(&mut self, name: &str, call: &Call) {
+        let Call::Search {
+            model,
+            width,
+            length,
+            budget,
+            buffer,
+            words,
+        } = call
+        else {
+            return;
+        };
+        let Outcome::Search(answer, after) = call.run(Slip::Nothing) else {
+            unreachable!("a search has a search's outcome")
+        };
+        let file = self.file(name, model);
+        let plan_bytes = buffer.len().min(MOST_PLAN_BYTES);
+        let words = (*words).min(MOST_WORDS);
+        for word in [name, &file] {
+            writeln!(self.arguments, "{word}").unwrap();
+        }
+        for number in [*width, *length, *budget, plan_bytes as u64, words] {
+            writeln!(self.arguments, "{number}").unwrap();
+        }
+        let line = answer_line(&answer, &after);
+        writeln!(self.output, "{name}: {line}").unwrap();
+        if answer.refused && answer.number >= refusal::OUT_OF_RANGE {
+            let fields = fields(&answer, &after);
+            writeln!(self.output, "  at {} {fields}", answer.number).unwrap();
+        }
+    }
+}
+
+/// The stored searches that were chosen by hand, as the program `cases` runs them.
+pub fn search_cases() -> SearchCases {
+    let mut all = SearchCases::default();
+    for case in super::searches::cases() {
+        let Some(note) = &case.note else { continue };
+        let Call::Search { model, .. } = &case.call else {
+            continue;
+        };
+        if model.len() <= LONGEST_MODEL {
+            all.add(&slug(note), &case.call);
+        }
+    }
+    // the lengths at which 1 is told, which the program makes itself
+    for (name, length) in [("the-longest", 65_536), ("too-long", 65_537)] {
+        let Outcome::Search(answer, after) =
+            Call::search(vec![0; length], 1, 1, 0).run(Slip::Nothing)
+        else {
+            unreachable!("a search has a search's outcome")
+        };
+        writeln!(all.output, "{name}: {}", answer_line(&answer, &after)).unwrap();
+    }
+    all
 }

@@ -1,0 +1,37 @@
+-- `expansion::children::offer` meets its contract.
+use mathlib.Core.Path.{sym, _∙_}
+use Rattle.expansion.proofs.TrialSteps.{offered-below, offered-not}
+use borrow.Author.Needs.{needs}
+use Rattle.expansion.proofs.children.offer.Statement.{statement}
+use Rattle.expansion.proofs.children.offer.Tie as tie
+
+shared-slice-read-f : tie.Need-shared-slice-read-f
+shared-slice-read-f c = search needs
+
+below-best-requires : tie.Need-below-best-requires
+below-best-requires c κs = search needs
+
+insert-requires : tie.Need-insert-requires
+insert-requires c κs = search needs
+
+same-length : tie.Need-same-length
+same-length c = search needs
+
+returns : tie.Need-returns
+returns c = offered-below (c .before .before .insert .result) (sym (c .before .before .before .before .before .below-best .ensures) ∙ c .before .before .before .before .if1 .taken) (c .before .before .insert .ensures)
+
+returns-2 : tie.Need-returns-2
+returns-2 c =
+    let start = c .before .before .before .before .before .before .before in
+    offered-not (sym (c .before .below-best .ensures) ∙ c .if1 .left) (start .pre .0)
+
+pub offer-spec : {M : Type 1} → statement M
+offer-spec =
+    tie.close
+    (tie.spec
+    shared-slice-read-f
+    below-best-requires
+    insert-requires
+    same-length
+    returns
+    returns-2)

@@ -1,0 +1,2 @@
+-- What the expansion of a node leaves of the layer in the making.
+pub mod Expansion

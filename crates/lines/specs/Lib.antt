@@ -1,0 +1,2 @@
+-- What a line is made of.
+pub mod Line

@@ -1,0 +1,2 @@
+-- The program's run.
+pub mod Program

@@ -1,0 +1,277 @@
+-- What a run comes to, test by test: the settings, what is lent, the reading, the target's bound, then the rounds.
+use Prim.Native.Nat.{ℕ, suc, _+_, _*_, _≤_, _<_}
+use mathlib.Core.Path.{_≡_, refl, sym, ap, _∙_, subst}
+use mathlib.Core.Bool.{Bool, true, false, cond, _&&_, _||_}
+use mathlib.Core.List.{List, [], _∷_}
+use mathlib.Core.Option.{none}
+use native.Mathlib.Nat.{mul-le-mul}
+use native.Mathlib.Numerals.{add-one}
+use native.Mathlib.Omega.{arith}
+use lib.ListN.{length, drop, getD}
+use lib.Dec.{eqb, leb}
+use lib.Seq.{drop-cons}
+use borrow.Author.Tests.{lt-ltb, le-ltb, le-leb, lt-leb, leb-true, eq-eqb, ne-eqb, eqb-true}
+use Rattle.laws.specs.Lists.{any, All}
+use Rattle.laws.proofs.Bools.{and-both}
+use Rattle.laws.proofs.Lists.{some-all, any-some}
+use Rattle.model.specs.Numbers.{mostSteps}
+use Rattle.model.specs.Values.{Value, value, trouble}
+use Rattle.model.specs.Readers.{Read, read, refused}
+use Rattle.model.specs.Syntax.{Model}
+use Rattle.model.specs.Commands.{model}
+use Rattle.model.specs.Steps.{target, costsOf, originOf}
+use Rattle.model.proofs.Costs.{cost-laws}
+use Rattle.model.proofs.Reading.{model-refusal}
+use Rattle.outline.specs.Outline.{modelOf, readModel, refusalOf}
+use Rattle.search.specs.Answer as A
+use Rattle.search.specs.Answer.{bufferAfter, outcomeNumber, isRefusal}
+use Rattle.search.specs.Search as S
+use Rattle.search.specs.Search.{root, search, begin, answer, answerOf}
+use Rattle.search.specs.Run.{widerWidths, widerUpTo, settingsFit, wordsNeeded, lentFits, refusedByInput, searchModel, runRead, run}
+use Rattle.search.proofs.Counts.{never-by-input}
+use Rattle.search.proofs.Mission.{run-guarantee}
+use Rattle.steps.specs.Held.{systemIn, stateIn}
+use Rattle.steps.specs.Follow.{costsIn}
+use Rattle.steps.specs.Answers.{boundAnswer}
+use Rattle.steps.specs.declared.answers.BoundAnswer.{BoundAnswer}
+use Rattle.steps.specs.declared.answers.BoundAnswer.the-variants as B
+use Rattle.rounds.specs.Rounds.{Doubling, Runs}
+use Rattle.solver.specs.Answers.{outcomeOf, AnswerIs, stopAnswer, Reports, SearchSays, settings, lent, runOf, BuffersAre, Guaranteed}
+use Rattle.solver.specs.Reported.{RefusesStart}
+use Rattle.solver.specs.Entered.{isWidth, lentOf, InNumbers}
+use Rattle.solver.specs.declared.answers.Answer.{Answer}
+use Rattle.rounds.specs.declared.runs.Stop.{Stop}
+use Rattle.solver.proofs.Reporting.{answer-same}
+
+-- ---- the widths
+
+abbrev pub widths : List ℕ
+widths = 1 ∷ widerWidths
+
+abbrev pub among : (width : ℕ) → List ℕ → Bool
+among width l = any (λ w. eqb w width) l
+
+module _ (width i : ℕ) (inside : i < 13) where
+  at-hand : among width (drop i widths) ≡ (eqb (getD widths i 0) width || among width (drop (i + 1) widths))
+  unfolding any
+  at-hand = rw (add-one, drop-cons widths i 0 inside)
+
+  pub width-found : getD widths i 0 ≡ width → among width (drop i widths) ≡ true
+  width-found e = at-hand ∙ rw (eq-eqb (getD widths i 0) width e)
+
+  pub width-passed : (getD widths i 0 ≡ width → ⊥) → among width (drop i widths) ≡ among width (drop (i + 1) widths)
+  width-passed e = at-hand ∙ rw (ne-eqb (getD widths i 0) width e)
+
+no-width-left : (width : ℕ) → among width (drop 13 widths) ≡ false
+unfolding any
+no-width-left width = refl
+
+pub widths-passed : (width i : ℕ) → i ≤ 13 → 13 ≤ i → among width (drop i widths) ≡ false
+widths-passed width i a b = let all : i ≡ 13 = omega arith in ap (λ (k : ℕ). among width (drop k widths)) all ∙ no-width-left width
+
+-- ---- the settings
+
+and-no : (a : Bool) → (a && false) ≡ false
+and-no true = refl
+and-no false = refl
+
+and-yes : (a : Bool) → (a && true) ≡ a
+and-yes true = refl
+and-yes false = refl
+
+module _ (w l b : ℕ) where
+  pub fit-short : l < 1 → settingsFit (settings w l b) ≡ false
+  unfolding settingsFit
+  fit-short h = rw (lt-leb 1 l h, and-no (among w widths))
+
+  pub fit-long : mostSteps < l → settingsFit (settings w l b) ≡ false
+  unfolding settingsFit
+  fit-long h = rw (lt-leb l mostSteps h) (and-no (among w widths && leb 1 l))
+
+  pub fit-width : 1 ≤ l → l ≤ mostSteps → settingsFit (settings w l b) ≡ isWidth w
+  unfolding settingsFit isWidth
+  fit-width h k = rw (le-leb 1 l h, le-leb l mostSteps k, and-yes (among w widths)) (and-yes (among w widths))
+
+  pub fit-whatever : (c : ℕ) → settingsFit (settings w l b) ≡ settingsFit (settings w l c)
+  unfolding settingsFit
+  fit-whatever c = refl
+
+  listed : settingsFit (settings w l b) ≡ true → (among w widths && leb 1 l) ≡ true
+  unfolding settingsFit
+  listed e = and-both (among w widths && leb 1 l) (leb l mostSteps) e .0
+
+  pub doubling : settingsFit (settings w l b) ≡ true → Doubling w
+  doubling e = and-both (among w widths) (leb 1 l) (listed e) .0
+
+  pub some-steps : settingsFit (settings w l b) ≡ true → l ≤ mostSteps
+  unfolding settingsFit
+  some-steps e = leb-true l mostSteps (and-both (among w widths && leb 1 l) (leb l mostSteps) e .1)
+
+narrow-each : All (λ v. (0 < v) × (v ≤ 4096)) widths
+narrow-each =
+    ((omega arith, omega arith), ((omega arith, omega arith), ((omega arith, omega arith), ((omega arith, omega arith), ((omega arith, omega arith), ((omega arith, omega arith), ((omega arith, omega arith), ((omega arith, omega arith), ((omega arith, omega arith), ((omega arith, omega arith), ((omega arith, omega arith), ((omega arith, omega arith), ((omega arith, omega arith), tt)))))))))))))
+
+pub narrow : (w : ℕ) → Doubling w → (0 < w) × (w ≤ 4096)
+narrow w e =
+    some-all widths narrow-each (any-some (λ v. eqb v w) widths e)
+    (λ v within h. subst (λ (x : ℕ). (0 < x) × (x ≤ 4096)) (eqb-true v w h) within)
+
+-- ---- what is lent
+
+module _ (w l p n : ℕ) where
+  pub words-bound : w ≤ 4096 → l ≤ mostSteps → w * (l + 1) ≤ 4096 * 257
+  words-bound a b = let more : l + 1 ≤ 257 = omega arith in mul-le-mul a more
+
+  pub lent-short : p < l → lentFits (settings w l 0) (lentOf p n) ≡ false
+  unfolding lentFits
+  lent-short h = rw (lt-leb l p h)
+
+  pub lent-words : l ≤ p → leb (64 * w + w * (l + 1)) n ≡ lentFits (settings w l 0) (lentOf p n)
+  unfolding lentFits wordsNeeded
+  lent-words h = rw (le-leb l p h)
+
+  pub lent-whatever : (b c : ℕ) → lentFits (settings w l b) (lentOf p n) ≡ lentFits (settings w l c) (lentOf p n)
+  unfolding lentFits wordsNeeded
+  lent-whatever b c = refl
+
+  pub lent-both : lentFits (settings w l 0) (lentOf p n) ≡ true → (l ≤ p) × (64 * w + w * (l + 1) ≤ n)
+  unfolding lentFits wordsNeeded
+  lent-both e =
+      let both = and-both (leb l p) (leb (64 * w + w * (l + 1)) n) e in
+      (leb-true l p (both .0), leb-true (64 * w + w * (l + 1)) n (both .1))
+
+-- ---- the target's bound
+
+of-value : (v : Value ℕ) {r : BoundAnswer} {h : ℕ} → r ≡ boundAnswer v → r ≡ B.Value h → v ≡ value h
+unfolding boundAnswer
+of-value (value a) e f = let same : B.Value a ≡ B.Value _ = sym e ∙ f in cc
+of-value (trouble t) e f = let z : _≡_ {A = ℕ} 0 1 = cc in absurd (omega arith)
+
+of-trouble : (v : Value ℕ) {r : BoundAnswer} {t : ℕ} → r ≡ boundAnswer v → r ≡ B.Trouble t → v ≡ trouble t
+unfolding boundAnswer
+of-trouble (trouble a) e f = cc
+of-trouble (value h) e f = let z : _≡_ {A = ℕ} 0 1 = cc in absurd (omega arith)
+
+module _ (bytes state : List ℕ) (at-target : stateIn bytes state ≡ target (modelOf bytes)) (r : BoundAnswer) (says : r ≡ boundAnswer (systemIn bytes .bound (stateIn bytes state))) where
+  at-start : r ≡ boundAnswer (systemIn bytes .bound (target (modelOf bytes)))
+  at-start = says ∙ ap (λ s. boundAnswer (systemIn bytes .bound s)) at-target
+
+  pub start-value : (h : ℕ) → r ≡ B.Value h → systemIn bytes .bound (target (modelOf bytes)) ≡ value h
+  start-value h e = of-value (systemIn bytes .bound (target (modelOf bytes))) at-start e
+
+  pub start-trouble : (t : ℕ) → r ≡ B.Trouble t → systemIn bytes .bound (target (modelOf bytes)) ≡ trouble t
+  start-trouble t e = of-trouble (systemIn bytes .bound (target (modelOf bytes))) at-start e
+
+-- ---- the search of a model that was read
+
+module _ (bytes : List ℕ) (widest limit budget : ℕ) where
+  abbrev searched : A.Answer ℕ
+  searched = search (costsIn bytes) (systemIn bytes) budget limit 1 (widerUpTo widest) (originOf (modelOf bytes))
+
+  nothing-spent : (h : ℕ) → costsIn bytes .combine 0 h ≡ h
+  unfolding costsOf
+  nothing-spent h = cost-laws (modelOf bytes .rule) .left-unit h
+
+  with-bound : (h : ℕ) → systemIn bytes .bound (target (modelOf bytes)) ≡ value h
+      → searched ≡ S.rounds (costsIn bytes) (systemIn bytes) (suc budget) budget limit 1 (widerUpTo widest) 1 (root (costsIn bytes) (systemIn bytes) (originOf (modelOf bytes)) h) (record { best = none; low = h; expansions = 0 })
+  unfolding search begin originOf
+  with-bound h e = rw (e, nothing-spent h)
+
+  without-bound : (t : ℕ) → systemIn bytes .bound (target (modelOf bytes)) ≡ trouble t
+      → searched ≡ answerOf (costsIn bytes) (systemIn bytes) (S.refused t (record { cost = 0; path = [] })) 1 1 (record { best = none; low = 0; expansions = 0 })
+  unfolding search begin originOf answer costsOf
+  without-bound t e = rw e
+
+  module _ (plan plan′ : List ℕ) (x : Answer) where
+    pub says-run : (h : ℕ) → systemIn bytes .bound (target (modelOf bytes)) ≡ value h
+        → (words best : List ℕ) (stop : Stop) → Runs bytes words best widest budget limit h stop → Reports words best plan plan′ stop x → SearchSays bytes plan plan′ widest limit budget x
+    says-run h e words best stop runs r =
+        let same : searched ≡ stopAnswer bytes words best stop = with-bound h e ∙ runs .same in
+        record { answer = answer-same x same (r .answer bytes); plan-after = r .plan-after bytes ∙ ap (λ (a : A.Answer ℕ). bufferAfter a plan) (sym same) }
+
+    pub says-refused : (t : ℕ) → systemIn bytes .bound (target (modelOf bytes)) ≡ trouble t → plan′ ≡ plan → RefusesStart t x → SearchSays bytes plan plan′ widest limit budget x
+    unfolding bufferAfter answerOf
+    says-refused t e kept r =
+        record { answer = answer-same x (without-bound t e) (r .answer bytes); plan-after = kept ∙ ap (λ (a : A.Answer ℕ). bufferAfter a plan) (sym (without-bound t e)) }
+
+-- ---- the run, test by test
+
+pub refused-says : (a : A.Answer ℕ) (t : ℕ) (plan words : List ℕ) (x : Answer) → a ≡ refusedByInput t → AnswerIs (refusedByInput t) x → AnswerIs a x × BuffersAre a plan plan words words
+unfolding refusedByInput bufferAfter
+refused-says a t plan words x e h = (answer-same x e h, record { plan-after = rw e; words-kept = λ u f. refl })
+
+module _ (most : ℕ) (bytes plan words : List ℕ) (w l b : ℕ) where
+  pub run-long : most < length bytes → runOf most bytes plan words w l b ≡ refusedByInput 1
+  unfolding run
+  run-long h = rw (lt-ltb most (length bytes) h)
+
+  module _ (few : length bytes ≤ most) where
+    pub run-unfit : settingsFit (settings w l 0) ≡ false → runOf most bytes plan words w l b ≡ refusedByInput 2
+    unfolding run
+    run-unfit e = let f : settingsFit (settings w l b) ≡ false = fit-whatever w l b 0 ∙ e in rw (le-ltb most (length bytes) few, f)
+
+    module _ (fit : settingsFit (settings w l 0) ≡ true) where
+      pub run-unlent : lentFits (settings w l 0) (lentOf (length plan) (length words)) ≡ false → runOf most bytes plan words w l b ≡ refusedByInput 3
+      unfolding run
+      run-unlent e =
+          let f : settingsFit (settings w l b) ≡ true = fit-whatever w l b 0 ∙ fit in
+          let g : lentFits (settings w l b) (lent plan words) ≡ false = lent-whatever w l (length plan) (length words) b 0 ∙ e in
+          rw (le-ltb most (length bytes) few, f, g)
+
+      module _ (enough : lentFits (settings w l 0) (lentOf (length plan) (length words)) ≡ true) where
+        run-within : runOf most bytes plan words w l b ≡ runRead (model bytes) (settings w l b)
+        unfolding run
+        run-within =
+            let f : settingsFit (settings w l b) ≡ true = fit-whatever w l b 0 ∙ fit in
+            let g : lentFits (settings w l b) (lent plan words) ≡ true = lent-whatever w l (length plan) (length words) b 0 ∙ enough in
+            rw (le-ltb most (length bytes) few, f, g)
+
+        refused-model : (x : Read Model) (t : ℕ) → refusalOf x ≡ t → 0 < t → runRead x (settings w l b) ≡ refusedByInput t
+        unfolding refusalOf runRead
+        refused-model (read m n) t e h = absurd (omega arith)
+        refused-model (refused u) t e h = ap refusedByInput e
+
+        read-well : (x : Read Model) → model bytes ≡ x → refusalOf x ≡ 0 → runRead x (settings w l b) ≡ searched bytes w l b
+        unfolding refusalOf runRead searchModel modelOf readModel
+        read-well (read m n) e h = rw e
+        read-well (refused t) e h = absurd (omega (arith, model-refusal bytes e))
+
+        pub run-refused : (t : ℕ) → t ≡ refusalOf (model bytes) → 0 < t → runOf most bytes plan words w l b ≡ refusedByInput t
+        run-refused t e p = run-within ∙ refused-model (model bytes) t (sym e) p
+
+        run-read : 0 ≡ refusalOf (model bytes) → runOf most bytes plan words w l b ≡ searched bytes w l b
+        run-read e = run-within ∙ read-well (model bytes) refl (sym e)
+
+        pub run-says : 0 ≡ refusalOf (model bytes) → (plan′ words′ : List ℕ) (x : Answer) → SearchSays bytes plan plan′ w l b x
+            → AnswerIs (runOf most bytes plan words w l b) x × BuffersAre (runOf most bytes plan words w l b) plan plan′ words words′
+        run-says e plan′ words′ x says =
+            let same = run-read e in (
+              answer-same x same (says .answer),
+              record {
+                plan-after = says .plan-after ∙ ap (λ (a : A.Answer ℕ). bufferAfter a plan) (sym same);
+                words-kept = λ t f. absurd (never-by-input (costsIn bytes) (systemIn bytes) (originOf (modelOf bytes)) b l 1 (widerUpTo w) t (ap (λ (a : A.Answer ℕ). a .outcome) (sym same) ∙ f));
+              },
+            )
+
+pub guaranteed : (most : ℕ) (bytes plan words : List ℕ) (w l b : ℕ) → Guaranteed bytes w l (runOf most bytes plan words w l b)
+guaranteed most bytes plan words w l b = λ m n e. run-guarantee most bytes (settings w l b) (lent plan words) m n e
+
+-- ---- the answer in numbers
+
+pub in-numbers : (a : Answer) (refused-number verdict-number flag-number : ℕ) → refused-number ≡ cond (isRefusal (outcomeOf (a .outcome))) 1 0 → verdict-number ≡ outcomeNumber (outcomeOf (a .outcome)) → flag-number ≡ cond (a .flag) 1 0
+    → InNumbers a (record { refused = refused-number; verdict = verdict-number; flag = flag-number; cost = a .cost; bound = a .bound; length = a .length; expansions = a .tally .expansions; rounds = a .tally .rounds; width = a .tally .width })
+in-numbers a r v f er ev ef =
+    record {
+      same = λ d is.
+          record {
+            refused = er ∙ ap (λ (o : A.Outcome). cond (isRefusal o) 1 0) (is .outcome);
+            verdict-number = ev ∙ ap outcomeNumber (is .outcome);
+            flag = ef ∙ ap (λ (b : Bool). cond b 1 0) (is .flag);
+            cost = is .cost;
+            bound = is .bound;
+            length-of = is .length-of;
+            expansions = is .expansions;
+            rounds = is .rounds;
+            width = is .width;
+          };
+    }

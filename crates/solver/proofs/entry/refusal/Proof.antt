@@ -1,0 +1,15 @@
+-- `solver::entry::refusal` has the number, and 0 in every other field.
+use mathlib.Core.Path.{refl}
+use Rattle.search.specs.Run.{refusedByInput}
+use Rattle.solver.specs.Answers.{outcomeOf}
+use Rattle.solver.proofs.entry.refusal.Statement.{statement}
+use Rattle.solver.proofs.entry.refusal.Tie as tie
+use Rattle.solver.proofs.entry.refusal.Reads as reads
+use Rattle.solver.proofs.entry.refusal.Lts as lts
+
+returns : tie.Need-returns
+unfolding refusedByInput outcomeOf
+returns c = record { outcome = refl; flag = refl; cost = refl; bound = refl; length-of = refl; expansions = refl; rounds = refl; width = refl }
+
+pub refusal-spec : {M : Type 1} → statement M
+refusal-spec = tie.close (tie.spec returns)

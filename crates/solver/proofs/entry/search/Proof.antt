@@ -1,0 +1,23 @@
+-- `solver::entry::search` meets its contract; what its answer guarantees is the definition's.
+use Rattle.solver.proofs.Entering.{guaranteed}
+use borrow.Author.Needs.{needs}
+use Rattle.solver.proofs.entry.search.Statement.{statement}
+use Rattle.solver.proofs.entry.search.Tie as tie
+use Rattle.solver.proofs.entry.search.Reads as reads
+use Rattle.solver.proofs.entry.search.Lts as lts
+use Rattle.solver.proofs.entry.search_up_to.Reads as search-up-to-reads
+
+search-up-to-requires : tie.Need-search-up-to-requires
+search-up-to-requires c κs = search needs
+
+same-length : tie.Need-same-length
+same-length c = search needs
+
+same-length-2 : tie.Need-same-length-2
+same-length-2 c = search needs
+
+returns : tie.Need-returns
+returns c = (c .before .before .before .before .search-up-to .ensures .0, (c .before .before .before .before .search-up-to .ensures .1, guaranteed 65536 (c .before .before .before .before .before .before .before .before .before .before .args .model .now) (c .before .before .before .before .before .before .before .before .before .before .args .plan .now) (c .before .before .before .before .before .before .before .before .before .before .args .words .now) (c .before .before .before .before .before .before .before .before .before .before .args .width) (c .before .before .before .before .before .before .before .before .before .before .args .length) (c .before .before .before .before .before .before .before .before .before .before .args .budget)))
+
+pub search-spec : {M : Type 1} → statement M
+search-spec = tie.close (tie.spec search-up-to-requires same-length same-length-2 returns)

@@ -1,0 +1,118 @@
+-- `solver::entry::search_up_to` meets its contract: the tests in their order, then the search.
+use mathlib.Core.Path.{_≡_, refl, sym, _∙_}
+use mathlib.Core.Bool.{true}
+use native.Mathlib.Omega.{arith}
+use lib.ListN.{length}
+use Rattle.model.specs.Commands.{model}
+use Rattle.outline.specs.Outline.{refusalOf}
+use Rattle.search.specs.Run.{settingsFit, lentFits}
+use Rattle.solver.specs.Answers.{settings}
+use Rattle.solver.specs.Entered.{lentOf}
+use Rattle.solver.proofs.Entering.{doubling, some-steps, narrow, lent-both, refused-says, run-long, run-unfit, run-unlent, run-refused, run-says}
+use borrow.Author.Needs.{needs}
+use Rattle.solver.proofs.entry.search_up_to.Statement.{statement}
+use Rattle.solver.proofs.entry.search_up_to.Tie as tie
+use Rattle.solver.proofs.entry.search_up_to.Reads as reads
+use Rattle.solver.proofs.entry.search_up_to.Lts as lts
+use Rattle.commands.proofs.read_model.Reads as read-model-reads
+use Rattle.solver.proofs.entry.lent_fits.Reads as lent-fits-reads
+use Rattle.solver.proofs.entry.refusal.Reads as refusal-reads
+use Rattle.solver.proofs.entry.search_model.Reads as search-model-reads
+use Rattle.solver.proofs.entry.settings_fit.Reads as settings-fit-reads
+
+refusal-requires : tie.Need-refusal-requires
+refusal-requires c κs = search needs
+
+returns : tie.Need-returns
+returns c = let a = c .before .before .before .before .before .args in refused-says _ 1 _ _ _ (run-long (a .most) (a .model .now) (a .plan .now) (a .words .now) (a .width) (a .length) (a .budget) (c .before .if1 .taken)) (c .refusal .ensures)
+
+settings-fit-requires : tie.Need-settings-fit-requires
+settings-fit-requires c κs = search needs
+
+lent-fits-requires : tie.Need-lent-fits-requires
+lent-fits-requires c κs =
+    let a = c .before .before .before .before .before .before .args in
+    let fit : settingsFit (settings (a .width) (a .length) 0) ≡ true = sym (c .before .settings-fit .ensures) ∙ c .if2 .taken in
+    (narrow (a .width) (doubling (a .width) (a .length) 0 fit) .1, some-steps (a .width) (a .length) 0 fit)
+
+slice-aggregate-read-model : tie.Need-slice-aggregate-read-model
+slice-aggregate-read-model c = search needs
+
+read-model-requires : tie.Need-read-model-requires
+read-model-requires c κs = search needs
+
+slice-aggregate-search-model : tie.Need-slice-aggregate-search-model
+slice-aggregate-search-model c = search needs
+
+search-model-requires : tie.Need-search-model-requires
+search-model-requires c κs =
+    let a = c .before .before .before .before .before .before .before .before .before .before .before .before .before .before .before .args in
+    let fit : settingsFit (settings (a .width) (a .length) 0) ≡ true = sym (c .before .before .before .before .before .before .before .before .before .before .settings-fit .ensures) ∙ c .before .before .before .before .before .before .before .before .before .if2 .taken in
+    let two = doubling (a .width) (a .length) 0 fit in
+    let enough : lentFits (settings (a .width) (a .length) 0) (lentOf (length (a .plan .now)) (length (a .words .now))) ≡ true = sym (c .before .before .before .before .before .before .before .before .lent-fits .ensures) ∙ c .before .before .before .before .before .before .before .if3 .taken in
+    let both = lent-both (a .width) (a .length) (length (a .plan .now)) (length (a .words .now)) enough in
+    let read = c .before .before .before .before .before .read-model .ensures in (
+      record { outlines = read .1 .0 (c .before .before .before .if4 .taken); long = omega (arith, read .1 .1) },
+      (record { some-width = narrow (a .width) two .0; narrow = narrow (a .width) two .1; few-steps = some-steps (a .width) (a .length) 0 fit; plan-room = both .0; words-room = both .1 }, (two, search needs)),
+    )
+
+same-length : tie.Need-same-length
+same-length c = search needs
+
+same-length-2 : tie.Need-same-length-2
+same-length-2 c = search needs
+
+returns-2 : tie.Need-returns-2
+returns-2 c =
+    let a = c .before .before .before .before .before .before .before .before .before .before .before .before .before .before .before .before .before .before .before .before .args in
+    let fit : settingsFit (settings (a .width) (a .length) 0) ≡ true = sym (c .before .before .before .before .before .before .before .before .before .before .before .before .before .before .before .settings-fit .ensures) ∙ c .before .before .before .before .before .before .before .before .before .before .before .before .before .before .if2 .taken in
+    let enough : lentFits (settings (a .width) (a .length) 0) (lentOf (length (a .plan .now)) (length (a .words .now))) ≡ true = sym (c .before .before .before .before .before .before .before .before .before .before .before .before .before .lent-fits .ensures) ∙ c .before .before .before .before .before .before .before .before .before .before .before .before .if3 .taken in
+    let none : 0 ≡ refusalOf (model (a .model .now)) = sym (c .before .before .before .before .before .before .before .before .if4 .taken) ∙ c .before .before .before .before .before .before .before .before .before .before .read-model .ensures .0 in
+    run-says (a .most) (a .model .now) (a .plan .now) (a .words .now) (a .width) (a .length) (a .budget) (c .before .before .before .before .before .before .before .before .before .before .before .before .before .before .before .before .if1 .left) fit enough none _ _ _ (c .before .before .before .before .search-model .ensures)
+
+refusal-requires-2 : tie.Need-refusal-requires-2
+refusal-requires-2 c κs = search needs
+
+returns-3 : tie.Need-returns-3
+returns-3 c =
+    let a = c .before .before .before .before .before .before .before .before .before .before .before .before .before .args in
+    let fit : settingsFit (settings (a .width) (a .length) 0) ≡ true = sym (c .before .before .before .before .before .before .before .before .settings-fit .ensures) ∙ c .before .before .before .before .before .before .before .if2 .taken in
+    let enough : lentFits (settings (a .width) (a .length) 0) (lentOf (length (a .plan .now)) (length (a .words .now))) ≡ true = sym (c .before .before .before .before .before .before .lent-fits .ensures) ∙ c .before .before .before .before .before .if3 .taken in
+    refused-says _ _ _ _ _ (run-refused (a .most) (a .model .now) (a .plan .now) (a .words .now) (a .width) (a .length) (a .budget) (c .before .before .before .before .before .before .before .before .before .if1 .left) fit enough _ (c .before .before .before .read-model .ensures .0) (omega (arith, c .before .if4 .left))) (c .refusal2 .ensures)
+
+refusal-requires-3 : tie.Need-refusal-requires-3
+refusal-requires-3 c κs = search needs
+
+returns-4 : tie.Need-returns-4
+returns-4 c =
+    let a = c .before .before .before .before .before .before .before .before .before .args in
+    let fit : settingsFit (settings (a .width) (a .length) 0) ≡ true = sym (c .before .before .before .before .settings-fit .ensures) ∙ c .before .before .before .if2 .taken in
+    refused-says _ 3 _ _ _ (run-unlent (a .most) (a .model .now) (a .plan .now) (a .words .now) (a .width) (a .length) (a .budget) (c .before .before .before .before .before .if1 .left) fit (sym (c .before .before .lent-fits .ensures) ∙ c .before .if3 .left)) (c .refusal3 .ensures)
+
+refusal-requires-4 : tie.Need-refusal-requires-4
+refusal-requires-4 c κs = search needs
+
+returns-5 : tie.Need-returns-5
+returns-5 c = let a = c .before .before .before .before .before .before .before .args in refused-says _ 2 _ _ _ (run-unfit (a .most) (a .model .now) (a .plan .now) (a .words .now) (a .width) (a .length) (a .budget) (c .before .before .before .if1 .left) (sym (c .before .before .settings-fit .ensures) ∙ c .before .if2 .left)) (c .refusal4 .ensures)
+
+pub search-up-to-spec : {M : Type 1} → statement M
+search-up-to-spec =
+    tie.close
+    (tie.spec
+    refusal-requires
+    returns
+    settings-fit-requires
+    lent-fits-requires
+    slice-aggregate-read-model
+    read-model-requires
+    slice-aggregate-search-model
+    search-model-requires
+    same-length
+    same-length-2
+    returns-2
+    refusal-requires-2
+    returns-3
+    refusal-requires-3
+    returns-4
+    refusal-requires-4
+    returns-5)

@@ -1,0 +1,27 @@
+-- `solver::exports::repgypsum_search` is the search, its answer in numbers.
+use borrow.Author.Needs.{needs}
+use Rattle.solver.proofs.exports.repgypsum_search.Statement.{statement}
+use Rattle.solver.proofs.exports.repgypsum_search.Tie as tie
+use Rattle.solver.proofs.exports.repgypsum_search.Reads as reads
+use Rattle.solver.proofs.exports.repgypsum_search.Lts as lts
+use Rattle.solver.proofs.entry.search.Reads as search-reads
+use Rattle.solver.proofs.exports.fields.Reads as fields-reads
+
+search-requires : tie.Need-search-requires
+search-requires c κs = search needs
+
+fields-requires : tie.Need-fields-requires
+fields-requires c κs = search needs
+
+same-length : tie.Need-same-length
+same-length c = search needs
+
+same-length-2 : tie.Need-same-length-2
+same-length-2 c = search needs
+
+returns : tie.Need-returns
+returns c = (c .fields .ensures .same _ (c .before .before .before .before .before .search .ensures .0), (c .before .before .before .before .before .search .ensures .1 .0, c .before .before .before .before .before .search .ensures .1 .1))
+
+pub repgypsum-search-spec : {M : Type 1} → statement M
+repgypsum-search-spec =
+    tie.close (tie.spec search-requires fields-requires same-length same-length-2 returns)

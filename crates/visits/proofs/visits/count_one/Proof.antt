@@ -1,0 +1,14 @@
+-- `visits::visits::count_one` meets its contract.
+use borrow.Author.Needs.{needs}
+use Rattle.visits.proofs.Visiting.{counted-one}
+use Rattle.visits.proofs.visits.count_one.Statement.{statement}
+use Rattle.visits.proofs.visits.count_one.Tie as tie
+
+add-t4 : tie.Need-add-t4
+add-t4 c = search needs
+
+returns : tie.Need-returns
+returns c = counted-one (c .before .before .before .args .round)
+
+pub count-one-spec : {M : Type 1} → statement M
+count-one-spec = tie.close (tie.spec add-t4 returns)

@@ -1,0 +1,45 @@
+-- `visits::visits::visit` meets its contract.
+use mathlib.Core.Path.{refl}
+use borrow.Author.Needs.{needs}
+use Rattle.visits.proofs.Visiting.{slot-room, met-at, visited-at}
+use Rattle.visits.proofs.visits.visit.Statement.{statement}
+use Rattle.visits.proofs.visits.visit.Tie as tie
+
+slice-aggregate-copy-node : tie.Need-slice-aggregate-copy-node
+slice-aggregate-copy-node c = search needs
+
+copy-node-requires : tie.Need-copy-node-requires
+copy-node-requires c κs =
+    let start = c .before .before .before .before .before .before in
+    (slot-room (start .pre .0) (start .args .i) (start .pre .1), refl)
+
+slice-aggregate-visit-node : tie.Need-slice-aggregate-visit-node
+slice-aggregate-visit-node c = search needs
+
+visit-node-requires : tie.Need-visit-node-requires
+visit-node-requires c κs =
+    let start = c .before .before .before .before .before .before .before .before .before .before .before in
+    (met-at (start .pre .0) (start .args .i) (start .pre .1) _ (c .before .before .before .before .copy-node .ensures), start .pre .0 .plan-room)
+
+same-length : tie.Need-same-length
+same-length c = search needs
+
+same-length-2 : tie.Need-same-length-2
+same-length-2 c = search needs
+
+returns : tie.Need-returns
+returns c =
+    let start = c .before .before .before .before .before .before .before .before .before .before .before .before .before .before .before .before in
+    visited-at (start .args .model .now) (start .args .outline .now) (start .args .words .now) _ (start .args .plan .now) _ (start .args .w) (start .args .budget) (start .args .limit) (start .args .k) (start .args .i) (start .args .round) (c .before .before .before .before .visit-node .result) _ (c .before .before .before .before .before .before .before .before .before .copy-node .ensures) (c .before .before .before .before .visit-node .ensures)
+
+pub visit-spec : {M : Type 1} → statement M
+visit-spec =
+    tie.close
+    (tie.spec
+    slice-aggregate-copy-node
+    copy-node-requires
+    slice-aggregate-visit-node
+    visit-node-requires
+    same-length
+    same-length-2
+    returns)

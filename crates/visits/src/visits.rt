@@ -1,0 +1,289 @@
+// One node of a layer: a base state, a state at the limit, or one to expand.
+
+ghost use mathlib.Core.Path.{_≡_};
+ghost use mathlib.Core.Bool.{_||_};
+ghost use Prim.Native.Nat.{_+_, _-_, _≤_, _<_, _^_};
+ghost use lib.ListN.{length};
+ghost use Rattle.search.specs.Search as definition;
+ghost use Rattle.order.specs.Slots.{wordsIn};
+ghost use Rattle.outline.specs.Outline.{modelOf};
+ghost use Rattle.steps.specs.Held.{systemIn};
+ghost use Rattle.steps.specs.Follow.{costsIn};
+ghost use Rattle.beam.specs.Nodes.{nodeAt};
+ghost use Rattle.routes.specs.Routes.{pathBy};
+ghost use Rattle.visits.specs.Work.{Ready, Leaves};
+ghost use Rattle.visits.specs.Visits.{NewBest, Reached, Limited, Counted, Told, Met, Keeps};
+use crate::work::Best;
+use crate::work::Ending;
+use crate::work::Marks;
+use crate::work::Next;
+use crate::work::Progress;
+use crate::work::Round;
+use crate::work::Verdict;
+use crate::work::Visited;
+use expansion::children::below_best;
+use expansion::children::either;
+use expansion::children::expand;
+use expansion::trials::Expanded;
+use expansion::trials::Trial;
+use order::F_AT;
+use routes::current::copy_node;
+use routes::trace::trace;
+use steps::answers::StatusAnswer;
+use steps::conditions::status;
+
+const G_AT: usize = 16;
+
+// Rule 2: a plan of k steps and cost g becomes best; the run is over if g is at most low.
+fn new_best(k: usize, g: u64, round: Round) -> Visited
+    ensures { λ r. ⌜ NewBest k g round r ⌝ }
+{
+    let low = round.progress.low;
+    let marks = round.marks;
+    let improved = Round {
+        count: round.count,
+        marks: marks,
+        improved: true,
+        progress: Progress {
+            best: Best {
+                found: true,
+                cost: g,
+                length: k,
+            },
+            low: low,
+            expansions: round.progress.expansions,
+        },
+    };
+    if g <= low {
+        if low <= g {
+            return Visited {
+                round: improved,
+                next: Next::Over(Ending::Decided(Verdict::Cheapest)),
+            };
+        }
+        return Visited {
+            round: improved,
+            next: Next::Over(Ending::Decided(Verdict::Contradicted)),
+        };
+    }
+    Visited {
+        round: improved,
+        next: Next::On,
+    }
+}
+
+// Rule 2: the base state in slot i of layer k, its path costing g; the plan is written if it is best.
+fn reached(
+    words: &[u64],
+    plan: &mut [u8],
+    w: usize,
+    k: usize,
+    i: usize,
+    g: u64,
+    round: Round,
+) -> Visited
+    requires { ⌜ (i < w) × ((w ≤ 4096) × ((k ≤ 256) × (k ≤ length (now plan)))) ⌝ }
+    ensures { λ r. ⌜ Reached (now (words .entry)) (now (plan .entry)) (now (plan .exit)) w k i g round r ⌝ }
+{
+    let found = round.progress.best.found;
+    let cost = round.progress.best.cost;
+    if below_best(found, cost, g) {
+        trace(words, w, k, i, plan);
+        return new_best(k, g, round);
+    }
+    Visited {
+        round: round,
+        next: Next::On,
+    }
+}
+
+// Rule 3: a state at the limit sets the length mark if its f is below the best cost.
+fn at_limit(f: u64, round: Round) -> Round
+    ensures { λ r. ⌜ Limited f round r ⌝ }
+{
+    let best = round.progress.best;
+    let progress = round.progress;
+    let below = below_best(best.found, best.cost, f);
+    let mark = either(round.marks.length, below);
+    Round {
+        count: round.count,
+        marks: Marks {
+            width: round.marks.width,
+            length: mark,
+        },
+        improved: round.improved,
+        progress: progress,
+    }
+}
+
+// The round with one expansion more.
+fn count_one(round: Round) -> Round
+    requires { ⌜ round .progress .expansions + 1 < 2 ^ 64 ⌝ }
+    ensures { λ r. ⌜ Counted round r ⌝ }
+{
+    let best = round.progress.best;
+    let marks = round.marks;
+    Round {
+        count: round.count,
+        marks: marks,
+        improved: round.improved,
+        progress: Progress {
+            best: best,
+            low: round.progress.low,
+            expansions: round.progress.expansions + 1,
+        },
+    }
+}
+
+// What the expansion of the node in slot i, its path costing g, makes of the round.
+fn told(g: u64, i: usize, x: Expanded, round: Round) -> Visited
+    ensures { λ r. ⌜ Told g i x round r ⌝ }
+{
+    let progress = round.progress;
+    let mark = either(round.marks.width, x.cut);
+    let after = Round {
+        count: x.count,
+        marks: Marks {
+            width: mark,
+            length: round.marks.length,
+        },
+        improved: round.improved,
+        progress: progress,
+    };
+    let trial = x.trial;
+    match trial {
+        Trial::On => Visited {
+            round: after,
+            next: Next::On,
+        },
+        Trial::Before(e) => Visited {
+            round: after,
+            next: Next::Over(Ending::At(e, g, i)),
+        },
+        Trial::At(e, c, t) => Visited {
+            round: after,
+            next: Next::Over(Ending::Beyond(e, c, i, t)),
+        },
+    }
+}
+
+// Rule 4: counts one expansion, and expands the node in slot i of layer k.
+fn expand_node(
+    words: &mut [u64],
+    model: &[u8],
+    outline: &[u64],
+    w: usize,
+    limit: usize,
+    k: usize,
+    i: usize,
+    node: &[u64],
+    round: Round,
+) -> Visited
+    requires { ⌜ Met (now model) (now outline) (now words) (now node) w limit k i round × ((k < limit) × (round .progress .expansions + 1 < 2 ^ 64)) ⌝ }
+    ensures { λ r. ⌜ Keeps (now (model .entry)) (now (outline .entry)) (now (words .entry)) (now (words .exit)) w limit k round r (λ q. definition.expand (costsIn (now (model .entry))) (systemIn (now (model .entry))) w (systemIn (now (model .entry)) .transitions) 0 (nodeAt (modelOf (now (model .entry)) .variables) (pathBy (now (words .entry)) w k) i (now (node .entry))) (definition.counted (costsIn (now (model .entry))) (systemIn (now (model .entry))) q)) ⌝ }
+{
+    let n = round.count;
+    let best = round.progress.best;
+    let found = best.found;
+    let cost = best.cost;
+    let g = node[G_AT];
+    let a = 20 * w;
+    let e = 46 * w;
+    let x = expand(&mut words[a..e], model, outline, w, n, found, cost, node, i);
+    told(g, i, x, count_one(round))
+}
+
+// Rule 3: the unfinished state in slot i of layer k.
+fn advance(
+    words: &mut [u64],
+    model: &[u8],
+    outline: &[u64],
+    w: usize,
+    budget: u64,
+    limit: usize,
+    k: usize,
+    i: usize,
+    node: &[u64],
+    round: Round,
+) -> Visited
+    requires { ⌜ Met (now model) (now outline) (now words) (now node) w limit k i round ⌝ }
+    ensures { λ r. ⌜ Keeps (now (model .entry)) (now (outline .entry)) (now (words .entry)) (now (words .exit)) w limit k round r (definition.advance (costsIn (now (model .entry))) (systemIn (now (model .entry))) budget w (limit - k) (nodeAt (modelOf (now (model .entry)) .variables) (pathBy (now (words .entry)) w k) i (now (node .entry)))) ⌝ }
+{
+    if k == limit {
+        return Visited {
+            round: at_limit(node[F_AT], round),
+            next: Next::On,
+        };
+    }
+    if round.progress.expansions < budget {
+        return expand_node(words, model, outline, w, limit, k, i, node, round);
+    }
+    Visited {
+        round: round,
+        next: Next::Over(Ending::Decided(Verdict::BudgetSpent)),
+    }
+}
+
+// Rules 2 and 3: the node with these words, in slot i of layer k.
+fn visit_node(
+    words: &mut [u64],
+    plan: &mut [u8],
+    model: &[u8],
+    outline: &[u64],
+    w: usize,
+    budget: u64,
+    limit: usize,
+    k: usize,
+    i: usize,
+    node: &[u64],
+    round: Round,
+) -> Visited
+    requires { ⌜ Met (now model) (now outline) (now words) (now node) w limit k i round × (limit ≤ length (now plan)) ⌝ }
+    ensures { λ r. ⌜ Leaves (now (model .entry)) (now (outline .entry)) (now (words .entry)) (now (words .exit)) (now (plan .entry)) (now (plan .exit)) w limit k round r (definition.visit (costsIn (now (model .entry))) (systemIn (now (model .entry))) budget w (limit - k) (systemIn (now (model .entry)) .status (nodeAt (modelOf (now (model .entry)) .variables) (pathBy (now (words .entry)) w k) i (now (node .entry)) .state)) (nodeAt (modelOf (now (model .entry)) .variables) (pathBy (now (words .entry)) w k) i (now (node .entry)))) ⌝ }
+{
+    let g = node[G_AT];
+    match status(model, outline, &node[..16]) {
+        StatusAnswer::Base => reached(words, plan, w, k, i, g, round),
+        StatusAnswer::Unfinished => {
+            advance(words, model, outline, w, budget, limit, k, i, node, round)
+        }
+        StatusAnswer::Trouble(e) => Visited {
+            round: round,
+            next: Next::Over(Ending::At(e, g, i)),
+        },
+    }
+}
+
+// Rules 2 and 3: takes the node in slot i of layer k.
+pub fn visit(
+    words: &mut [u64],
+    plan: &mut [u8],
+    model: &[u8],
+    outline: &[u64],
+    w: usize,
+    budget: u64,
+    limit: usize,
+    k: usize,
+    n: usize,
+    i: usize,
+    round: Round,
+) -> Visited
+    requires { ⌜ Ready (now model) (now outline) (now words) (now plan) w limit k n round × (i < n) ⌝ }
+    ensures { λ r. ⌜ Leaves (now (model .entry)) (now (outline .entry)) (now (words .entry)) (now (words .exit)) (now (plan .entry)) (now (plan .exit)) w limit k round r (definition.visit (costsIn (now (model .entry))) (systemIn (now (model .entry))) budget w (limit - k) (systemIn (now (model .entry)) .status (nodeAt (modelOf (now (model .entry)) .variables) (pathBy (now (words .entry)) w k) i (wordsIn (now (words .entry)) i) .state)) (nodeAt (modelOf (now (model .entry)) .variables) (pathBy (now (words .entry)) w k) i (wordsIn (now (words .entry)) i))) ⌝ }
+{
+    let mut node = [0u64; 20];
+    copy_node(words, i, &mut node);
+    visit_node(
+        words,
+        plan,
+        model,
+        outline,
+        w,
+        budget,
+        limit,
+        k,
+        i,
+        &node,
+        round,
+    )
+}

@@ -1,0 +1,79 @@
+/* Repgypsum for C: the search and the plan check on the bytes of a model.
+ *
+ * Link with target/staticlib/libsolver.a and target/staticlib/libchecker.a, which `rt staticlib solver` and
+ * `rt staticlib checker` write, on x86-64. Every function takes any bytes and any numbers: what is wrong with them is told
+ * by a refusal. Nothing is allocated, nothing is kept between calls, and no call uses more than a few kilobytes of stack.
+ * A pointer may be null only where its length is 0.
+ */
+#ifndef REPGYPSUM_H
+#define REPGYPSUM_H
+
+#include <stdint.h>
+
+#ifdef __cplusplus
+extern "C" {
+#endif
+
+/* How a run ended. Runs with 2, 3 or 4 are stopped: their bound is at most the cost of every plan, if the model's declared
+ * bounds and preferences are true. */
+enum repgypsum_verdict {
+    REPGYPSUM_CHEAPEST = 0,     /* the plan costs no more than any other, if the declarations are true */
+    REPGYPSUM_NO_PLAN = 1,      /* there is none, if the declarations are true */
+    REPGYPSUM_WIDTH_STOP = 2,   /* some layer has more states than the widest beam */
+    REPGYPSUM_LENGTH_STOP = 3,  /* some unfinished state lies at the length limit */
+    REPGYPSUM_BUDGET_SPENT = 4,
+    REPGYPSUM_CONTRADICTED = 5  /* some declaration is false */
+};
+
+/* Why a call was refused: 1 to 9 by the input, 11 to 14 by a state. */
+enum repgypsum_refusal {
+    REPGYPSUM_MODEL_TOO_LONG = 1,   /* over 65,536 bytes */
+    REPGYPSUM_SETTING = 2,          /* a setting out of range, or a plan of over 256 steps */
+    REPGYPSUM_TOO_LITTLE_LENT = 3,
+    REPGYPSUM_ENDS_EARLY = 4,
+    REPGYPSUM_NOT_DUE = 5,          /* a byte that begins nothing due here */
+    REPGYPSUM_MISMATCH = 6,         /* wrong kind, undeclared name, counts that do not fit */
+    REPGYPSUM_OFF_LIMITS = 7,       /* an operand outside its limits, one command too many, a second effect */
+    REPGYPSUM_TOO_DEEP = 8,
+    REPGYPSUM_AFTER_END = 9,
+    REPGYPSUM_OUT_OF_RANGE = 11,    /* a number expression left -2^31 .. 2^31 - 1 */
+    REPGYPSUM_DIVISOR_ZERO = 12,
+    REPGYPSUM_NEGATIVE_COST = 13,
+    REPGYPSUM_NOT_A_PLAN = 14       /* plan check only */
+};
+
+/* The answer of a search. At a refusal by the input all fields but the first two are 0. At a refusal by a state cost, length
+ * and the plan buffer give the path to the state evaluated. */
+struct repgypsum_answer {
+    uint32_t refused;     /* 0: `number` is a verdict. 1: it is a refusal */
+    uint32_t number;
+    uint64_t plan;        /* 1 if a plan is given */
+    uint64_t cost;
+    uint64_t bound;
+    uint64_t length;      /* steps at the front of the plan buffer */
+    uint64_t expansions;
+    uint64_t rounds;      /* rounds begun */
+    uint64_t width;       /* of the last round */
+};
+
+/* What a search with widest beam `width` and length limit `length` has to be lent. */
+#define REPGYPSUM_PLAN_BYTES(width, length) ((uintptr_t)(length))
+#define REPGYPSUM_WORDS(width, length) ((uintptr_t)(width) * 64 + (uintptr_t)(width) * ((uintptr_t)(length) + 1))
+
+/* Looks for the cheapest plan. width: 1, 2, 4 up to 4,096. length: 1 to 256. budget: the most expansions.
+ * The plan's steps, a transition's number each, are written to the front of `plan`; the rest of it stays. `words` is working
+ * memory; its values afterwards mean nothing. A refusal by the input changes neither. */
+struct repgypsum_answer repgypsum_search(const uint8_t *model, uintptr_t model_len, uint32_t width, uint32_t length, uint32_t budget,
+                                         uint8_t *plan, uintptr_t plan_len, uint64_t *words, uintptr_t words_len);
+
+/* The plan check, step by step: 0 exactly if the bytes are a plan of the model, else the refusal's number. */
+uint8_t repgypsum_check_answer(const uint8_t *model, uintptr_t model_len, const uint8_t *plan, uintptr_t plan_len);
+
+/* The plan's cost where the answer is 0, else 0. */
+uint64_t repgypsum_check_cost(const uint8_t *model, uintptr_t model_len, const uint8_t *plan, uintptr_t plan_len);
+
+#ifdef __cplusplus
+}
+#endif
+
+#endif

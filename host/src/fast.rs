@@ -1,0 +1,60 @@
+//! The search of document 01 in a fast form, for benchmarks and as a third opinion.
+//!
+//! It shares the reader of models with the reference, and nothing of the evaluation or of the search.
+
+mod compile;
+mod expression;
+mod layer;
+mod program;
+mod run;
+
+use crate::reference::{limit, read_model, refusal, Answer};
+use program::Program;
+use run::Run;
+
+/// What a run did beside its answer.
+#[derive(Clone, Copy, PartialEq, Eq, Debug, Default)]
+pub struct Counts {
+    /// Children with f below the best, which were offered to the next layer.
+    pub children: u64,
+    /// Children that entered the next layer.
+    pub entered: u64,
+}
+
+/// The answer of a search, and its plan, or the path to the trouble.
+pub fn search(model: &[u8], width: u64, length: u64, budget: u64) -> (Answer, Vec<u8>) {
+    let (answer, plan, _) = search_counted(model, width, length, budget);
+    (answer, plan)
+}
+
+/// The same with the counts of the run.
+pub fn search_counted(
+    model: &[u8],
+    width: u64,
+    length: u64,
+    budget: u64,
+) -> (Answer, Vec<u8>, Counts) {
+    match program(model, width, length) {
+        Ok(program) => Run::new(&program, width, length, budget).answer(),
+        Err(number) => {
+            let answer = Answer {
+                refused: true,
+                number,
+                ..Answer::default()
+            };
+            (answer, Vec::new(), Counts::default())
+        }
+    }
+}
+
+/// The compiled model, or the refusal by the input. Nothing is lent, so refusal 3 does not occur.
+fn program(model: &[u8], width: u64, length: u64) -> Result<Program, u8> {
+    if model.len() > limit::MODEL_BYTES {
+        return Err(refusal::TOO_LONG);
+    }
+    let width_fits = width.is_power_of_two() && width <= limit::WIDTH;
+    if !width_fits || length == 0 || length > limit::LENGTH {
+        return Err(refusal::SETTING);
+    }
+    Ok(Program::of(&read_model(model)?))
+}

@@ -1,0 +1,90 @@
+//! The proved search and plan check, through their C interface.
+
+use crate::reference::Answer;
+
+/// The answer's fields as the proved search returns them.
+#[repr(C)]
+struct Fields {
+    refused: u32,
+    verdict: u32,
+    flag: u64,
+    cost: u64,
+    bound: u64,
+    length: u64,
+    expansions: u64,
+    rounds: u64,
+    width: u64,
+}
+
+extern "C" {
+    fn repgypsum_search(
+        model: *const u8,
+        model_len: usize,
+        width: u32,
+        length: u32,
+        budget: u32,
+        plan: *mut u8,
+        plan_len: usize,
+        words: *mut u64,
+        words_len: usize,
+    ) -> Fields;
+    fn repgypsum_check_answer(
+        model: *const u8,
+        model_len: usize,
+        plan: *const u8,
+        plan_len: usize,
+    ) -> u8;
+    fn repgypsum_check_cost(
+        model: *const u8,
+        model_len: usize,
+        plan: *const u8,
+        plan_len: usize,
+    ) -> u64;
+}
+
+/// Searches with these buffers; the plan is written to the front of `plan`.
+pub fn search(
+    model: &[u8],
+    width: u32,
+    length: u32,
+    budget: u32,
+    plan: &mut [u8],
+    words: &mut [u64],
+) -> Answer {
+    // Safety: each pointer comes with the length of its own slice; the function reads and writes inside them alone.
+    let fields = unsafe {
+        repgypsum_search(
+            model.as_ptr(),
+            model.len(),
+            width,
+            length,
+            budget,
+            plan.as_mut_ptr(),
+            plan.len(),
+            words.as_mut_ptr(),
+            words.len(),
+        )
+    };
+    Answer {
+        refused: fields.refused == 1,
+        number: fields.verdict as u8,
+        plan_flag: fields.flag == 1,
+        cost: fields.cost,
+        bound: fields.bound,
+        length: fields.length,
+        expansions: fields.expansions,
+        rounds: fields.rounds,
+        width: fields.width,
+    }
+}
+
+/// The plan check's answer number, and the cost where it is 0.
+pub fn plan_check(model: &[u8], plan: &[u8]) -> (u8, u64) {
+    // Safety: as above; both functions only read.
+    unsafe {
+        (
+            repgypsum_check_answer(model.as_ptr(), model.len(), plan.as_ptr(), plan.len()),
+            repgypsum_check_cost(model.as_ptr(), model.len(), plan.as_ptr(), plan.len()),
+        )
+    }
+}

@@ -1,0 +1,205 @@
+//! The proved search and plan check, as built, against the independent implementation: every field, every buffer byte.
+//! REPGYPSUM_MODELS=N makes the run over random models longer.
+
+use repgypsum_host::cases::{groups, Call, Outcome};
+use repgypsum_host::enumerate::Space;
+use repgypsum_host::generate::{damaged, model, Random};
+use repgypsum_host::reference::{self, read_model, words_needed, Answer};
+use repgypsum_host::{proved, slip::Slip};
+
+const FILL: u8 = 0xA5;
+const WORD: u64 = 0x0123_4567_89AB_CDEF;
+const STATES: usize = 300;
+
+/// How many random models a test takes: 20,000, or as many as the variable says.
+fn models() -> usize {
+    let asked = std::env::var("REPGYPSUM_MODELS").ok();
+    asked.and_then(|n| n.parse().ok()).unwrap_or(20_000)
+}
+
+/// A widest beam from 1 to 64, a length from 1 to 12, a budget from 0 on.
+fn settings(random: &mut Random) -> (u64, u64, u64) {
+    let width = 1 << random.below(7);
+    let length = random.between(1, 12) as u64;
+    let budget = random.pick(&[0, 1, 2, 3, 5, 8, 13, 40, 200, 3_000, u64::from(u32::MAX)]);
+    (width, length, budget)
+}
+
+/// Runs a search by both with the same buffers, compares all that they leave, and answers the answer and the plan buffer.
+fn compare(
+    model: &[u8],
+    (width, length, budget): (u64, u64, u64),
+    plan_bytes: usize,
+    lent: u64,
+) -> (Answer, Vec<u8>) {
+    let mut expected_plan = vec![FILL; plan_bytes];
+    let expected = reference::search(model, width, length, budget, &mut expected_plan, lent);
+    let mut plan = vec![FILL; plan_bytes];
+    let mut words = vec![WORD; lent as usize];
+    let answer = proved::search(
+        model,
+        width as u32,
+        length as u32,
+        budget as u32,
+        &mut plan,
+        &mut words,
+    );
+    let call = format!("W {width} L {length} budget {budget}: {model:02x?}");
+    assert_eq!(answer, expected, "{call}");
+    assert_eq!(plan, expected_plan, "{call}");
+    if answer.refused && answer.number < 11 {
+        assert!(words.iter().all(|word| *word == WORD), "{call}");
+    }
+    (answer, plan)
+}
+
+/// The same with the buffers that the settings need and a few bytes and words more.
+fn compare_at(model: &[u8], settings: (u64, u64, u64), more: usize) -> (Answer, Vec<u8>) {
+    let (width, length, _) = settings;
+    let words = words_needed(width, length) + more as u64;
+    compare(model, settings, length as usize + more, words)
+}
+
+#[test]
+fn stored_cases() {
+    let mut searches = 0;
+    let mut checks = 0;
+    for (_, cases) in groups() {
+        for case in cases {
+            match (&case.call, case.call.run(Slip::Nothing)) {
+                (Call::Check { model, plan }, Outcome::Check(answer, cost)) => {
+                    assert_eq!(proved::plan_check(model, plan), (answer, cost));
+                    checks += 1;
+                }
+                (
+                    Call::Search {
+                        model,
+                        width,
+                        length,
+                        budget,
+                        buffer,
+                        words,
+                    },
+                    Outcome::Search(..),
+                ) => {
+                    let lent = (*words).min(400_000);
+                    compare(model, (*width, *length, *budget), buffer.len(), lent);
+                    searches += 1;
+                }
+                _ => unreachable!("a call has its own outcome"),
+            }
+        }
+    }
+    println!("{searches} searches, {checks} plan checks");
+    assert!(searches >= 150 && checks >= 400);
+}
+
+/// Random models at random settings; demand 3's sentences by enumeration where the model is small enough.
+#[test]
+fn random_models() {
+    let mut random = Random::new(0xF1E1D);
+    let mut verdicts = [0; 6];
+    let mut refusals = [0; 14];
+    let mut enumerated = 0;
+    let mut declarations = 0;
+    for _ in 0..models() {
+        let bytes = model(&mut random).end();
+        let settings = settings(&mut random);
+        let more = random.below(4);
+        let (answer, buffer) = compare_at(&bytes, settings, more);
+        let plan = &buffer[..answer.length as usize];
+        if answer.refused {
+            refusals[usize::from(answer.number)] += 1;
+            continue;
+        }
+        verdicts[usize::from(answer.number)] += 1;
+        if answer.plan_flag {
+            assert_eq!(proved::plan_check(&bytes, plan), (0, answer.cost));
+        }
+        let read = read_model(&bytes).expect("a generated model is well made");
+        let Some(space) = Space::of(&read, STATES) else {
+            continue;
+        };
+        let all_true = space.bounds_true(&read) && space.preferences_true(&read);
+        let (width, length, _) = settings;
+        let broken = space.broken(&read, all_true, (width, length), &answer, plan);
+        assert_eq!(broken, None, "{settings:?} {bytes:02x?}");
+        enumerated += 1;
+        declarations += usize::from(all_true);
+    }
+    println!(
+        "verdicts 0 to 5 {verdicts:?}, refusals 11 to 13 {:?}",
+        &refusals[11..]
+    );
+    println!("{enumerated} enumerated, {declarations} of these with true declarations");
+    assert!(verdicts.iter().all(|met| *met >= 20));
+    assert!(refusals[11..].iter().all(|met| *met >= 20));
+    assert!(enumerated >= 5_000 && declarations >= 1_000);
+}
+
+/// Plan checks of random sequences, and of plans with a step changed.
+#[test]
+fn random_plan_checks() {
+    let mut random = Random::new(0xC4EC);
+    let mut answers = [0; 15];
+    for _ in 0..models() {
+        let bytes = model(&mut random).end();
+        let (answer, buffer) = compare_at(&bytes, (8, 8, 200), 0);
+        let mut plan = buffer[..answer.length as usize].to_vec();
+        if random.chance(50) || plan.is_empty() {
+            plan = (0..random.below(6))
+                .map(|_| random.below(5) as u8)
+                .collect();
+        } else if random.chance(30) {
+            let place = random.below(plan.len());
+            plan[place] = random.below(6) as u8;
+        }
+        let checked = proved::plan_check(&bytes, &plan);
+        assert_eq!(
+            checked,
+            reference::plan_check(&bytes, &plan),
+            "{bytes:02x?} {plan:?}"
+        );
+        answers[usize::from(checked.0)] += 1;
+    }
+    println!("answers by number {answers:?}");
+    assert!([0, 11, 12, 14].iter().all(|number| answers[*number] >= 20));
+}
+
+/// Damaged models, settings out of range and too little lent: the same refusals, and nothing lent is changed.
+#[test]
+fn damaged_calls() {
+    let mut random = Random::new(0xDA3A);
+    let mut refusals = [0; 15];
+    for _ in 0..models() {
+        let build = model(&mut random);
+        let bytes = if random.chance(80) {
+            damaged(&mut random, &build)
+        } else {
+            build.end()
+        };
+        let (mut width, mut length, budget) = settings(&mut random);
+        if random.chance(10) {
+            width = random.pick(&[0, 3, 5, 6, 12, 4_095, 8_192]);
+        }
+        if random.chance(5) {
+            length = random.pick(&[0, 257, 1_000]);
+        }
+        let short = random.pick(&[0, 0, 0, 0, 0, 0, 0, 1, 2, 9]);
+        let words = words_needed(width, length)
+            .min(100_000)
+            .saturating_sub(short);
+        let plan_bytes =
+            (length.min(300) as usize).saturating_sub(random.pick(&[0, 0, 0, 0, 0, 1]));
+        let (answer, _) = compare(&bytes, (width, length, budget), plan_bytes, words);
+        refusals[if answer.refused {
+            usize::from(answer.number)
+        } else {
+            0
+        }] += 1;
+    }
+    println!("refusals by number, 0 for an answer {refusals:?}");
+    assert!([0, 2, 3, 4, 5, 6, 7, 9]
+        .iter()
+        .all(|number| refusals[*number] >= 20));
+}
