@@ -1,9 +1,10 @@
 //! What stands outside the proofs: a plain second implementation of document 01 with its enumeration, test vectors and model
-//! families, a fast one to measure against, the proved libraries, and the text form of models.
+//! families, a fast one to measure against, the proved libraries, the text form of models, and the command line.
 
 pub mod bench;
 pub mod build;
 pub mod cases;
+pub mod command;
 pub mod enumerate;
 pub mod families;
 pub mod fast;

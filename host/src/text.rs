@@ -5,6 +5,7 @@ mod cursor;
 mod expressions;
 mod kinds;
 mod lexer;
+mod listing;
 mod names;
 mod parser;
 mod place;
@@ -16,9 +17,11 @@ mod terms;
 
 use crate::reference::read_model;
 
+pub use listing::{Listing, Step};
 pub use names::{Group, Names, VariableName};
 pub use place::{Error, Place};
 pub use printer::disassemble;
+pub use spelling::braces;
 
 /// The bytes of the model that the text describes, or what is wrong with the text.
 pub fn assemble(text: &str) -> Result<Vec<u8>, Error> {

@@ -3,6 +3,8 @@
 
 use repgypsum_host::cases::{groups, Call, Outcome};
 use repgypsum_host::enumerate::Space;
+use repgypsum_host::families::families;
+use repgypsum_host::fast;
 use repgypsum_host::generate::{damaged, model, Random};
 use repgypsum_host::reference::{self, read_model, words_needed, Answer};
 use repgypsum_host::{proved, slip::Slip};
@@ -11,10 +13,11 @@ const FILL: u8 = 0xA5;
 const WORD: u64 = 0x0123_4567_89AB_CDEF;
 const STATES: usize = 300;
 
-/// How many random models a test takes: 20,000, or as many as the variable says.
+/// How many random models a test takes: 20,000, or more by the variable.
 fn models() -> usize {
     let asked = std::env::var("REPGYPSUM_MODELS").ok();
-    asked.and_then(|n| n.parse().ok()).unwrap_or(20_000)
+    let asked = asked.and_then(|n| n.parse().ok()).unwrap_or(0);
+    asked.max(20_000)
 }
 
 /// A widest beam from 1 to 64, a length from 1 to 12, a budget from 0 on.
@@ -202,4 +205,40 @@ fn damaged_calls() {
     assert!([0, 2, 3, 4, 5, 6, 7, 9]
         .iter()
         .all(|number| refusals[*number] >= 20));
+}
+
+/// Every family, small and at its usual size, against the fast implementation.
+#[test]
+fn models_of_the_families() {
+    let mut searches = 0;
+    for family in families() {
+        for size in [
+            family.smallest,
+            (family.smallest + family.usual) / 2,
+            family.usual,
+        ] {
+            for seed in 0..3 {
+                let bytes = (family.model)(size, seed);
+                for (width, length, budget) in [(1, 64, 2_000), (16, 128, 5_000), (64, 128, 10_000)]
+                {
+                    let (expected, steps) = fast::search(&bytes, width, length, budget);
+                    let mut plan = vec![FILL; length as usize];
+                    let mut words = vec![WORD; words_needed(width, length) as usize];
+                    let answer = proved::search(
+                        &bytes,
+                        width as u32,
+                        length as u32,
+                        budget as u32,
+                        &mut plan,
+                        &mut words,
+                    );
+                    assert_eq!(answer, expected, "{} of {size}", family.name);
+                    assert_eq!(plan[..steps.len()], steps[..], "{} of {size}", family.name);
+                    searches += 1;
+                }
+            }
+        }
+    }
+    println!("{searches} searches of {} families", families().len());
+    assert!(searches >= 300);
 }

@@ -8,6 +8,8 @@ mod deep;
 mod errors;
 #[path = "text/forms.rs"]
 mod forms;
+#[path = "text/listing.rs"]
+mod listing;
 #[path = "text/names.rs"]
 mod names;
 #[path = "text/trips.rs"]

@@ -1,6 +1,6 @@
 -- Definitions that go by the bytes' shape, opened by a length: what the code's tests tell.
 use Prim.Native.Nat.{ℕ, zero, suc, _-_, _^_, _<_, _≤_, _+_, _%_}
-use mathlib.Core.Path.{_≡_, refl}
+use mathlib.Core.Path.{_≡_, refl, _∙_, ap}
 use mathlib.Core.Bool.{Bool, true, false}
 use mathlib.Core.List.{List, [], _∷_}
 use native.Mathlib.Omega.{arith}
@@ -22,7 +22,7 @@ use Rattle.evaluator.specs.declared.answers.ConditionValue.the-variants 
 use Rattle.evaluator.specs.declared.answers.SetValue.{SetValue}
 use Rattle.evaluator.specs.Answers.{noSet, noNumber, noCondition, setAnswer, setPast, numberPast, conditionPast, numberAnswer}
 use Rattle.evaluator.specs.Forms.{setForm, numberForm, conditionForm}
-use Rattle.evaluator.specs.Runs.{Place, runNumber, runCondition, numberAt, conditionAt, runPair, pairFirst, pairSecond, runChoice, choiceFirst, chosen, numberBefore, skipAt, agree, runConnective, connectiveFirst, decided, fits, numberVariableAt, entryOf, entryNumber, totalNumber, twoElements, setThenElement, setVariableAt, literalSet, literalMembers, setBehind, runSet}
+use Rattle.evaluator.specs.Runs.{Place, runNumber, runCondition, numberAt, conditionAt, numberBehind, conditionBehind, literalNumber, memberOf, elementThenSet, runPair, pairFirst, pairSecond, runChoice, choiceFirst, chosen, numberBefore, skipAt, agree, runConnective, connectiveFirst, decided, fits, numberVariableAt, entryOf, entryNumber, totalNumber, twoElements, setThenElement, setVariableAt, literalSet, literalMembers, setBehind, runSet}
 
 -- ---- leaves of sets
 
@@ -70,6 +70,12 @@ module _ (ws fs : List ℕ) where
   set-open zero e h l = absurd (h refl)
   set-open (suc d) [] h l = absurd (l refl)
   set-open (suc d) (b ∷ e) h l = let x : suc d - 1 ≡ d = omega arith in rw x
+
+  -- a variable, by its first byte
+  pub set-variable-open : (d : ℕ) (e : List ℕ) → (d ≡ 0 → ⊥) → (length e ≡ 0 → ⊥) → getD e 0 0 ≡ 0x41
+      → runSet d ws fs e ≡ setPast 1 (setVariableAt ws fs (drop 1 e))
+  unfolding setBehind setForm
+  set-variable-open d e h l q = set-open d e h l ∙ ap (λ (b : ℕ). setPast 1 (setBehind ws fs (λ f. runSet (d - 1) ws fs f) (setForm b) (drop 1 e))) q
 
 -- ---- leaves of numbers
 
@@ -129,6 +135,17 @@ module _ (p : Place) where
   number-open (suc d) [] h l = absurd (l refl)
   number-open (suc d) (b ∷ e) h l = let x : suc d - 1 ≡ d = omega arith in rw x
 
+  -- a variable and a literal, by their first byte
+  pub variable-open : (d : ℕ) (e : List ℕ) → (d ≡ 0 → ⊥) → (length e ≡ 0 → ⊥) → getD e 0 0 ≡ 0x21
+      → runNumber d p e ≡ numberPast 1 (numberVariableAt (p .state) (drop 1 e))
+  unfolding numberAt numberBehind numberForm
+  variable-open d e h l q = number-open d e h l ∙ ap (λ (b : ℕ). numberPast 1 (numberAt (d - 1) p (numberForm b) (drop 1 e))) q
+
+  pub literal-open : (d : ℕ) (e : List ℕ) → (d ≡ 0 → ⊥) → (length e ≡ 0 → ⊥) → getD e 0 0 ≡ 0x20
+      → runNumber d p e ≡ numberPast 1 (literalNumber (drop 1 e))
+  unfolding numberAt numberBehind numberForm
+  literal-open d e h l q = number-open d e h l ∙ ap (λ (b : ℕ). numberPast 1 (numberAt (d - 1) p (numberForm b) (drop 1 e))) q
+
   pub condition-no-depth : (d : ℕ) (e : List ℕ) → d ≡ 0 → runCondition d p e ≡ noCondition
   unfolding runCondition
   condition-no-depth zero e h = refl
@@ -146,6 +163,12 @@ module _ (p : Place) where
   condition-open zero e h l = absurd (h refl)
   condition-open (suc d) [] h l = absurd (l refl)
   condition-open (suc d) (b ∷ e) h l = let x : suc d - 1 ≡ d = omega arith in rw x
+
+  -- membership, by its first byte
+  pub member-open : (d : ℕ) (e : List ℕ) → (d ≡ 0 → ⊥) → (length e ≡ 0 → ⊥) → getD e 0 0 ≡ 0x54
+      → runCondition d p e ≡ conditionPast 1 (memberOf (elementThenSet (p .state) (λ f. runSet (d - 1) (p .state) (p .full) f) (drop 1 e)))
+  unfolding conditionAt conditionBehind conditionForm
+  member-open d e h l q = condition-open d e h l ∙ ap (λ (b : ℕ). conditionPast 1 (conditionAt (d - 1) p (conditionForm b) (drop 1 e))) q
 
 -- ---- parts, by the answers that are met
 

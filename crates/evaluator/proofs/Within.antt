@@ -1,5 +1,5 @@
 -- The bounds that runs keep: numbers in range, and no more bytes used than there are.
-use Prim.Native.Nat.{ℕ, zero, suc, _+_, _^_, _≤_, _<_}
+use Prim.Native.Nat.{ℕ, zero, suc, _+_, _-_, _^_, _≤_, _<_}
 use mathlib.Core.Path.{_≡_, refl, subst}
 use mathlib.Core.Bool.{Bool, true, false, cond}
 use mathlib.Core.List.{List, [], _∷_}
@@ -306,9 +306,17 @@ pub set-element-small : (ws : List ℕ) (rs : List ℕ → SetValue) (e : List �
 unfolding R.setThenElement
 set-element-small ws rs e = element-small ws (drop (rs e .used) e)
 
--- the bytes used behind n others
-pub set-used : (d : ℕ) (ws fs : List ℕ) (n : ℕ) (e f : List ℕ) (v : SetValue) → f ≡ drop n e → v ≡ runSet d ws fs f → v .used ≤ length e
-set-used d ws fs n e f v q r = omega (arith, rw (← r, q) at (set-within d ws fs f), length-drop n e)
+-- the bytes used from a place on
+pub element-past : (ws : List ℕ) (at : ℕ) (e f : List ℕ) (v : ElementValue) → f ≡ drop at e → v ≡ runElement ws f → v .used ≤ length e - at
+element-past ws at e f v q r = omega (arith, rw (← r, q) at (element-within ws f), length-drop at e)
+
+pub set-past : (d : ℕ) (ws fs : List ℕ) (at : ℕ) (e : List ℕ) (v : SetValue) → v ≡ runSet d ws fs (drop at e) → v .used ≤ length e - at
+set-past d ws fs at e v r = omega (arith, rw (← r) at (set-within d ws fs (drop at e)), length-drop at e)
+
+pub set-variable-used : (ws fs e : List ℕ) → R.setVariableAt ws fs e .used ≤ 1
+unfolding R.setVariableAt
+set-variable-used ws fs [] = omega arith
+set-variable-used ws fs (v ∷ e) = omega arith
 
 pub elements-used : (ws e : List ℕ) → R.twoElements ws e .used ≤ 4
 unfolding R.twoElements
@@ -321,6 +329,12 @@ number-known d p e z n h = subst (λ (v : NumberValue). NumberWithin (length e) 
 
 pub condition-known : (d : ℕ) (p : Place) (e : List ℕ) (b : Bool) (n : ℕ) → runCondition d p e ≡ C.Holds b n → n ≤ length e
 condition-known d p e b n h = subst (λ (v : ConditionValue). ConditionWithin (length e) v) h (condition-within d p e)
+
+pub number-past : (d : ℕ) (p : Place) (at : ℕ) (e : List ℕ) (z : ℤ) (n : ℕ) → runNumber d p (drop at e) ≡ N.Value z n → n ≤ length e - at
+number-past d p at e z n h = omega (arith, number-known d p (drop at e) z n h .1, length-drop at e)
+
+pub condition-past : (d : ℕ) (p : Place) (at : ℕ) (e : List ℕ) (b : Bool) (n : ℕ) → runCondition d p (drop at e) ≡ C.Holds b n → n ≤ length e - at
+condition-past d p at e b n h = omega (arith, condition-known d p (drop at e) b n h, length-drop at e)
 
 -- k bytes more can be counted
 pub number-room : (k l : ℕ) (v : NumberValue) → NumberWithin l v → k + l < 2 ^ 64 → NumberRoom k v
@@ -350,3 +364,18 @@ module _ (d : ℕ) (p : Place) where
   condition-at-within form e =
       condition-behind-within (λ f. runNumber d p f) (λ f. runCondition d p f) (λ f. number-within d p f) (λ f. condition-within d p f) p
       (λ f. runSet d (p .state) (p .full) f) (λ f. set-within d (p .state) (p .full) f) form e
+
+  -- leaves of one byte more
+  pub variable-room : (e : List ℕ) → 1 + length e < 2 ^ 64 → NumberRoom 1 (R.numberVariableAt (p .state) e)
+  unfolding R.numberAt numberBehind
+  variable-room e h = number-room 1 (length e) (R.numberVariableAt (p .state) e) (number-at-within NF.Variable e) h
+
+  pub literal-room : (e : List ℕ) → 1 + length e < 2 ^ 64 → NumberRoom 1 (R.literalNumber e)
+  unfolding R.numberAt numberBehind
+  literal-room e h = number-room 1 (length e) (R.literalNumber e) (number-at-within NF.Literal e) h
+
+  pub member-room : (e : List ℕ) → 1 + length e < 2 ^ 64
+      → ConditionRoom 1 (R.memberOf (R.elementThenSet (p .state) (λ f. runSet d (p .state) (p .full) f) e))
+  unfolding R.conditionAt conditionBehind
+  member-room e h =
+      condition-room 1 (length e) (R.memberOf (R.elementThenSet (p .state) (λ f. runSet d (p .state) (p .full) f) e)) (condition-at-within CF.Member e) h

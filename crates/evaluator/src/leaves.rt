@@ -3,6 +3,7 @@
 ghost use mathlib.Core.Path.{_≡_};
 ghost use mathlib.Core.Bool.{cond};
 ghost use Prim.Native.Nat.{_<_};
+ghost use lib.ListN.{drop};
 ghost use lib.Signed.{mag, leZ};
 ghost use Rattle.model.specs.Numbers.{rangeEnd};
 ghost use Rattle.model.specs.Values.{floorQuotient};
@@ -22,8 +23,8 @@ use crate::bytes::name;
 use crate::bytes::word_at;
 use crate::forms::Operation;
 use crate::forms::Relation;
-use crate::sets::element_then_set;
-use crate::sets::set;
+use crate::sets::element;
+use crate::sets::set_near;
 use crate::sets::set_then_element;
 use crate::sets::two_elements;
 use crate::sets::two_sets;
@@ -136,29 +137,30 @@ pub fn entry_number(e: &[u8], model: &[u8], state: &[u64], tables: &[u64]) -> Nu
 }
 
 // 29, behind its byte: how many members a set has.
-pub fn size_number(e: &[u8], state: &[u64], full: &[u64], depth: usize) -> NumberValue
-    ensures { λ r. ⌜ r ≡ runs.sizeNumber (runs.runSet depth (now (state .entry)) (now (full .entry)) (now (e .entry))) ⌝ }
+pub fn size_number(e: &[u8], at: usize, state: &[u64], full: &[u64], depth: usize) -> NumberValue
+    ensures { λ r. ⌜ r ≡ runs.sizeNumber (runs.runSet depth (now (state .entry)) (now (full .entry)) (drop at (now (e .entry)))) ⌝ }
 {
-    let x = set(e, state, full, depth);
+    let x = set_near(e, at, state, full, depth);
     ranged(words::sets::count(x.members) as i64, x.used)
 }
 
 // 2A, behind its byte: the sum of the entries at the members' rows; only the total has to be in range.
 pub fn total_number(
     e: &[u8],
+    at: usize,
     model: &[u8],
     state: &[u64],
     full: &[u64],
     tables: &[u64],
     depth: usize,
 ) -> NumberValue
-    ensures { λ r. ⌜ r ≡ runs.totalNumber (now (model .entry)) (now (state .entry)) (now (tables .entry)) (λ f. runs.runSet depth (now (state .entry)) (now (full .entry)) f) (now (e .entry)) ⌝ }
+    ensures { λ r. ⌜ r ≡ runs.totalNumber (now (model .entry)) (now (state .entry)) (now (tables .entry)) (λ f. runs.runSet depth (now (state .entry)) (now (full .entry)) f) (drop at (now (e .entry))) ⌝ }
 {
-    if e.len() == 0 {
+    if e.len() <= at {
         return NumberValue::Trouble(NOTHING);
     }
-    let table = word_at(tables, name(e));
-    let x = set_then_element(after(e, 1), state, full, depth);
+    let table = word_at(tables, name(after(e, at)));
+    let x = set_then_element(e, at + 1, state, full, depth);
     ranged(
         words::tables::total(model, table, x.first, x.second),
         1 + x.used,
@@ -200,26 +202,27 @@ pub fn same_elements(e: &[u8], state: &[u64]) -> ConditionValue
 }
 
 // 54, behind its byte: an element is in a set.
-pub fn member_of(e: &[u8], state: &[u64], full: &[u64], depth: usize) -> ConditionValue
-    ensures { λ r. ⌜ r ≡ runs.memberOf (runs.elementThenSet (now (state .entry)) (λ f. runs.runSet depth (now (state .entry)) (now (full .entry)) f) (now (e .entry))) ⌝ }
+pub fn member_of(e: &[u8], at: usize, state: &[u64], full: &[u64], depth: usize) -> ConditionValue
+    ensures { λ r. ⌜ r ≡ runs.memberOf (runs.elementThenSet (now (state .entry)) (λ f. runs.runSet depth (now (state .entry)) (now (full .entry)) f) (drop at (now (e .entry)))) ⌝ }
 {
-    let x = element_then_set(e, state, full, depth);
-    ConditionValue::Holds(words::sets::is_member(x.first, x.second), x.used)
+    let x = element(after(e, at), state);
+    let y = set_near(e, at + x.used, state, full, depth);
+    ConditionValue::Holds(words::sets::is_member(x.object, y.members), x.used + y.used)
 }
 
 // 55, behind its byte: a set is empty.
-pub fn empty_set(e: &[u8], state: &[u64], full: &[u64], depth: usize) -> ConditionValue
-    ensures { λ r. ⌜ r ≡ runs.emptySet (runs.runSet depth (now (state .entry)) (now (full .entry)) (now (e .entry))) ⌝ }
+pub fn empty_set(e: &[u8], at: usize, state: &[u64], full: &[u64], depth: usize) -> ConditionValue
+    ensures { λ r. ⌜ r ≡ runs.emptySet (runs.runSet depth (now (state .entry)) (now (full .entry)) (drop at (now (e .entry)))) ⌝ }
 {
-    let x = set(e, state, full, depth);
+    let x = set_near(e, at, state, full, depth);
     ConditionValue::Holds(x.members == 0, x.used)
 }
 
 // 56, behind its byte: every member of a set is in another.
-pub fn subset_of(e: &[u8], state: &[u64], full: &[u64], depth: usize) -> ConditionValue
-    ensures { λ r. ⌜ r ≡ runs.subsetOf (runs.twoSets (λ f. runs.runSet depth (now (state .entry)) (now (full .entry)) f) (now (e .entry))) ⌝ }
+pub fn subset_of(e: &[u8], at: usize, state: &[u64], full: &[u64], depth: usize) -> ConditionValue
+    ensures { λ r. ⌜ r ≡ runs.subsetOf (runs.twoSets (λ f. runs.runSet depth (now (state .entry)) (now (full .entry)) f) (drop at (now (e .entry)))) ⌝ }
 {
-    let x = two_sets(e, state, full, depth);
+    let x = two_sets(e, at, state, full, depth);
     ConditionValue::Holds(words::sets::is_subset(x.first, x.second), x.used)
 }
 

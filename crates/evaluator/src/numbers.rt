@@ -24,16 +24,25 @@ use crate::leaves;
 // Two numbers, one behind the other.
 fn pair(
     e: &[u8],
+    at: usize,
     model: &[u8],
     state: &[u64],
     full: &[u64],
     tables: &[u64],
     depth: usize,
 ) -> PairValue
-    ensures { λ r. ⌜ r ≡ runs.runPair (λ f. runNumber depth (place (now (model .entry)) (now (state .entry)) (now (full .entry)) (now (tables .entry))) f) (now (e .entry)) ⌝ }
+    ensures { λ r. ⌜ r ≡ runs.runPair (λ f. runNumber depth (place (now (model .entry)) (now (state .entry)) (now (full .entry)) (now (tables .entry))) f) (drop at (now (e .entry))) ⌝ }
 {
-    match number(e, model, state, full, tables, depth) {
-        NumberValue::Value(x, n) => match number(after(e, n), model, state, full, tables, depth) {
+    match number_from(e, at, model, state, full, tables, depth) {
+        NumberValue::Value(x, n) => match number_from(
+            e,
+            at + n,
+            model,
+            state,
+            full,
+            tables,
+            depth,
+        ) {
             NumberValue::Value(y, m) => {
                 let used = n + m;
                 PairValue::Values(x, y, used)
@@ -47,6 +56,7 @@ fn pair(
 // The number behind n bytes, and the part behind it passed over.
 fn number_before(
     e: &[u8],
+    at: usize,
     n: usize,
     model: &[u8],
     state: &[u64],
@@ -54,13 +64,13 @@ fn number_before(
     tables: &[u64],
     depth: usize,
 ) -> NumberValue
-    requires { ⌜ n ≤ length (now e) ⌝ }
-    ensures { λ r. ⌜ r ≡ runs.numberBefore n (runNumber depth (place (now (model .entry)) (now (state .entry)) (now (full .entry)) (now (tables .entry))) (drop n (now (e .entry)))) (runs.skipAt (now (e .entry))) ⌝ }
+    requires { ⌜ n ≤ length (drop at (now e)) ⌝ }
+    ensures { λ r. ⌜ r ≡ runs.numberBefore n (runNumber depth (place (now (model .entry)) (now (state .entry)) (now (full .entry)) (now (tables .entry))) (drop n (drop at (now (e .entry))))) (runs.skipAt (drop at (now (e .entry)))) ⌝ }
 {
-    match number(after(e, n), model, state, full, tables, depth) {
+    match number_from(e, at + n, model, state, full, tables, depth) {
         NumberValue::Value(z, m) => {
             let k = n + m;
-            let used = k + skip(after(e, k));
+            let used = k + skip(after(e, at + k));
             NumberValue::Value(z, used)
         }
         NumberValue::Trouble(t) => NumberValue::Trouble(t),
@@ -70,6 +80,7 @@ fn number_before(
 // The number behind n bytes and a part that is passed over.
 fn number_beyond(
     e: &[u8],
+    at: usize,
     n: usize,
     model: &[u8],
     state: &[u64],
@@ -77,30 +88,31 @@ fn number_beyond(
     tables: &[u64],
     depth: usize,
 ) -> NumberValue
-    requires { ⌜ n ≤ length (now e) ⌝ }
-    ensures { λ r. ⌜ r ≡ runs.chosen false n (λ k. runNumber depth (place (now (model .entry)) (now (state .entry)) (now (full .entry)) (now (tables .entry))) (drop k (now (e .entry)))) (runs.skipAt (now (e .entry))) ⌝ }
+    requires { ⌜ n ≤ length (drop at (now e)) ⌝ }
+    ensures { λ r. ⌜ r ≡ runs.chosen false n (λ k. runNumber depth (place (now (model .entry)) (now (state .entry)) (now (full .entry)) (now (tables .entry))) (drop k (drop at (now (e .entry))))) (runs.skipAt (drop at (now (e .entry)))) ⌝ }
 {
-    let k = n + skip(after(e, n));
-    number_past(k, number(after(e, k), model, state, full, tables, depth))
+    let k = n + skip(after(e, at + n));
+    number_past(k, number_from(e, at + k, model, state, full, tables, depth))
 }
 
 // 2B, behind its byte: a condition and two numbers, the first where it holds, else the second.
 fn choice(
     e: &[u8],
+    at: usize,
     model: &[u8],
     state: &[u64],
     full: &[u64],
     tables: &[u64],
     depth: usize,
 ) -> NumberValue
-    ensures { λ r. ⌜ r ≡ runs.runChoice (λ f. runNumber depth (place (now (model .entry)) (now (state .entry)) (now (full .entry)) (now (tables .entry))) f) (λ f. runCondition depth (place (now (model .entry)) (now (state .entry)) (now (full .entry)) (now (tables .entry))) f) (now (e .entry)) ⌝ }
+    ensures { λ r. ⌜ r ≡ runs.runChoice (λ f. runNumber depth (place (now (model .entry)) (now (state .entry)) (now (full .entry)) (now (tables .entry))) f) (λ f. runCondition depth (place (now (model .entry)) (now (state .entry)) (now (full .entry)) (now (tables .entry))) f) (drop at (now (e .entry))) ⌝ }
 {
-    match condition(e, model, state, full, tables, depth) {
+    match condition_from(e, at, model, state, full, tables, depth) {
         ConditionValue::Holds(b, n) => {
             if b {
-                number_before(e, n, model, state, full, tables, depth)
+                number_before(e, at, n, model, state, full, tables, depth)
             } else {
-                number_beyond(e, n, model, state, full, tables, depth)
+                number_beyond(e, at, n, model, state, full, tables, depth)
             }
         }
         ConditionValue::Trouble(t) => NumberValue::Trouble(t),
@@ -111,21 +123,25 @@ fn choice(
 fn connective(
     decides: bool,
     e: &[u8],
+    at: usize,
     model: &[u8],
     state: &[u64],
     full: &[u64],
     tables: &[u64],
     depth: usize,
 ) -> ConditionValue
-    ensures { λ r. ⌜ r ≡ runs.runConnective decides (λ f. runCondition depth (place (now (model .entry)) (now (state .entry)) (now (full .entry)) (now (tables .entry))) f) (now (e .entry)) ⌝ }
+    ensures { λ r. ⌜ r ≡ runs.runConnective decides (λ f. runCondition depth (place (now (model .entry)) (now (state .entry)) (now (full .entry)) (now (tables .entry))) f) (drop at (now (e .entry))) ⌝ }
 {
-    match condition(e, model, state, full, tables, depth) {
+    match condition_from(e, at, model, state, full, tables, depth) {
         ConditionValue::Holds(b, n) => {
             if leaves::agree(decides, b) {
-                let used = n + skip(after(e, n));
+                let used = n + skip(after(e, at + n));
                 ConditionValue::Holds(b, used)
             } else {
-                condition_past(n, condition(after(e, n), model, state, full, tables, depth))
+                condition_past(
+                    n,
+                    condition_from(e, at + n, model, state, full, tables, depth),
+                )
             }
         }
         ConditionValue::Trouble(t) => ConditionValue::Trouble(t),
@@ -136,25 +152,26 @@ fn connective(
 fn number_behind(
     form: NumberForm,
     e: &[u8],
+    at: usize,
     model: &[u8],
     state: &[u64],
     full: &[u64],
     tables: &[u64],
     depth: usize,
 ) -> NumberValue
-    ensures { λ r. ⌜ r ≡ runs.numberAt depth (place (now (model .entry)) (now (state .entry)) (now (full .entry)) (now (tables .entry))) form (now (e .entry)) ⌝ }
+    ensures { λ r. ⌜ r ≡ runs.numberAt depth (place (now (model .entry)) (now (state .entry)) (now (full .entry)) (now (tables .entry))) form (drop at (now (e .entry))) ⌝ }
 {
     match form {
-        NumberForm::Literal => leaves::literal_number(e),
-        NumberForm::Variable => leaves::number_variable(e, state),
+        NumberForm::Literal => leaves::literal_number(after(e, at)),
+        NumberForm::Variable => leaves::number_variable(after(e, at), state),
         NumberForm::Arithmetic(o) => leaves::arithmetic(
             o,
-            pair(e, model, state, full, tables, depth),
+            pair(e, at, model, state, full, tables, depth),
         ),
-        NumberForm::Entry => leaves::entry_number(e, model, state, tables),
-        NumberForm::Size => leaves::size_number(e, state, full, depth),
-        NumberForm::Total => leaves::total_number(e, model, state, full, tables, depth),
-        NumberForm::Choice => choice(e, model, state, full, tables, depth),
+        NumberForm::Entry => leaves::entry_number(after(e, at), model, state, tables),
+        NumberForm::Size => leaves::size_number(e, at, state, full, depth),
+        NumberForm::Total => leaves::total_number(e, at, model, state, full, tables, depth),
+        NumberForm::Choice => choice(e, at, model, state, full, tables, depth),
         NumberForm::Other => NumberValue::Trouble(NOTHING),
     }
 }
@@ -163,34 +180,115 @@ fn number_behind(
 fn condition_behind(
     form: ConditionForm,
     e: &[u8],
+    at: usize,
     model: &[u8],
     state: &[u64],
     full: &[u64],
     tables: &[u64],
     depth: usize,
 ) -> ConditionValue
-    ensures { λ r. ⌜ r ≡ runs.conditionAt depth (place (now (model .entry)) (now (state .entry)) (now (full .entry)) (now (tables .entry))) form (now (e .entry)) ⌝ }
+    ensures { λ r. ⌜ r ≡ runs.conditionAt depth (place (now (model .entry)) (now (state .entry)) (now (full .entry)) (now (tables .entry))) form (drop at (now (e .entry))) ⌝ }
 {
     match form {
         ConditionForm::Comparison(r) => leaves::comparison(
             r,
-            pair(e, model, state, full, tables, depth),
+            pair(e, at, model, state, full, tables, depth),
         ),
-        ConditionForm::Same => leaves::same_elements(e, state),
-        ConditionForm::Member => leaves::member_of(e, state, full, depth),
-        ConditionForm::Empty => leaves::empty_set(e, state, full, depth),
-        ConditionForm::Subset => leaves::subset_of(e, state, full, depth),
-        ConditionForm::Negation => leaves::negation(condition(
+        ConditionForm::Same => leaves::same_elements(after(e, at), state),
+        ConditionForm::Member => leaves::member_of(e, at, state, full, depth),
+        ConditionForm::Empty => leaves::empty_set(e, at, state, full, depth),
+        ConditionForm::Subset => leaves::subset_of(e, at, state, full, depth),
+        ConditionForm::Negation => leaves::negation(condition_from(
             e,
+            at,
             model,
             state,
             full,
             tables,
             depth,
         )),
-        ConditionForm::Connective(b) => connective(b, e, model, state, full, tables, depth),
+        ConditionForm::Connective(b) => connective(b, e, at, model, state, full, tables, depth),
         ConditionForm::Other => ConditionValue::Trouble(NOTHING),
     }
+}
+
+// The value of the number that begins at a place; the commonest forms first, so that they cost one call.
+fn number_from(
+    e: &[u8],
+    at: usize,
+    model: &[u8],
+    state: &[u64],
+    full: &[u64],
+    tables: &[u64],
+    depth: usize,
+) -> NumberValue
+    ensures { λ r. ⌜ r ≡ runNumber depth (place (now (model .entry)) (now (state .entry)) (now (full .entry)) (now (tables .entry))) (drop at (now (e .entry))) ⌝ }
+{
+    if depth == 0 {
+        return NumberValue::Trouble(NOTHING);
+    }
+    if e.len() <= at {
+        return NumberValue::Trouble(NOTHING);
+    }
+    let b = e[at];
+    let next = at + 1;
+    if b == 0x21 {
+        return number_past(1, leaves::number_variable(after(e, next), state));
+    }
+    if b == 0x20 {
+        return number_past(1, leaves::literal_number(after(e, next)));
+    }
+    number_past(
+        1,
+        number_behind(
+            number_form(b),
+            e,
+            next,
+            model,
+            state,
+            full,
+            tables,
+            depth - 1,
+        ),
+    )
+}
+
+// Whether the condition that begins at a place holds; the commonest form first.
+fn condition_from(
+    e: &[u8],
+    at: usize,
+    model: &[u8],
+    state: &[u64],
+    full: &[u64],
+    tables: &[u64],
+    depth: usize,
+) -> ConditionValue
+    ensures { λ r. ⌜ r ≡ runCondition depth (place (now (model .entry)) (now (state .entry)) (now (full .entry)) (now (tables .entry))) (drop at (now (e .entry))) ⌝ }
+{
+    if depth == 0 {
+        return ConditionValue::Trouble(NOTHING);
+    }
+    if e.len() <= at {
+        return ConditionValue::Trouble(NOTHING);
+    }
+    let b = e[at];
+    let next = at + 1;
+    if b == 0x54 {
+        return condition_past(1, leaves::member_of(e, next, state, full, depth - 1));
+    }
+    condition_past(
+        1,
+        condition_behind(
+            condition_form(b),
+            e,
+            next,
+            model,
+            state,
+            full,
+            tables,
+            depth - 1,
+        ),
+    )
 }
 
 // The value of the number at the front.
@@ -205,24 +303,7 @@ pub fn number(
     ensures run { λ r. ⌜ r ≡ runNumber depth (place (now (model .entry)) (now (state .entry)) (now (full .entry)) (now (tables .entry))) (now (e .entry)) ⌝ }
     ensures promise { λ r. ⌜ NumberPromise depth (place (now (model .entry)) (now (state .entry)) (now (full .entry)) (now (tables .entry))) (now (e .entry)) r ⌝ }
 {
-    if depth == 0 {
-        return NumberValue::Trouble(NOTHING);
-    }
-    if e.len() == 0 {
-        return NumberValue::Trouble(NOTHING);
-    }
-    number_past(
-        1,
-        number_behind(
-            number_form(e[0]),
-            &e[1..],
-            model,
-            state,
-            full,
-            tables,
-            depth - 1,
-        ),
-    )
+    number_from(e, 0, model, state, full, tables, depth)
 }
 
 // Whether the condition at the front holds.
@@ -237,22 +318,5 @@ pub fn condition(
     ensures run { λ r. ⌜ r ≡ runCondition depth (place (now (model .entry)) (now (state .entry)) (now (full .entry)) (now (tables .entry))) (now (e .entry)) ⌝ }
     ensures promise { λ r. ⌜ ConditionPromise depth (place (now (model .entry)) (now (state .entry)) (now (full .entry)) (now (tables .entry))) (now (e .entry)) r ⌝ }
 {
-    if depth == 0 {
-        return ConditionValue::Trouble(NOTHING);
-    }
-    if e.len() == 0 {
-        return ConditionValue::Trouble(NOTHING);
-    }
-    condition_past(
-        1,
-        condition_behind(
-            condition_form(e[0]),
-            &e[1..],
-            model,
-            state,
-            full,
-            tables,
-            depth - 1,
-        ),
-    )
+    condition_from(e, 0, model, state, full, tables, depth)
 }

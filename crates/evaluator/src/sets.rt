@@ -168,11 +168,11 @@ fn set_past(v: SetValue) -> SetValue
 }
 
 // An element and a set behind it.
-pub fn element_then_set(e: &[u8], state: &[u64], full: &[u64], depth: usize) -> Parts
-    ensures { λ r. ⌜ r ≡ runs.elementThenSet (now (state .entry)) (λ f. runs.runSet depth (now (state .entry)) (now (full .entry)) f) (now (e .entry)) ⌝ }
+fn element_then_set(e: &[u8], at: usize, state: &[u64], full: &[u64], depth: usize) -> Parts
+    ensures { λ r. ⌜ r ≡ runs.elementThenSet (now (state .entry)) (λ f. runs.runSet depth (now (state .entry)) (now (full .entry)) f) (drop at (now (e .entry))) ⌝ }
 {
-    let x = element(e, state);
-    let y = set(after(e, x.used), state, full, depth);
+    let x = element(after(e, at), state);
+    let y = set_from(e, at + x.used, state, full, depth);
     Parts {
         first: x.object,
         second: y.members,
@@ -182,11 +182,11 @@ pub fn element_then_set(e: &[u8], state: &[u64], full: &[u64], depth: usize) -> 
 }
 
 // Two sets, one behind the other.
-pub fn two_sets(e: &[u8], state: &[u64], full: &[u64], depth: usize) -> Parts
-    ensures { λ r. ⌜ r ≡ runs.twoSets (λ f. runs.runSet depth (now (state .entry)) (now (full .entry)) f) (now (e .entry)) ⌝ }
+pub fn two_sets(e: &[u8], at: usize, state: &[u64], full: &[u64], depth: usize) -> Parts
+    ensures { λ r. ⌜ r ≡ runs.twoSets (λ f. runs.runSet depth (now (state .entry)) (now (full .entry)) f) (drop at (now (e .entry))) ⌝ }
 {
-    let x = set(e, state, full, depth);
-    let y = set(after(e, x.used), state, full, depth);
+    let x = set_from(e, at, state, full, depth);
+    let y = set_from(e, at + x.used, state, full, depth);
     Parts {
         first: x.members,
         second: y.members,
@@ -196,17 +196,53 @@ pub fn two_sets(e: &[u8], state: &[u64], full: &[u64], depth: usize) -> Parts
 }
 
 // What stands behind a set's first byte.
-fn set_behind(form: SetForm, e: &[u8], state: &[u64], full: &[u64], depth: usize) -> SetValue
-    ensures { λ r. ⌜ r ≡ runs.setBehind (now (state .entry)) (now (full .entry)) (λ f. runs.runSet depth (now (state .entry)) (now (full .entry)) f) form (now (e .entry)) ⌝ }
+fn set_behind(
+    form: SetForm,
+    e: &[u8],
+    at: usize,
+    state: &[u64],
+    full: &[u64],
+    depth: usize,
+) -> SetValue
+    ensures { λ r. ⌜ r ≡ runs.setBehind (now (state .entry)) (now (full .entry)) (λ f. runs.runSet depth (now (state .entry)) (now (full .entry)) f) form (drop at (now (e .entry))) ⌝ }
 {
     match form {
-        SetForm::Literal => literal_set(e),
-        SetForm::Variable => set_variable(e, state, full),
-        SetForm::Changed(h) => changed(h, element_then_set(e, state, full, depth)),
-        SetForm::Combined(c) => combined(c, two_sets(e, state, full, depth)),
-        SetForm::Complement => complemented(set(e, state, full, depth)),
+        SetForm::Literal => literal_set(after(e, at)),
+        SetForm::Variable => set_variable(after(e, at), state, full),
+        SetForm::Changed(h) => changed(h, element_then_set(e, at, state, full, depth)),
+        SetForm::Combined(c) => combined(c, two_sets(e, at, state, full, depth)),
+        SetForm::Complement => complemented(set_from(e, at, state, full, depth)),
         SetForm::Other => no_set(),
     }
+}
+
+// The members of the set that begins at a place.
+pub fn set_from(e: &[u8], at: usize, state: &[u64], full: &[u64], depth: usize) -> SetValue
+    ensures { λ r. ⌜ r ≡ runs.runSet depth (now (state .entry)) (now (full .entry)) (drop at (now (e .entry))) ⌝ }
+{
+    if depth == 0 {
+        return no_set();
+    }
+    if e.len() <= at {
+        return no_set();
+    }
+    set_past(set_behind(set_form(e[at]), e, at + 1, state, full, depth - 1))
+}
+
+// The same; a variable is read at once, without a call.
+pub fn set_near(e: &[u8], at: usize, state: &[u64], full: &[u64], depth: usize) -> SetValue
+    ensures { λ r. ⌜ r ≡ runs.runSet depth (now (state .entry)) (now (full .entry)) (drop at (now (e .entry))) ⌝ }
+{
+    if depth == 0 {
+        return no_set();
+    }
+    if e.len() <= at {
+        return no_set();
+    }
+    if e[at] == 0x41 {
+        return set_past(set_variable(after(e, at + 1), state, full));
+    }
+    set_from(e, at, state, full, depth)
 }
 
 // The members of the set at the front.
@@ -214,21 +250,15 @@ pub fn set(e: &[u8], state: &[u64], full: &[u64], depth: usize) -> SetValue
     ensures run { λ r. ⌜ r ≡ runs.runSet depth (now (state .entry)) (now (full .entry)) (now (e .entry)) ⌝ }
     ensures promise { λ r. ⌜ SetPromise depth (now (state .entry)) (now (full .entry)) (now (e .entry)) r ⌝ }
 {
-    if depth == 0 {
-        return no_set();
-    }
-    if e.len() == 0 {
-        return no_set();
-    }
-    set_past(set_behind(set_form(e[0]), &e[1..], state, full, depth - 1))
+    set_from(e, 0, state, full, depth)
 }
 
 // A set and an element behind it.
-pub fn set_then_element(e: &[u8], state: &[u64], full: &[u64], depth: usize) -> Parts
-    ensures { λ r. ⌜ r ≡ runs.setThenElement (now (state .entry)) (λ f. runs.runSet depth (now (state .entry)) (now (full .entry)) f) (now (e .entry)) ⌝ }
+pub fn set_then_element(e: &[u8], at: usize, state: &[u64], full: &[u64], depth: usize) -> Parts
+    ensures { λ r. ⌜ r ≡ runs.setThenElement (now (state .entry)) (λ f. runs.runSet depth (now (state .entry)) (now (full .entry)) f) (drop at (now (e .entry))) ⌝ }
 {
-    let x = set(e, state, full, depth);
-    let y = element(after(e, x.used), state);
+    let x = set_from(e, at, state, full, depth);
+    let y = element(after(e, at + x.used), state);
     Parts {
         first: x.members,
         second: y.object,

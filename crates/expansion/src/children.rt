@@ -1,7 +1,7 @@
 // Rule 4: a node's children, by conditions, cost, effects, constraints and h, offered to the layer in the making.
 
 ghost use mathlib.Core.Path.{_≡_};
-ghost use Prim.Native.Nat.{_≤_, _<_, _^_};
+ghost use Prim.Native.Nat.{_<_, _^_};
 ghost use mathlib.Core.Bool.{_||_};
 ghost use lib.ListN.{length, getD};
 ghost use Rattle.model.specs.Numbers.{rangeEnd};

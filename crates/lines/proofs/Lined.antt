@@ -1,12 +1,12 @@
 -- The numbers of the line are the fields of the definition's answer.
 use Prim.Native.Nat.{ℕ}
-use mathlib.Core.Path.{_≡_, ap, _∙_}
-use mathlib.Core.Bool.{Bool, cond}
-use mathlib.Core.List.{List, [], _∷_}
+use mathlib.Core.Path.{_≡_}
+use mathlib.Core.Bool.{cond}
+use mathlib.Core.List.{[], _∷_}
 use Rattle.search.specs.Answer as A
 use Rattle.search.specs.Answer.{outcomeNumber}
 use Rattle.search.specs.Run.{fields}
-use Rattle.solver.specs.Answers.{outcomeOf, AnswerIs}
+use Rattle.solver.specs.Answers.{outcomeOf}
 use Rattle.solver.specs.declared.answers.Answer.{Answer}
 use Rattle.lines.specs.Line.{InLine}
 

@@ -1,8 +1,8 @@
 -- Costs of a layer: where each node of layer k costs at most k times the end of the numbers' range, so do the children, k + 1 times.
-use Prim.Native.Nat.{ℕ, suc, _*_, _≤_}
+use Prim.Native.Nat.{ℕ, suc}
 use mathlib.Core.Path.{_≡_, sym, subst}
 use mathlib.Core.Bool.{not}
-use mathlib.Core.List.{List, [], _∷_, dropLast}
+use mathlib.Core.List.{List, [], _∷_}
 use native.Mathlib.Omega.{arith}
 use native.Mathlib.Nat.{suc-mul}
 use lib.Dec.{ltb}
@@ -16,7 +16,7 @@ use Rattle.model.specs.Meaning.{State}
 use Rattle.model.specs.Steps.{costsOf}
 use Rattle.model.proofs.Costs.{combine-at-most-sum}
 use Rattle.model.proofs.Ranges.{step-cost-below}
-use Rattle.search.specs.Search.{Node, Round, Result, on, belowBest, before, place, beats, cut, insert, offer, child, counted, atLimit, improvedBy, layer, layerEnd, nextLayer}
+use Rattle.search.specs.Search.{Node, Round, on, belowBest, before, place, beats, cut, insert, offer, child, counted, atLimit, improvedBy, layer, layerEnd, nextLayer}
 use Rattle.search.proofs.Induction.{Holds, Point, taking, expanding, Changes, layer-holds}
 use Rattle.outline.specs.Outline.{modelOf}
 use Rattle.steps.specs.Held.{systemIn}

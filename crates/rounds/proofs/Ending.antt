@@ -84,15 +84,15 @@ best-is plan b = pick (b .found) _ _
 
 pub layer-ends : (words : List ℕ) (w : ℕ) (x : Round) (count low : ℕ) → Remains (nextOf w words) w (x .progress .best .found) (x .progress .best .cost) (x .count) count
     → Raises (nextOf w words) w (x .marks .width) count (x .progress .low) low
-    → LayerEnds words w x (record { count = count; marks = x .marks; improved = x .improved; progress = record { best = x .progress .best; low = low; expansions = x .progress .expansions } })
-layer-ends words w x count low remains raises = record { fewer = remains .fewer; layer = remains .still; best-same = refl; same = ends }
+    → LayerEnds words w x (record { count = count; marks = x .marks; improved = x .improved; progress = record { best = x .progress .best; low = low; tally = x .progress .tally } })
+layer-ends words w x count low remains raises = record { fewer = remains .fewer; layer = remains .still; best-same = refl; round-same = refl; same = ends }
   where
-    ends : (bytes plan : List ℕ) (k : ℕ) → layerEnd (costsIn bytes) (systemIn bytes) (roundIn bytes words plan w k x) ≡ roundIn bytes words plan w k (record { count = count; marks = x .marks; improved = x .improved; progress = record { best = x .progress .best; low = low; expansions = x .progress .expansions } })
+    ends : (bytes plan : List ℕ) (k : ℕ) → layerEnd (costsIn bytes) (systemIn bytes) (roundIn bytes words plan w k x) ≡ roundIn bytes words plan w k (record { count = count; marks = x .marks; improved = x .improved; progress = record { best = x .progress .best; low = low; tally = x .progress .tally } })
     ends bytes plan k =
         unfold layerEnd roundOf progressOf in
-        ap (λ (l : List (Node State ℕ)). record { kept = l; widthMark = x .marks .width; lengthMark = x .marks .length; improved = x .improved; progress = record { best = bestOf plan (x .progress .best); low = raisedLow (costsIn bytes) (systemIn bytes) (x .marks .width) l (x .progress .low); expansions = x .progress .expansions } })
+        ap (λ (l : List (Node State ℕ)). record { kept = l; widthMark = x .marks .width; lengthMark = x .marks .length; improved = x .improved; progress = record { best = bestOf plan (x .progress .best); low = raisedLow (costsIn bytes) (systemIn bytes) (x .marks .width) l (x .progress .low); expansions = x .progress .tally .expansions } })
         (sym (remains .left (modelOf bytes .rule) (systemIn bytes) (modelOf bytes .variables) (pathBy words w k) (bestOf plan (x .progress .best)) (best-is plan (x .progress .best))))
-        ∙ ap (λ (v : ℕ). record { kept = nodesOf w (nextOf w words) (modelOf bytes .variables) (pathBy words w k) count; widthMark = x .marks .width; lengthMark = x .marks .length; improved = x .improved; progress = record { best = bestOf plan (x .progress .best); low = v; expansions = x .progress .expansions } })
+        ∙ ap (λ (v : ℕ). record { kept = nodesOf w (nextOf w words) (modelOf bytes .variables) (pathBy words w k) count; widthMark = x .marks .width; lengthMark = x .marks .length; improved = x .improved; progress = record { best = bestOf plan (x .progress .best); low = v; expansions = x .progress .tally .expansions } })
         (raises .same (modelOf bytes .rule) (systemIn bytes) (modelOf bytes .variables) (pathBy words w k))
 
 -- the slot of the first

@@ -1,24 +1,22 @@
 -- A round: the target alone, then turn after turn; what is left of it is the same whole round.
-use Prim.Native.Nat.{ℕ, zero, suc, _+_, _-_, _*_, _≤_, _<_}
+use Prim.Native.Nat.{ℕ, suc, _+_, _-_, _*_, _≤_, _<_}
 use mathlib.Core.Path.{_≡_, refl, sym, ap, subst, _∙_}
 use mathlib.Core.Bool.{Bool, true, false}
-use mathlib.Core.List.{List, [], _∷_}
+use mathlib.Core.List.{List}
 use native.Mathlib.Omega.{arith}
 use native.Mathlib.Numerals.{add-one}
 use lib.ListN.{length}
 use Rattle.laws.specs.Lists.{All}
-use Rattle.laws.proofs.Bools.{not-both}
-use Rattle.model.specs.Numbers.{mostSteps}
 use Rattle.model.specs.Meaning.{State}
 use Rattle.model.specs.Steps.{originOf}
-use Rattle.search.specs.Search.{Node, Result, freshRound, layers, root}
+use Rattle.search.specs.Search.{Result, freshRound, root}
 use Rattle.search.specs.Search as S
 use Rattle.outline.specs.Outline.{modelOf}
 use Rattle.steps.specs.Held.{Outlined, systemIn}
 use Rattle.steps.specs.Follow.{costsIn}
 use Rattle.beam.proofs.Nodes.{nodes-none}
-use Rattle.routes.specs.Routes.{pathBy, nextOf, currentOf, Started}
-use Rattle.visits.specs.Work.{Within, Ready, progressOf, roundOf, roundIn, resultOf, Inside}
+use Rattle.routes.specs.Routes.{pathBy, nextOf, Started}
+use Rattle.visits.specs.Work.{Within, Ready, progressOf, roundOf, roundBegun, roundIn, resultOf, Inside}
 use Rattle.rounds.specs.Rounds.{RoomFor, layersFrom, Turns, RoundEnds}
 use Rattle.visits.specs.declared.work.Progress.{Progress}
 use Rattle.visits.specs.declared.work.Round.{Round}
@@ -50,11 +48,12 @@ module _ {bytes outline words words′ plan plan′ : List ℕ} {w budget limit 
 -- the loop: what is left is what was left at its start
 pub record Going (bytes outline words₀ plan₀ words plan : List ℕ) (w budget limit k₀ k : ℕ) (x₀ x : Turned) : Type 0 where
   pub now : Behind bytes outline words plan w budget limit k x
+  pub round-same : roundBegun (x .round .progress) ≡ roundBegun (x₀ .round .progress)
   pub same : rest bytes words₀ plan₀ w budget limit k₀ (x₀ .more) x₀ ≡ rest bytes words plan w budget limit k (x .more) x
 
 pub going-first : {bytes outline words words′ plan plan′ : List ℕ} {w budget limit k n : ℕ} {x : Round} {y : Turned} → Turns bytes outline words words′ plan plan′ w budget limit k n x y
     → Going bytes outline words′ plan′ words′ plan′ w budget limit k k y y
-going-first t = record { now = behind t; same = refl }
+going-first t = record { now = behind t; round-same = refl; same = refl }
 
 pub going-more : {bytes outline words₀ plan₀ words plan words′ plan′ : List ℕ} {w budget limit k₀ k : ℕ} {x₀ x y : Turned} → Going bytes outline words₀ plan₀ words plan w budget limit k₀ k x₀ x → x .more ≡ true
     → Turns bytes outline words words′ plan plan′ w budget limit (k + 1) (x .nodes) (x .round) y → Going bytes outline words₀ plan₀ words′ plan′ w budget limit k₀ (k + 1) x₀ y
@@ -62,6 +61,7 @@ unfolding rest
 going-more {bytes} {words = words} {plan} {w = w} {budget} {limit} {k = k} {x = x} g m t =
     record {
       now = behind t;
+      round-same = t .round-same ∙ g .round-same;
       same =
           g .same
           ∙ ap (λ (b : Bool). rest bytes words plan w budget limit k b x) m
@@ -108,6 +108,7 @@ module _ (plan : List ℕ) (limit : ℕ) (p : Progress) {bytes outline words : L
   round-ends budget {words₂ = words₂} {plan₂} {y = y} {k} t g m =
       record {
         best-fits = g .now .best-fits;
+        round-same = g .round-same ∙ t .round-same;
         inside = g .now .inside;
         counted = g .now .counted;
         same = round-same budget ∙ rest-same t ∙ g .same ∙ ap (λ (b : Bool). rest bytes words₂ plan₂ w budget limit k b y) m ∙ (unfold rest in refl);

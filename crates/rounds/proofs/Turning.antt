@@ -1,7 +1,6 @@
 -- A turn: the layer, its end, and the layer behind it.
 use Prim.Native.Nat.{ℕ, zero, suc, _+_, _-_, _*_, _≤_, _<_}
 use mathlib.Core.Path.{_≡_, refl, sym, ap, subst, _∙_}
-use mathlib.Core.Logic.{_⊎_, inl, inr}
 use mathlib.Core.Bool.{Bool, true, false, _||_, true≢false, false≢true}
 use mathlib.Core.List.{List, [], _∷_}
 use native.Mathlib.Omega.{arith}
@@ -10,7 +9,7 @@ use lib.ListN.{length}
 use Rattle.laws.specs.Lists.{isEmpty, All}
 use Rattle.laws.proofs.Bools.{not-both, or-first, or-second}
 use Rattle.model.specs.Meaning.{State}
-use Rattle.search.specs.Search.{Node, Result, on, over, andThen, layerEnd, nextLayer, unlessEnded, layers}
+use Rattle.search.specs.Search.{Node, Result, on, andThen, layerEnd, nextLayer, unlessEnded, layers}
 use Rattle.search.specs.Search as S
 use Rattle.outline.specs.Outline.{modelOf}
 use Rattle.steps.specs.Held.{systemIn}
@@ -19,7 +18,7 @@ use Rattle.beam.specs.Held.{nodesOf, Layer}
 use Rattle.beam.proofs.Moves.{layer-of, few-in, width-positive}
 use Rattle.beam.proofs.Nodes.{nodes-none, nodes-length}
 use Rattle.routes.specs.Routes.{pathBy, nextOf, currentOf, Taken}
-use Rattle.visits.specs.Work.{Within, Ready, Leaves, roundOf, roundIn, endingOf, resultOf, Inside}
+use Rattle.visits.specs.Work.{Within, Ready, Leaves, roundOf, roundIn, resultOf, Inside}
 use Rattle.rounds.specs.Rounds.{LayerEnds, layersFrom, Turns}
 use Rattle.rounds.specs.Ends.{behindEnd, Onward, MovesOn}
 use Rattle.visits.specs.declared.work.Round.{Round}
@@ -74,7 +73,7 @@ stopped x = record { round = x; next = N.On; more = false; nodes = 0 }
 
 module _ (words : List ℕ) (w limit k : ℕ) (x : Round) where
   stops : Layer w (x .count) (nextOf w words) → ((bytes plan : List ℕ) (budget : ℕ) → behindEnd bytes w budget (limit - k) (roundIn bytes words plan w k x) ≡ on (roundIn bytes words plan w k x)) → MovesOn words words w limit k x (stopped x)
-  stops la e = record { best-same = refl; still-on = refl; layer = la; goes-on = λ m. absurd (not-both m refl); ends = λ m. e }
+  stops la e = record { best-same = refl; round-same = refl; still-on = refl; layer = la; goes-on = λ m. absurd (not-both m refl); ends = λ m. e }
 
   pub stops-at-limit : Layer w (x .count) (nextOf w words) → k ≡ limit → MovesOn words words w limit k x (stopped x)
   unfolding behindEnd
@@ -99,6 +98,7 @@ module _ (words : List ℕ) (w limit k : ℕ) (x : Round) where
   moves words′ la less some-nodes not-yet taken =
       record {
         best-same = refl;
+        round-same = refl;
         still-on = refl;
         layer = layer-of (taken .held []);
         goes-on = λ m. record { further = less; none-yet = refl; as-many = refl; taken = taken; same = onward };
@@ -125,6 +125,7 @@ module _ (budget : ℕ) {bytes outline words words₁ plan plan₁ : List ℕ} {
   turns-over e is-over =
       record {
         best-fits = leaves .best-fits;
+        round-same = leaves .round-same;
         inside = subst (Inside w limit k) is-over (leaves .inside);
         counted = nodes-length (modelOf bytes .variables) (pathBy words₁ w k) (layer-of (leaves .held));
         goes-on = λ m. absurd (not-both m refl);
@@ -168,6 +169,7 @@ module _ (budget : ℕ) {bytes outline words words₁ plan plan₁ : List ℕ} {
         let fits : y .round .progress .best .length ≤ limit = omega (arith, moved .best-same, end .best-same, leaves .best-fits) in
         record {
           best-fits = fits;
+          round-same = moved .round-same ∙ end .round-same ∙ leaves .round-same;
           inside = subst (Inside w limit k) (sym (moved .still-on)) tt;
           counted = nodes-length (modelOf bytes .variables) (pathBy words₂ w k) (moved .layer);
           goes-on = λ m. onward (moved .goes-on m) fits;

@@ -1,6 +1,6 @@
 -- The rounds of a run: a round that is judged, the ladder of widths, and what the loop over the rounds keeps.
 use Prim.Native.Nat.{ℕ, suc, _+_, _-_, _*_, _≤_, _<_}
-use mathlib.Core.Path.{_≡_, refl, sym, subst, _∙_}
+use mathlib.Core.Path.{_≡_, refl, sym, ap, subst, _∙_}
 use mathlib.Core.Bool.{Bool, true, false, _&&_}
 use mathlib.Core.List.{List, [], _∷_}
 use mathlib.Core.Option.{none}
@@ -36,7 +36,7 @@ use Rattle.rounds.specs.declared.runs.Judged.{Judged}
 use Rattle.routes.specs.Routes.{pathBy, nextOf}
 use Rattle.visits.specs.Work.{verdictOf, bestOf, progressOf, roundOf, roundIn, endingOf, resultOf}
 use Rattle.rounds.specs.Rounds.{RoomFor, RoundEnds, Judges, judgementOf, Doubling, Runs}
-use Rattle.rounds.specs.Widths.{widthBehind, afterOf, RoundJudged}
+use Rattle.rounds.specs.Widths.{widthBehind, beginsAt, afterOf, RoundJudged}
 
 -- ---- a round that is judged
 
@@ -47,6 +47,7 @@ module _ {bytes outline words′ plan plan′ : List ℕ} {w budget limit h : �
   round-over over =
       record {
         best-fits = r .best-fits;
+        round-same = r .round-same;
         inside = rw over at (r .inside);
         same = rw (r .same, over);
       }
@@ -63,6 +64,7 @@ module _ {bytes outline words′ plan plan′ : List ℕ} {w budget limit h : �
   round-again on judged again =
       record {
         best-fits = r .best-fits;
+        round-same = r .round-same;
         inside = tt;
         same = rw (r .same, on, judge-same judged, again);
       }
@@ -74,6 +76,7 @@ module _ {bytes outline words′ plan plan′ : List ℕ} {w budget limit h : �
   round-ended on judged ended =
       record {
         best-fits = r .best-fits;
+        round-same = r .round-same;
         inside = tt;
         same = rw (r .same, on, judge-same judged, ended);
       }
@@ -146,24 +149,29 @@ abbrev roundsFrom : (bytes plan : List ℕ) (budget limit h most width : ℕ) (w
 roundsFrom bytes plan budget limit h most width wider k p =
     S.rounds (costsIn bytes) (systemIn bytes) most budget limit width wider k (S.root (costsIn bytes) (systemIn bytes) (originOf (modelOf bytes)) h) (progressOf plan p)
 
--- before round k the rounds that are left give the run's answer
-pub record Widening (bytes words₀ words plan₀ plan : List ℕ) (widest budget limit h : ℕ) (p : Progress) (width k most : ℕ) : Type 0 where
+-- in the round that the tally tells, the rounds that are left give the run's answer
+pub record Widening (bytes words₀ words plan₀ plan : List ℕ) (widest budget limit h : ℕ) (p : Progress) (most : ℕ) : Type 0 where
   pub same-words : length words ≡ length words₀
   pub same-plan : length plan ≡ length plan₀
   pub best-fits : p .best .length ≤ limit
-  pub some-width : 0 < width
-  pub narrow : width ≤ widest
-  pub counted : k + most ≡ budget + 2
+  pub some-width : 0 < p .tally .width
+  pub narrow : p .tally .width ≤ widest
+  pub counted : p .tally .rounds + most ≡ budget + 2
   pub wider : List ℕ
-  pub ladder : climbs widest width wider ≡ true
+  pub ladder : climbs widest (p .tally .width) wider ≡ true
   pub same : S.rounds (costsIn bytes) (systemIn bytes) (suc budget) budget limit 1 (widerUpTo widest) 1 (S.root (costsIn bytes) (systemIn bytes) (originOf (modelOf bytes)) h) (record { best = none; low = h; expansions = 0 })
-      ≡ roundsFrom bytes plan budget limit h most width wider k p
+      ≡ roundsFrom bytes plan budget limit h most (p .tally .width) wider (p .tally .rounds) p
 
-pub widening-first : {bytes words plan : List ℕ} {widest budget limit h : ℕ} → RoomFor words plan widest limit → Doubling widest
-    → Widening bytes words words plan plan widest budget limit h (record { best = record { found = false; cost = 0; length = 0 }; low = h; expansions = 0 }) 1 1 (budget + 1)
+-- before any round
+abbrev unbegun : (h : ℕ) → Progress
+unbegun h = record { best = record { found = false; cost = 0; length = 0 }; low = h; tally = record { expansions = 0; rounds = 0; width = 0 } }
+
+pub widening-first : {bytes words plan : List ℕ} {widest budget limit h : ℕ} {p : Progress} → RoomFor words plan widest limit → Doubling widest → p ≡ beginsAt 1 (unbegun h)
+    → Widening bytes words words plan plan widest budget limit h p (budget + 1)
 unfolding progressOf bestOf
-widening-first {widest = widest} {budget = budget} room d =
-    record {
+widening-first {widest = widest} {budget = budget} room d e =
+    rw e
+    (record {
       same-words = refl;
       same-plan = refl;
       best-fits = omega arith;
@@ -173,9 +181,15 @@ widening-first {widest = widest} {budget = budget} room d =
       wider = widerUpTo widest;
       ladder = doubling-climbs widest d;
       same = rw (add-one budget);
-    }
+    })
 
-module _ {bytes words₀ words plan₀ plan : List ℕ} {widest budget limit h : ℕ} {p : Progress} {width k most : ℕ} (s : Widening bytes words₀ words plan₀ plan widest budget limit h p width k most) where
+module _ {bytes words₀ words plan₀ plan : List ℕ} {widest budget limit h : ℕ} {p : Progress} {most : ℕ} (s : Widening bytes words₀ words plan₀ plan widest budget limit h p most) where
+  abbrev width : ℕ
+  width = p .tally .width
+
+  abbrev k : ℕ
+  k = p .tally .rounds
+
   pub room : RoomFor words₀ plan₀ widest limit → RoomFor words plan width limit
   room r = room-for r (s .same-words) (s .same-plan) (s .some-width) (s .narrow)
 
@@ -187,42 +201,51 @@ module _ {bytes words₀ words plan₀ plan : List ℕ} {widest budget limit h :
   unfolding S.rounds
   one-more e r = rw (e, last-empty (costsIn bytes) (systemIn bytes) widest width (s .wider) (s .ladder) (s .some-width), r .same)
 
-  pub widening-more : {words′ plan′ : List ℕ} {y : Judged} {next : ℕ} → 0 < most → RoundJudged bytes words′ plan plan′ widest budget limit h width p y → y .next ≡ N.On → next ≡ widthBehind widest width → length words′ ≡ length words → length plan′ ≡ length plan
-      → Widening bytes words₀ words′ plan₀ plan′ widest budget limit h (y .progress) next (k + 1) (most - 1)
-  unfolding S.unlessOver afterOf
-  widening-more {y = y} {next = next} pos r on e a b =
+  -- the round has left its number and its width in the tally
+  module _ {words′ plan′ : List ℕ} {y : Judged} (r : RoundJudged bytes words′ plan plan′ widest budget limit h width p y) where
+    pub number-same : y .progress .tally .rounds ≡ k
+    number-same = ap (λ (q : ℕ × ℕ). q .0) (r .round-same)
+
+    width-same : y .progress .tally .width ≡ width
+    width-same = ap (λ (q : ℕ × ℕ). q .1) (r .round-same)
+
+  pub widening-more : {words′ plan′ : List ℕ} {y : Judged} {next : ℕ} {p′ : Progress} → 0 < most → RoundJudged bytes words′ plan plan′ widest budget limit h width p y → y .next ≡ N.On → next ≡ widthBehind widest width → p′ ≡ beginsAt next (y .progress)
+      → length words′ ≡ length words → length plan′ ≡ length plan → Widening bytes words₀ words′ plan₀ plan′ widest budget limit h p′ (most - 1)
+  unfolding S.unlessOver afterOf progressOf
+  widening-more {y = y} {next = next} pos r on e begins a b =
       let K = costsIn bytes in
       let M = systemIn bytes in
       let is : S.nextWidth K M width (s .wider) ≡ next = next-is K M widest width (s .wider) (s .ladder) (s .some-width) ∙ sym e in
       let within = next-within K M widest width (s .wider) (s .ladder) (s .some-width) (s .narrow) in
       let one : most ≡ suc (most - 1) = omega arith in
-      record {
+      rw begins
+      (record {
         same-words = a ∙ s .same-words;
         same-plan = b ∙ s .same-plan;
         best-fits = r .best-fits;
         some-width = rw is at (within .0);
         narrow = rw is at (within .1);
-        counted = omega (arith, s .counted);
+        counted = omega (arith, s .counted, number-same r);
         wider = S.laterWidths K M (s .wider);
         ladder = rw is at (next-climbs K M widest width (s .wider) (s .ladder));
-        same = s .same ∙ one-more one r ∙ rw (on, is, add-one k);
-      }
+        same = s .same ∙ one-more one r ∙ rw (on, is, number-same r, add-one k);
+      })
 
   pub widening-over : {words′ plan′ : List ℕ} {y : Judged} {e : Ending} → 0 < most → RoundJudged bytes words′ plan plan′ widest budget limit h width p y → y .next ≡ N.Over e
-      → Runs bytes words′ plan′ widest budget limit h (record { ending = e; progress = y .progress; layer = y .layer; rounds = k; width = width })
-  unfolding S.unlessOver S.answer afterOf
+      → Runs bytes words′ plan′ widest budget limit h (record { ending = e; progress = y .progress; layer = y .layer })
+  unfolding S.unlessOver S.answer afterOf progressOf
   widening-over pos r over =
       let one : most ≡ suc (most - 1) = omega arith in
       record {
         best-fits = r .best-fits;
-        some-width = s .some-width;
-        narrow = s .narrow;
-        inside = rw over at (r .inside);
-        same = s .same ∙ one-more one r ∙ rw over;
+        some-width = rw (width-same r) (s .some-width);
+        narrow = rw (width-same r) (s .narrow);
+        inside = rw (width-same r) (rw over at (r .inside));
+        same = rw (number-same r, width-same r) (s .same ∙ one-more one r ∙ rw over);
       }
 
   -- the definition's own last clause, which no run comes to
-  pub widening-spent : most ≡ 0 → Runs bytes words plan widest budget limit h (record { ending = E.Decided W.BudgetSpent; progress = p; layer = 0; rounds = k; width = width })
+  pub widening-spent : most ≡ 0 → Runs bytes words plan widest budget limit h (record { ending = E.Decided W.BudgetSpent; progress = p; layer = 0 })
   unfolding S.rounds S.answer endingOf verdictOf
   widening-spent e =
       record {

@@ -15,7 +15,7 @@ use Rattle.steps.specs.Follow.{costsIn}
 use Rattle.beam.specs.Held.{nodesOf, Layer}
 use Rattle.expansion.specs.Expansion.{BestIs}
 use Rattle.routes.specs.Routes.{nextOf, Taken}
-use Rattle.visits.specs.Work.{roundIn}
+use Rattle.visits.specs.Work.{roundBegun, roundIn}
 use Rattle.rounds.specs.Rounds.{layersFrom}
 use Rattle.visits.specs.declared.work.Round.{Round}
 use Rattle.visits.specs.declared.work.Next.the-variants as N
@@ -48,6 +48,7 @@ pub record Onward (words words′ : List ℕ) (w limit k : ℕ) (x : Round) (y :
 -- the round x at the end of layer k goes on with layer k + 1, or it is at its end
 pub record MovesOn (words words′ : List ℕ) (w limit k : ℕ) (x : Round) (y : Turned) : Type 0 where
   pub best-same : y .round .progress .best .length ≡ x .progress .best .length
+  pub round-same : roundBegun (y .round .progress) ≡ roundBegun (x .progress)
   pub still-on : y .next ≡ N.On
   pub layer : Layer w (y .round .count) (nextOf w words′)
   pub goes-on : y .more ≡ true → Onward words words′ w limit k x y

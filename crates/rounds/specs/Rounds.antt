@@ -2,7 +2,7 @@
 use Prim.Native.Nat.{ℕ, suc, _+_, _-_, _*_, _≤_, _<_}
 use mathlib.Core.Path.{_≡_}
 use mathlib.Core.Bool.{Bool, true, false}
-use mathlib.Core.List.{List, [], _∷_}
+use mathlib.Core.List.{List, _∷_}
 use mathlib.Core.Option.{none}
 use lib.Dec.{eqb}
 use lib.ListN.{length}
@@ -22,7 +22,7 @@ use Rattle.beam.specs.Held.{Layer}
 use Rattle.routes.specs.Routes.{pathBy, nextOf, currentOf}
 use Rattle.visits.specs.declared.work.Progress.{Progress}
 use Rattle.visits.specs.declared.work.Round.{Round}
-use Rattle.visits.specs.Work.{verdictOf, progressOf, roundOf, endingOf, resultOf, roundIn, Ready, EndsInside, Inside}
+use Rattle.visits.specs.Work.{verdictOf, progressOf, roundOf, roundBegun, endingOf, resultOf, roundIn, Ready, EndsInside, Inside}
 use Rattle.rounds.specs.declared.ends.Turned.{Turned}
 use Rattle.rounds.specs.declared.rounds.Ended.{Ended}
 use Rattle.rounds.specs.declared.judges.Judgement.{Judgement}
@@ -42,6 +42,7 @@ pub record LayerEnds (words : List ℕ) (w : ℕ) (x y : Round) : Type 0 where
   pub fewer : y .count ≤ x .count
   pub layer : Layer w (y .count) (nextOf w words)
   pub best-same : y .progress .best .length ≡ x .progress .best .length
+  pub round-same : roundBegun (y .progress) ≡ roundBegun (x .progress)
   pub same : (bytes plan : List ℕ) (k : ℕ) → S.layerEnd (costsIn bytes) (systemIn bytes) (roundIn bytes words plan w k x) ≡ roundIn bytes words plan w k y
 
 -- the layers from k on, in a round
@@ -52,6 +53,7 @@ layersFrom bytes words plan w budget limit k n x =
 -- they go on with layer k + 1, or the round is at its end, or the run is over
 pub record Turns (bytes outline words words′ plan plan′ : List ℕ) (w budget limit k n : ℕ) (x : Round) (y : Turned) : Type 0 where
   pub best-fits : y .round .progress .best .length ≤ limit
+  pub round-same : roundBegun (y .round .progress) ≡ roundBegun (x .progress)
   pub inside : Inside w limit k (y .next)
   pub counted : length (roundIn bytes words′ plan′ w k (y .round) .kept) ≡ y .round .count
   pub goes-on : y .more ≡ true
@@ -61,6 +63,7 @@ pub record Turns (bytes outline words words′ plan plan′ : List ℕ) (w budge
 
 pub record RoundEnds (bytes outline words′ plan plan′ : List ℕ) (w budget limit h : ℕ) (p : Progress) (y : Ended) : Type 0 where
   pub best-fits : y .round .progress .best .length ≤ limit
+  pub round-same : roundBegun (y .round .progress) ≡ roundBegun p
   pub inside : Inside w limit (y .layer) (y .next)
   pub counted : length (roundIn bytes words′ plan′ w (y .layer) (y .round) .kept) ≡ y .round .count
   pub same : S.round (costsIn bytes) (systemIn bytes) budget limit w (root (costsIn bytes) (systemIn bytes) (originOf (modelOf bytes)) h) (progressOf plan p)
@@ -79,11 +82,11 @@ pub record Judges (atWidest : Bool) (x : Round) (j : Judgement) : Type 0 where
 abbrev pub Doubling : ℕ → Type 0
 Doubling widest = any (λ w. eqb w widest) (1 ∷ widerWidths) ≡ true
 
--- the rounds from the first on, h being the target's bound
+-- the rounds from the first on, h being the target's bound: the tally has their number and the last width
 pub record Runs (bytes words′ plan′ : List ℕ) (widest budget limit h : ℕ) (y : Stop) : Type 0 where
   pub best-fits : y .progress .best .length ≤ limit
-  pub some-width : 0 < y .width
-  pub narrow : y .width ≤ widest
-  pub inside : EndsInside (y .width) limit (y .layer) (y .ending)
+  pub some-width : 0 < y .progress .tally .width
+  pub narrow : y .progress .tally .width ≤ widest
+  pub inside : EndsInside (y .progress .tally .width) limit (y .layer) (y .ending)
   pub same : S.rounds (costsIn bytes) (systemIn bytes) (suc budget) budget limit 1 (widerUpTo widest) 1 (root (costsIn bytes) (systemIn bytes) (originOf (modelOf bytes)) h) (record { best = none; low = h; expansions = 0 })
-      ≡ S.answerOf (costsIn bytes) (systemIn bytes) (endingOf (pathBy words′ (y .width) (y .layer)) (y .ending)) (y .rounds) (y .width) (progressOf plan′ (y .progress))
+      ≡ S.answerOf (costsIn bytes) (systemIn bytes) (endingOf (pathBy words′ (y .progress .tally .width) (y .layer)) (y .ending)) (y .progress .tally .rounds) (y .progress .tally .width) (progressOf plan′ (y .progress))

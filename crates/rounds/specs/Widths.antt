@@ -13,12 +13,13 @@ use Rattle.outline.specs.Outline.{modelOf}
 use Rattle.steps.specs.Held.{systemIn}
 use Rattle.steps.specs.Follow.{costsIn}
 use Rattle.routes.specs.Routes.{pathBy}
+use Rattle.tally.specs.Tally.{begunAt}
 use Rattle.visits.specs.declared.work.Progress.{Progress}
 use Rattle.visits.specs.declared.work.Round.{Round}
 use Rattle.visits.specs.declared.work.Next.{Next}
 use Rattle.visits.specs.declared.work.Next.the-variants as N
 use Rattle.rounds.specs.declared.runs.Judged.{Judged}
-use Rattle.visits.specs.Work.{progressOf, endingOf, Inside}
+use Rattle.visits.specs.Work.{progressOf, roundBegun, endingOf, Inside}
 
 -- "No mark and none remaining"
 unfoldable pub nothingLeft : Round → Bool
@@ -28,6 +29,10 @@ nothingLeft x = not (x .marks .width) && not (x .marks .length) && eqb (x .count
 unfoldable pub widthBehind : (widest width : ℕ) → ℕ
 widthBehind widest width = cond (eqb width widest) width (2 * width)
 
+-- what lasts, once a round of this width has begun
+abbrev pub beginsAt : (width : ℕ) → Progress → Progress
+beginsAt width p = record { best = p .best; low = p .low; tally = begunAt width (p .tally) }
+
 -- another round, or the run is over
 unfoldable pub afterOf : (K : Costs ℕ) (M : System State ℕ) (path : ℕ → List ℕ) → Next → S.Progress ℕ → After K M
 afterOf K M path N.On p = again p
@@ -36,6 +41,7 @@ afterOf K M path (N.Over e) p = ended (record { ending = endingOf path e; progre
 -- a round of this width from the progress p, and what follows it
 pub record RoundJudged (bytes words′ plan plan′ : List ℕ) (widest budget limit h width : ℕ) (p : Progress) (y : Judged) : Type 0 where
   pub best-fits : y .progress .best .length ≤ limit
+  pub round-same : roundBegun (y .progress) ≡ roundBegun p
   pub inside : Inside width limit (y .layer) (y .next)
   pub same : S.afterRound (costsIn bytes) (systemIn bytes) (eqb width widest) (S.round (costsIn bytes) (systemIn bytes) budget limit width (root (costsIn bytes) (systemIn bytes) (originOf (modelOf bytes)) h) (progressOf plan p))
       ≡ afterOf (costsIn bytes) (systemIn bytes) (pathBy words′ width (y .layer)) (y .next) (progressOf plan′ (y .progress))

@@ -64,6 +64,7 @@ fn layer_end(words: &[u64], w: usize, round: Round) -> Round
     let e = 46 * w;
     let progress = round.progress;
     let best = progress.best;
+    let tally = progress.tally;
     let marks = round.marks;
     let found = best.found;
     let cost = best.cost;
@@ -79,7 +80,7 @@ fn layer_end(words: &[u64], w: usize, round: Round) -> Round
         progress: Progress {
             best: best,
             low: higher,
-            expansions: progress.expansions,
+            tally: tally,
         },
     }
 }

@@ -1,7 +1,6 @@
 // A round: the target alone, then layer behind layer.
 
-ghost use Prim.Native.Nat.{_+_, _*_, _≤_, _<_};
-ghost use mathlib.Core.Path.{_≡_};
+ghost use Prim.Native.Nat.{_+_, _≤_};
 ghost use lib.ListN.{length};
 ghost use Rattle.steps.specs.Held.{Outlined};
 ghost use Rattle.rounds.specs.Rounds.{RoomFor, RoundEnds};

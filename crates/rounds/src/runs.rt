@@ -1,26 +1,26 @@
 // The rounds of a run, at widths 1, 2, 4 up to the widest.
 
 ghost use mathlib.Core.Path.{_≡_};
-ghost use Prim.Native.Nat.{_≤_, _<_, _^_};
+ghost use Prim.Native.Nat.{_+_, _≤_, _<_, _^_};
 ghost use Rattle.steps.specs.Held.{Outlined};
 ghost use Rattle.rounds.specs.Rounds.{RoomFor, Doubling, Runs};
-ghost use Rattle.rounds.specs.Widths.{widthBehind, RoundJudged};
+ghost use Rattle.rounds.specs.Widths.{widthBehind, beginsAt, RoundJudged};
 use crate::judges::Judgement;
 use crate::judges::judge;
 use crate::rounds::round;
+use tally::Tally;
+use tally::begun;
 use visits::work::Best;
 use visits::work::Ending;
 use visits::work::Next;
 use visits::work::Progress;
 use visits::work::Verdict;
 
-// A run that is over: in this layer, with this many rounds begun, at this width.
+// A run that is over, in this layer.
 pub struct Stop {
     pub ending: Ending,
     pub progress: Progress,
     pub layer: usize,
-    pub rounds: u64,
-    pub width: usize,
 }
 
 // What a round leaves, with rule 7 applied: On, another round follows; or the run is over, in this layer.
@@ -36,6 +36,21 @@ fn next_width(width: usize, widest: usize) -> usize
     ensures { λ r. ⌜ r ≡ widthBehind widest width ⌝ }
 {
     if width == widest { width } else { 2 * width }
+}
+
+// What lasts, once a round of this width has begun.
+fn begin(progress: Progress, width: usize) -> Progress
+    requires { ⌜ progress .tally .rounds + 1 < 2 ^ 64 ⌝ }
+    ensures { λ r. ⌜ r ≡ beginsAt width progress ⌝ }
+{
+    let best = progress.best;
+    let tally = progress.tally;
+    let more = begun(tally, width as u64);
+    Progress {
+        best: best,
+        low: progress.low,
+        tally: more,
+    }
 }
 
 // A round of this width, and what follows it.
@@ -104,19 +119,23 @@ pub fn rounds(
     requires { ⌜ Outlined (now model) (now outline) × (RoomFor (now words) (now plan) widest limit × (Doubling widest × (budget < 2 ^ 32))) ⌝ }
     ensures { λ r. ⌜ Runs (now (model .entry)) (now (words .exit)) (now (plan .exit)) widest budget limit h r ⌝ }
 {
-    let mut progress = Progress {
+    let first = Progress {
         best: Best {
             found: false,
             cost: 0,
             length: 0,
         },
         low: h,
-        expansions: 0,
+        tally: Tally {
+            expansions: 0,
+            rounds: 0,
+            width: 0,
+        },
     };
-    let mut width: usize = 1;
-    let mut k: u64 = 1;
+    let mut progress = begin(first, 1);
     let mut most = budget + 1;
     while 0 < most {
+        let width = progress.tally.width as usize;
         let x = judged_round(
             words,
             plan,
@@ -129,22 +148,19 @@ pub fn rounds(
             width,
             progress,
         );
-        progress = x.progress;
+        let after = x.progress;
         let next = x.next;
         let layer = x.layer;
         match next {
             Next::On => {
-                width = next_width(width, widest);
-                k += 1;
+                progress = begin(after, next_width(width, widest));
                 most -= 1;
             }
             Next::Over(e) => {
                 return Stop {
                     ending: e,
-                    progress: progress,
+                    progress: after,
                     layer: layer,
-                    rounds: k,
-                    width: width,
                 };
             }
         }
@@ -154,7 +170,5 @@ pub fn rounds(
         ending: Ending::Decided(Verdict::BudgetSpent),
         progress: progress,
         layer: 0,
-        rounds: k,
-        width: width,
     }
 }

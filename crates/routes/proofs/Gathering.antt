@@ -98,7 +98,7 @@ take-of-drop (suc a) m (x ∷ l) =
     let z : suc a + m ≡ suc (a + m) = omega arith in
     rw z (take-of-drop a m l)
 
-slot-first : (words words′ : List ℕ) (e i : ℕ) → take e words′ ≡ take e words → i * slotWords + slotWords ≤ e → wordsIn words′ i ≡ wordsIn words i
+pub slot-first : (words words′ : List ℕ) (e i : ℕ) → take e words′ ≡ take e words → i * slotWords + slotWords ≤ e → wordsIn words′ i ≡ wordsIn words i
 unfolding wordsIn
 slot-first words words′ e i t h =
     take-of-drop (i * slotWords) slotWords words′

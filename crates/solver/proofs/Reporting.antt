@@ -8,21 +8,20 @@ use native.Mathlib.Omega.{arith}
 use lib.ListN.{length, take, drop, getD, set, length-reverse}
 use lib.Seq.{take-suc, drop-cons, set-at, length-take-le, append-snoc}
 use Rattle.search.specs.Answer as A
-use Rattle.search.specs.Answer.{verdict, byState, bufferAfter}
+use Rattle.search.specs.Answer.{verdict, bufferAfter}
 use Rattle.search.specs.Search.{boundAt, bestCost, bestSteps, hasPlan, tallyOf, answerOf}
 use Rattle.steps.specs.Held.{systemIn}
 use Rattle.steps.specs.Follow.{costsIn}
 use Rattle.routes.specs.Routes.{pathBy}
 use Rattle.visits.specs.Work.{verdictOf, bestOf, progressOf, endingOf, EndsInside}
-use Rattle.solver.specs.Answers.{outcomeOf, AnswerIs, stopAnswer, Reports}
-use Rattle.solver.specs.Reported.{BoundIs, decidedAnswer, Decides, refusedAnswer, Refuses}
+use Rattle.solver.specs.Answers.{outcomeOf, AnswerIs, Reports}
+use Rattle.solver.specs.Reported.{BoundIs, decidedAnswer, Decides, Refuses}
 use Rattle.visits.specs.declared.work.Verdict.{Verdict}
 use Rattle.visits.specs.declared.work.Verdict.the-variants as W
 use Rattle.visits.specs.declared.work.Progress.{Progress}
 use Rattle.visits.specs.declared.work.Ending.{Ending}
 use Rattle.visits.specs.declared.work.Ending.the-variants as E
 use Rattle.solver.specs.declared.answers.Outcome.the-variants as O
-use Rattle.solver.specs.declared.answers.Tally.{Tally}
 use Rattle.solver.specs.declared.answers.Answer.{Answer}
 use Rattle.rounds.specs.declared.runs.Stop.{Stop}
 
@@ -95,10 +94,7 @@ module _ (v : Verdict) (p : Progress) where
 pub answer-same : {a b : A.Answer ℕ} (x : Answer) → a ≡ b → AnswerIs b x → AnswerIs a x
 answer-same x e h = subst (λ (a : A.Answer ℕ). AnswerIs a x) (sym e) h
 
-abbrev pub Tallies : Stop → Tally → Type 0
-Tallies stop t = (t .expansions ≡ stop .progress .expansions) × ((t .rounds ≡ stop .rounds) × (t .width ≡ stop .width))
-
-module _ (best plan plan′ : List ℕ) (v : Verdict) (stop : Stop) (h : ℕ) (t : Tally) (b : BoundIs v (stop .progress) h) (tallies : Tallies stop t) where
+module _ (best plan plan′ : List ℕ) (v : Verdict) (stop : Stop) (h : ℕ) (b : BoundIs v (stop .progress) h) where
   abbrev n : ℕ
   n = stop .progress .best .length
 
@@ -110,7 +106,7 @@ module _ (best plan plan′ : List ℕ) (v : Verdict) (stop : Stop) (h : ℕ) (t
         cost = cost;
         bound = boundAt (costsIn bytes) (systemIn bytes) (verdictOf v) (progressOf best (stop .progress));
         steps = steps;
-        tally = record { expansions = stop .progress .expansions; rounds = stop .rounds; width = stop .width };
+        tally = record { expansions = stop .progress .tally .expansions; rounds = stop .progress .tally .rounds; width = stop .progress .tally .width };
       }
 
   with-plan : (bytes : List ℕ) → stop .progress .best .found ≡ true → decidedAnswer bytes best v stop ≡ fieldsWith bytes true (stop .progress .best .cost) (take n best)
@@ -122,33 +118,33 @@ module _ (best plan plan′ : List ℕ) (v : Verdict) (stop : Stop) (h : ℕ) (t
   without-plan bytes f = rw f
 
   pub decides-found : stop .progress .best .found ≡ true → n ≤ length best → plan′ ≡ take n best ++ drop n plan
-      → Decides best plan plan′ v stop (record { outcome = O.Verdict v; flag = true; cost = stop .progress .best .cost; bound = h; length = n; tally = t })
+      → Decides best plan plan′ v stop (record { outcome = O.Verdict v; flag = true; cost = stop .progress .best .cost; bound = h; length = n; tally = stop .progress .tally })
   unfolding outcomeOf bufferAfter
   decides-found f room e =
       let whole : length (take n best) ≡ n = length-take-le n best room in
       record {
         answer = λ bytes. answer-same _ (with-plan bytes f)
-            (record { outcome = refl; flag = refl; cost = refl; bound = b .same bytes best; length-of = sym whole; expansions = tallies .0; rounds = tallies .1 .0; width = tallies .1 .1 });
+            (record { outcome = refl; flag = refl; cost = refl; bound = b .same bytes best; length-of = sym whole; expansions = refl; rounds = refl; width = refl });
         plan-after = λ bytes. rw (with-plan bytes f, whole) e;
       }
 
   pub decides-none : stop .progress .best .found ≡ false → plan′ ≡ plan
-      → Decides best plan plan′ v stop (record { outcome = O.Verdict v; flag = false; cost = 0; bound = h; length = 0; tally = t })
+      → Decides best plan plan′ v stop (record { outcome = O.Verdict v; flag = false; cost = 0; bound = h; length = 0; tally = stop .progress .tally })
   unfolding outcomeOf bufferAfter
   decides-none f e =
       record {
         answer = λ bytes. answer-same _ (without-plan bytes f)
-            (record { outcome = refl; flag = refl; cost = refl; bound = b .same bytes best; length-of = refl; expansions = tallies .0; rounds = tallies .1 .0; width = tallies .1 .1 });
+            (record { outcome = refl; flag = refl; cost = refl; bound = b .same bytes best; length-of = refl; expansions = refl; rounds = refl; width = refl });
         plan-after = λ bytes. rw (without-plan bytes f) e;
       }
 
-pub refuses : (number cost n : ℕ) (stop : Stop) (t : Tally) → Tallies stop t
-    → Refuses number cost n stop (record { outcome = O.ByState number; flag = false; cost = cost; bound = stop .progress .low; length = n; tally = t })
+pub refuses : (number cost n : ℕ) (stop : Stop)
+    → Refuses number cost n stop (record { outcome = O.ByState number; flag = false; cost = cost; bound = stop .progress .low; length = n; tally = stop .progress .tally })
 unfolding answerOf outcomeOf tallyOf progressOf
-refuses number cost n stop t tallies =
+refuses number cost n stop =
     record {
       answer = λ bytes best path e.
-          record { outcome = refl; flag = refl; cost = refl; bound = refl; length-of = sym (length-reverse path ∙ e); expansions = tallies .0; rounds = tallies .1 .0; width = tallies .1 .1 };
+          record { outcome = refl; flag = refl; cost = refl; bound = refl; length-of = sym (length-reverse path ∙ e); expansions = refl; rounds = refl; width = refl };
     }
 
 -- ---- by the ending
@@ -165,22 +161,22 @@ module _ (words best plan : List ℕ) (stop : Stop) (x : Answer) where
   reports-decided plan′ v e d = record { answer = λ bytes. rw e (d .answer bytes); plan-after = λ bytes. rw e (d .plan-after bytes) }
 
   pub reports-at : (plan′ : List ℕ) (e c i : ℕ) → stop .ending ≡ E.At e c i → Refuses e c (stop .layer) stop x
-      → plan′ ≡ reverse (pathBy words (stop .width) (stop .layer) i) ++ drop (stop .layer) plan → Reports words best plan plan′ stop x
+      → plan′ ≡ reverse (pathBy words (stop .progress .tally .width) (stop .layer) i) ++ drop (stop .layer) plan → Reports words best plan plan′ stop x
   unfolding endingOf bufferAfter answerOf
   reports-at plan′ e c i eq d p =
-      let long : length (pathBy words (stop .width) (stop .layer) i) ≡ stop .layer = path-length words (stop .width) (stop .layer) i in
+      let long : length (pathBy words (stop .progress .tally .width) (stop .layer) i) ≡ stop .layer = path-length words (stop .progress .tally .width) (stop .layer) i in
       record {
-        answer = λ bytes. rw eq (d .answer bytes best (pathBy words (stop .width) (stop .layer) i) long);
-        plan-after = λ bytes. rw eq (p ∙ path-front plan (pathBy words (stop .width) (stop .layer) i) (stop .layer) long);
+        answer = λ bytes. rw eq (d .answer bytes best (pathBy words (stop .progress .tally .width) (stop .layer) i) long);
+        plan-after = λ bytes. rw eq (p ∙ path-front plan (pathBy words (stop .progress .tally .width) (stop .layer) i) (stop .layer) long);
       }
 
   pub reports-beyond : (plan₁ : List ℕ) (e c i t : ℕ) → stop .ending ≡ E.Beyond e c i t → stop .layer < length plan → Refuses e c (stop .layer + 1) stop x
-      → plan₁ ≡ reverse (pathBy words (stop .width) (stop .layer) i) ++ drop (stop .layer) plan → Reports words best plan (set plan₁ (stop .layer) t) stop x
+      → plan₁ ≡ reverse (pathBy words (stop .progress .tally .width) (stop .layer) i) ++ drop (stop .layer) plan → Reports words best plan (set plan₁ (stop .layer) t) stop x
   unfolding endingOf bufferAfter answerOf
   reports-beyond plan₁ e c i t eq room d p =
-      let long : length (pathBy words (stop .width) (stop .layer) i) ≡ stop .layer = path-length words (stop .width) (stop .layer) i in
-      let more : length (t ∷ pathBy words (stop .width) (stop .layer) i) ≡ stop .layer + 1 = omega arith in
+      let long : length (pathBy words (stop .progress .tally .width) (stop .layer) i) ≡ stop .layer = path-length words (stop .progress .tally .width) (stop .layer) i in
+      let more : length (t ∷ pathBy words (stop .progress .tally .width) (stop .layer) i) ≡ stop .layer + 1 = omega arith in
       record {
-        answer = λ bytes. rw eq (d .answer bytes best (t ∷ pathBy words (stop .width) (stop .layer) i) more);
-        plan-after = λ bytes. rw eq (ap (λ (l : List ℕ). set l (stop .layer) t) p ∙ step-written plan (pathBy words (stop .width) (stop .layer) i) t (stop .layer) long room);
+        answer = λ bytes. rw eq (d .answer bytes best (t ∷ pathBy words (stop .progress .tally .width) (stop .layer) i) more);
+        plan-after = λ bytes. rw eq (ap (λ (l : List ℕ). set l (stop .layer) t) p ∙ step-written plan (pathBy words (stop .progress .tally .width) (stop .layer) i) t (stop .layer) long room);
       }

@@ -56,7 +56,7 @@ pub record FieldsAre (a : A.Answer ℕ) (x : Fields) : Type 0 where
 -- the answer of a run that is over
 abbrev pub stopAnswer : (bytes words best : List ℕ) → Stop → A.Answer ℕ
 stopAnswer bytes words best x =
-    answerOf (costsIn bytes) (systemIn bytes) (endingOf (pathBy words (x .width) (x .layer)) (x .ending)) (x .rounds) (x .width) (progressOf best (x .progress))
+    answerOf (costsIn bytes) (systemIn bytes) (endingOf (pathBy words (x .progress .tally .width) (x .layer)) (x .ending)) (x .progress .tally .rounds) (x .progress .tally .width) (progressOf best (x .progress))
 
 -- what the report of a run needs: room for its steps
 pub record Reportable (plan best : List ℕ) (limit : ℕ) (x : Stop) : Type 0 where
@@ -64,9 +64,9 @@ pub record Reportable (plan best : List ℕ) (limit : ℕ) (x : Stop) : Type 0 w
   pub plan-room : limit ≤ length plan
   pub best-room : limit ≤ length best
   pub best-fits : x .progress .best .length ≤ limit
-  pub some-width : 0 < x .width
-  pub narrow : x .width ≤ 4096
-  pub inside : EndsInside (x .width) limit (x .layer) (x .ending)
+  pub some-width : 0 < x .progress .tally .width
+  pub narrow : x .progress .tally .width ≤ 4096
+  pub inside : EndsInside (x .progress .tally .width) limit (x .layer) (x .ending)
 
 pub record Reports (words best plan plan′ : List ℕ) (stop : Stop) (x : Answer) : Type 0 where
   pub answer : (bytes : List ℕ) → AnswerIs (stopAnswer bytes words best stop) x

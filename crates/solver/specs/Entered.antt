@@ -1,6 +1,5 @@
 -- What the tests before a run say, and the answer in numbers.
 use Prim.Native.Nat.{ℕ}
-use mathlib.Core.Path.{_≡_}
 use mathlib.Core.Bool.{Bool}
 use mathlib.Core.List.{_∷_}
 use lib.Dec.{eqb}

@@ -22,7 +22,7 @@ pub record BoundIs (v : Verdict) (p : Progress) (x : ℕ) : Type 0 where
 
 -- the run ended with this verdict
 abbrev pub decidedAnswer : (bytes best : List ℕ) → Verdict → Stop → A.Answer ℕ
-decidedAnswer bytes best v x = answerOf (costsIn bytes) (systemIn bytes) (decided (verdictOf v)) (x .rounds) (x .width) (progressOf best (x .progress))
+decidedAnswer bytes best v x = answerOf (costsIn bytes) (systemIn bytes) (decided (verdictOf v)) (x .progress .tally .rounds) (x .progress .tally .width) (progressOf best (x .progress))
 
 pub record Decides (best plan plan′ : List ℕ) (v : Verdict) (stop : Stop) (x : Answer) : Type 0 where
   pub answer : (bytes : List ℕ) → AnswerIs (decidedAnswer bytes best v stop) x
@@ -31,7 +31,7 @@ pub record Decides (best plan plan′ : List ℕ) (v : Verdict) (stop : Stop) (x
 -- the run was refused, with this number, where a path of this cost and of n steps ends
 abbrev pub refusedAnswer : (bytes best : List ℕ) (number cost : ℕ) (path : List ℕ) → Stop → A.Answer ℕ
 refusedAnswer bytes best number cost path x =
-    answerOf (costsIn bytes) (systemIn bytes) (refused number (record { cost = cost; path = path })) (x .rounds) (x .width) (progressOf best (x .progress))
+    answerOf (costsIn bytes) (systemIn bytes) (refused number (record { cost = cost; path = path })) (x .progress .tally .rounds) (x .progress .tally .width) (progressOf best (x .progress))
 
 pub record Refuses (number cost n : ℕ) (stop : Stop) (x : Answer) : Type 0 where
   pub answer : (bytes best path : List ℕ) → length path ≡ n → AnswerIs (refusedAnswer bytes best number cost path stop) x

@@ -1,5 +1,6 @@
 // The answer of a search.
 
+use tally::Tally;
 use visits::work::Verdict;
 
 // A verdict; or refused by the state, or by the input, with the refusal's number.
@@ -7,13 +8,6 @@ pub enum Outcome {
     Verdict(Verdict),
     ByState(u8),
     ByInput(u8),
-}
-
-// Expansions, rounds begun, and the last width.
-pub struct Tally {
-    pub expansions: u64,
-    pub rounds: u64,
-    pub width: u64,
 }
 
 // Document 01's fields; the plan's bytes are in the caller's buffer.

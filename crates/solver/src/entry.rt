@@ -10,13 +10,13 @@ ghost use Rattle.solver.specs.Reported.{RefusesStart};
 ghost use Rattle.solver.specs.Entered.{isWidth, lentOf};
 use crate::answers::Answer;
 use crate::answers::Outcome;
-use crate::answers::Tally;
 use crate::report::report;
 use commands::read_model;
 use rounds::runs::rounds;
 use steps::answers::BoundAnswer;
 use steps::bounds::bound;
 use steps::states::start;
+use tally::Tally;
 
 // The widths that a run may have.
 const WIDTHS: [u32; 13] = [1, 2, 4, 8, 16, 32, 64, 128, 256, 512, 1024, 2048, 4096];

@@ -8,7 +8,6 @@ ghost use Rattle.solver.specs.Answers.{Reportable, Reports};
 ghost use Rattle.solver.specs.Reported.{BoundIs, Decides, Refuses};
 use crate::answers::Answer;
 use crate::answers::Outcome;
-use crate::answers::Tally;
 use rounds::runs::Stop;
 use routes::trace::trace;
 use visits::work::Ending;
@@ -24,17 +23,6 @@ fn copy_bytes(from: &[u8], n: usize, to: &mut [u8])
     while i < n {
         to[i] = from[i];
         i += 1;
-    }
-}
-
-// The expansions of a run, its rounds and its last width.
-fn tally(stop: Stop) -> Tally
-    ensures { λ r. ⌜ (r .expansions ≡ stop .progress .expansions) × ((r .rounds ≡ stop .rounds) × (r .width ≡ stop .width)) ⌝ }
-{
-    Tally {
-        expansions: stop.progress.expansions,
-        rounds: stop.rounds,
-        width: stop.width as u64,
     }
 }
 
@@ -66,7 +54,7 @@ fn decided(plan: &mut [u8], best: &[u8], verdict: Verdict, stop: Stop) -> Answer
     let progress = stop.progress;
     let found = progress.best;
     let bound = bound_at(verdict, progress);
-    let tally = tally(stop);
+    let tally = progress.tally;
     if found.found {
         let n = found.length;
         copy_bytes(best, n, plan);
@@ -94,7 +82,7 @@ fn decided(plan: &mut [u8], best: &[u8], verdict: Verdict, stop: Stop) -> Answer
 fn refused(number: u8, cost: u64, n: usize, stop: Stop) -> Answer
     ensures { λ r. ⌜ Refuses number cost n stop r ⌝ }
 {
-    let tally = tally(stop);
+    let tally = stop.progress.tally;
     Answer {
         outcome: Outcome::ByState(number),
         flag: false,
@@ -111,7 +99,7 @@ pub fn report(plan: &mut [u8], words: &[u64], best: &[u8], limit: usize, stop: S
     ensures { λ r. ⌜ Reports (now (words .entry)) (now (best .entry)) (now (plan .entry)) (now (plan .exit)) stop r ⌝ }
 {
     let ending = stop.ending;
-    let w = stop.width;
+    let w = stop.progress.tally.width as usize;
     let k = stop.layer;
     match ending {
         Ending::Decided(v) => decided(plan, best, v, stop),

@@ -4,7 +4,6 @@ ghost use Prim.Native.Nat.{_≤_, _<_, _*_, _^_};
 ghost use lib.ListN.{length};
 ghost use mathlib.Core.Path.{_≡_};
 ghost use Rattle.steps.specs.Held.{Outlined};
-ghost use Rattle.beam.specs.Held.{Held};
 use beam::layer::empty;
 use beam::layer::insert;
 use commands::read_model;

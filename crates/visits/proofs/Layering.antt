@@ -1,12 +1,11 @@
 -- A layer node by node: what is left of it to take, and the working words in between.
-use Prim.Native.Nat.{ℕ, zero, suc, _+_, _*_, _-_, _≤_, _<_}
+use Prim.Native.Nat.{ℕ, suc, _+_, _*_, _-_, _≤_, _<_}
 use mathlib.Core.Path.{_≡_, refl, sym, ap, _∙_, subst}
-use mathlib.Core.List.{List, _∷_}
+use mathlib.Core.List.{List}
 use native.Mathlib.Omega.{arith}
 use native.Mathlib.Numerals.{add-one}
 use lib.ListN.{length, take, drop}
 use Rattle.laws.specs.Lists.{All}
-use Rattle.model.specs.Syntax.{Variable}
 use Rattle.model.specs.Meaning.{State}
 use Rattle.search.specs.Search.{Node, Result, andThen, visit, layer}
 use Rattle.search.specs.Search as S
@@ -15,31 +14,21 @@ use Rattle.outline.specs.Outline.{modelOf}
 use Rattle.steps.specs.Held.{systemIn}
 use Rattle.steps.specs.Follow.{costsIn}
 use Rattle.beam.specs.Nodes.{nodeAt}
+use Rattle.beam.proofs.Moves.{width-positive}
 use Rattle.routes.specs.Routes.{pathBy, nodesFrom, currentOf}
-use Rattle.visits.specs.Work.{resultOf, roundIn, Within, Ready, Leaves}
+use Rattle.routes.proofs.Gathering.{slot-first, paths-kept, current-kept}
+use Rattle.visits.specs.Work.{resultOf, roundBegun, roundIn, Within, Ready, Leaves}
 use Rattle.visits.specs.declared.work.Round.{Round}
 use Rattle.visits.specs.declared.work.Ending.{Ending}
 use Rattle.visits.specs.declared.work.Next.the-variants as N
 use Rattle.visits.specs.declared.work.Visited.{Visited}
-use Rattle.visits.proofs.Visiting.{paths-same, slot-same, room}
-
--- ---- the nodes of the current layer, by their slots' words
-
-nodes-same : (vs : List Variable) (path : ℕ → List ℕ) (words words′ : List ℕ) (w n j : ℕ) → j + n ≤ w → ((i : ℕ) → i < w → wordsIn words′ i ≡ wordsIn words i) → nodesFrom vs path words′ n j ≡ nodesFrom vs path words n j
-unfolding nodesFrom
-nodes-same vs path words words′ w zero j h e = refl
-nodes-same vs path words words′ w (suc n) j h e = rw (e j (omega arith)) (ap (λ (l : List (Node State ℕ)). nodeAt vs path j (wordsIn words j) ∷ l) (nodes-same vs path words words′ w n (suc j) (omega arith) e))
-
-pub current-same : (bytes words words′ : List ℕ) (w k n : ℕ) → n ≤ w → 46 * w ≤ length words → 46 * w ≤ length words′ → take (20 * w) words′ ≡ take (20 * w) words → drop (46 * w) words′ ≡ drop (46 * w) words
-    → currentOf bytes words′ w k n ≡ currentOf bytes words w k n
-current-same bytes words words′ w k n h l l′ e f =
-    rw (paths-same words words′ w k f) (nodes-same (modelOf bytes .variables) (pathBy words w k) words words′ w n 0 (omega arith) (λ i b. slot-same words words′ w i b l l′ e))
 
 -- ---- i nodes are taken
 
 pub record Halfway (bytes outline words plan words′ plan′ : List ℕ) (w budget limit k n i : ℕ) (x x′ : Round) : Type 0 where
   pub ready : Ready bytes outline words′ plan′ w limit k n x′
   pub within : i ≤ n
+  pub round-same : roundBegun (x′ .progress) ≡ roundBegun (x .progress)
   pub room-same : length words′ ≡ length words
   pub plan-same : length plan′ ≡ length plan
   pub current : take (20 * w) words′ ≡ take (20 * w) words
@@ -50,7 +39,7 @@ pub record Halfway (bytes outline words plan words′ plan′ : List ℕ) (w bud
 pub halfway-first : (bytes outline words plan : List ℕ) (w budget limit k n : ℕ) (x : Round) → Ready bytes outline words plan w limit k n x → Halfway bytes outline words plan words plan w budget limit k n 0 x x
 halfway-first bytes outline words plan w budget limit k n x r =
     let z : n - 0 ≡ n = omega arith in
-    record { ready = r; within = omega arith; room-same = refl; plan-same = refl; current = refl; rows = refl; same = rw z }
+    record { ready = r; within = omega arith; round-same = refl; room-same = refl; plan-same = refl; current = refl; rows = refl; same = rw z }
 
 module _ {bytes outline words plan words′ plan′ : List ℕ} {w budget limit k n i : ℕ} {x x′ : Round} (h : Halfway bytes outline words plan words′ plan′ w budget limit k n i x x′) where
   abbrev rest : (m j : ℕ) → S.Round State ℕ → Result (S.Round State ℕ) ℕ
@@ -61,6 +50,7 @@ module _ {bytes outline words plan words′ plan′ : List ℕ} {w budget limit 
       record {
         held = h .ready .held;
         best-fits = h .ready .best-fits;
+        round-same = h .round-same;
         inside = tt {0};
         current = h .current;
         rows = h .rows;
@@ -80,16 +70,16 @@ module _ {bytes outline words plan words′ plan′ : List ℕ} {w budget limit 
       abbrev next-node : Node State ℕ
       next-node = nodeAt (modelOf bytes .variables) (pathBy words w k) i (wordsIn words i)
 
-      room₀ : 46 * w ≤ length words
-      room₀ = omega (arith, room words′ (h .ready .held), h .room-same)
+      some-width : 0 < w
+      some-width = width-positive (h .ready .held)
 
       slots : wordsIn words′ i ≡ wordsIn words i
-      slots = slot-same words words′ w i (omega (arith, h .ready .few-nodes)) room₀ (room words′ (h .ready .held)) (h .current)
+      slots = slot-first words words′ (20 * w) i (h .current) (omega (arith, h .ready .few-nodes))
 
       visited : visit (costsIn bytes) (systemIn bytes) budget w (limit - k) (systemIn bytes .status (next-node .state)) next-node (roundIn bytes words′ plan′ w k x′) ≡ resultOf (pathBy words w k) (y .next) (roundIn bytes words″ plan″ w k (y .round))
       visited =
           subst (λ (p : ℕ → List ℕ). visit (costsIn bytes) (systemIn bytes) budget w (limit - k) (systemIn bytes .status (nodeAt (modelOf bytes .variables) p i (wordsIn words i) .state)) (nodeAt (modelOf bytes .variables) p i (wordsIn words i)) (roundIn bytes words′ plan′ w k x′) ≡ resultOf p (y .next) (roundIn bytes words″ plan″ w k (y .round)))
-          (paths-same words words′ w k (h .rows))
+          (paths-kept words words′ w some-width (h .current) (h .rows) k)
           (subst (λ (s : List ℕ). visit (costsIn bytes) (systemIn bytes) budget w (limit - k) (systemIn bytes .status (nodeAt (modelOf bytes .variables) (pathBy words′ w k) i s .state)) (nodeAt (modelOf bytes .variables) (pathBy words′ w k) i s) (roundIn bytes words′ plan′ w k x′) ≡ resultOf (pathBy words′ w k) (y .next) (roundIn bytes words″ plan″ w k (y .round)))
           slots (l .same))
 
@@ -113,7 +103,7 @@ module _ {bytes outline words plan words′ plan′ : List ℕ} {w budget limit 
             plan-room = omega (arith, h .ready .plan-room, plan-long);
             best-fits = l .best-fits;
             few-nodes = h .ready .few-nodes;
-            costs = subst (All (Within k)) (sym (current-same bytes words′ words″ w k n (h .ready .few-nodes) (room words′ (h .ready .held)) (room words″ (l .held)) (l .current) (l .rows))) (h .ready .costs);
+            costs = subst (All (Within k)) (sym (current-kept words′ words″ w some-width (l .current) (l .rows) bytes k n (h .ready .few-nodes))) (h .ready .costs);
           }
 
       pub halfway-more : y .next ≡ N.On → Halfway bytes outline words plan words″ plan″ w budget limit k n (i + 1) x (y .round)
@@ -123,6 +113,7 @@ module _ {bytes outline words plan words′ plan′ : List ℕ} {w budget limit 
           record {
             ready = ready″;
             within = omega arith;
+            round-same = l .round-same ∙ h .round-same;
             room-same = words-long ∙ h .room-same;
             plan-same = plan-long ∙ h .plan-same;
             current = l .current ∙ h .current;
@@ -136,6 +127,7 @@ module _ {bytes outline words plan words′ plan′ : List ℕ} {w budget limit 
           record {
             held = l .held;
             best-fits = l .best-fits;
+            round-same = l .round-same ∙ h .round-same;
             inside = rw e at (l .inside);
             current = l .current ∙ h .current;
             rows = l .rows ∙ h .rows;

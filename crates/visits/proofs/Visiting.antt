@@ -1,15 +1,15 @@
 -- One node of a layer: the parts of a visit on the records that stand for the definition's, and what they leave of the working words.
-use Prim.Native.Nat.{ℕ, zero, suc, _+_, _*_, _-_, _%_, _≤_, _<_, _^_}
-use mathlib.Core.Path.{_≡_, refl, sym, ap, _∙_, subst, fun-ext}
+use Prim.Native.Nat.{ℕ, zero, suc, _+_, _*_, _-_, _≤_, _<_, _^_}
+use mathlib.Core.Path.{_≡_, refl, sym, ap, _∙_, subst}
 use mathlib.Core.Bool.{Bool, true, false, cond, _||_}
-use mathlib.Core.List.{List, _∷_, _++_, reverse, reverse-reverse}
+use mathlib.Core.List.{List, _++_, reverse, reverse-reverse}
 use mathlib.Core.Option.{none, some}
 use native.Mathlib.Decide.{decLt}
 use native.Mathlib.Omega.{arith}
 use native.Mathlib.Numerals.{add-one}
 use borrow.Author.Tests.{lt-ltb, le-ltb, le-leb, lt-leb}
-use lib.ListN.{length, take, drop, getD, length-reverse, length-drop, length-take, take-append-drop}
-use lib.Seq.{length-take-le, take-at, take-all, getD-drop, take-append-le, drop-append-le}
+use lib.ListN.{length, take, drop, getD, length-reverse, length-drop, length-take}
+use lib.Seq.{length-take-le, take-at}
 use Rattle.laws.specs.Lists.{All}
 use Rattle.model.specs.Numbers.{rangeEnd}
 use Rattle.model.specs.System.{System, Status, base, unfinished, noStatus}
@@ -25,15 +25,18 @@ use Rattle.steps.specs.Answers.{statusAnswer}
 use Rattle.steps.specs.Held.{systemIn, stateIn}
 use Rattle.steps.specs.Follow.{costsIn}
 use Rattle.beam.specs.Nodes.{nodeAt}
-use Rattle.beam.specs.Held.{part, nodesOf, Held, roundWith}
+use Rattle.beam.specs.Held.{nodesOf, Held, roundWith}
 use Rattle.beam.proofs.Mapped.{not-at-most}
-use Rattle.beam.proofs.Whole.{put, put-length, put-in, put-first, put-behind}
+use Rattle.beam.proofs.Whole.{put, put-in}
 use Rattle.beam.proofs.Moves.{width-positive}
 use Rattle.expansion.specs.Expansion.{BestIs, belowCost, trialResult, Grows}
-use Rattle.routes.specs.Routes.{backIn, pathBy, nextOf, nodesFrom}
-use Rattle.visits.specs.Work.{bestOf, progressOf, roundOf, endingOf, resultOf, verdictOf, roundIn, Within, Ready, Inside, Leaves}
+use Rattle.routes.specs.Routes.{pathBy, nextOf, nodesFrom}
+use Rattle.tally.specs.Tally.{oneMore}
+use Rattle.routes.proofs.Gathering.{paths-kept, making-first, making-last}
+use Rattle.visits.specs.Work.{bestOf, progressOf, roundOf, roundBegun, endingOf, resultOf, verdictOf, roundIn, Within, Ready, Inside, Leaves}
 use Rattle.visits.specs.Visits.{NewBest, Reached, Limited, Counted, Told, Met, Keeps}
 use Rattle.expansion.specs.declared.trials.Trial.the-variants as T
+use Rattle.tally.specs.declared.Tally.{Tally}
 use Rattle.expansion.specs.declared.trials.Expanded.{Expanded}
 use Rattle.visits.specs.declared.work.Verdict.the-variants as W
 use Rattle.visits.specs.declared.work.Best.{Best}
@@ -65,31 +68,31 @@ best-is plan b = best-by (b .found) (b .cost) (reverse (take (b .length) plan))
 
 -- the round with a plan of k steps and cost g for its best
 abbrev pub better : (k g : ℕ) → Round → Round
-better k g x = record { count = x .count; marks = x .marks; improved = true; progress = record { best = record { found = true; cost = g; length = k }; low = x .progress .low; expansions = x .progress .expansions } }
+better k g x = record { count = x .count; marks = x .marks; improved = true; progress = record { best = record { found = true; cost = g; length = k }; low = x .progress .low; tally = x .progress .tally } }
 
 module _ (k g : ℕ) (x : Round) where
   pub best-cheapest : g ≤ x .progress .low → x .progress .low ≤ g → NewBest k g x (record { round = better k g x; next = N.Over (E.Decided W.Cheapest) })
   unfolding newBest improvedBy routeTo roundOf progressOf bestOf resultOf endingOf verdictOf costsOf
-  best-cheapest a b = record { count = refl; steps = refl; inside = λ w limit j. tt {0}; same = λ rule M kept plan plan′ path n e p. rw (e, p, le-leb g (x .progress .low) a, le-leb (x .progress .low) g b) }
+  best-cheapest a b = record { count = refl; steps = refl; round-same = refl; inside = λ w limit j. tt {0}; same = λ rule M kept plan plan′ path n e p. rw (e, p, le-leb g (x .progress .low) a, le-leb (x .progress .low) g b) }
 
   pub best-contradicted : g ≤ x .progress .low → g < x .progress .low → NewBest k g x (record { round = better k g x; next = N.Over (E.Decided W.Contradicted) })
   unfolding newBest improvedBy routeTo roundOf progressOf bestOf resultOf endingOf verdictOf costsOf
-  best-contradicted a b = record { count = refl; steps = refl; inside = λ w limit j. tt {0}; same = λ rule M kept plan plan′ path n e p. rw (e, p, le-leb g (x .progress .low) a, lt-leb (x .progress .low) g b) }
+  best-contradicted a b = record { count = refl; steps = refl; round-same = refl; inside = λ w limit j. tt {0}; same = λ rule M kept plan plan′ path n e p. rw (e, p, le-leb g (x .progress .low) a, lt-leb (x .progress .low) g b) }
 
   pub best-on : x .progress .low < g → NewBest k g x (record { round = better k g x; next = N.On })
   unfolding newBest improvedBy routeTo roundOf progressOf bestOf resultOf costsOf
-  best-on a = record { count = refl; steps = refl; inside = λ w limit j. tt {0}; same = λ rule M kept plan plan′ path n e p. rw (e, p, lt-leb g (x .progress .low) a) }
+  best-on a = record { count = refl; steps = refl; round-same = refl; inside = λ w limit j. tt {0}; same = λ rule M kept plan plan′ path n e p. rw (e, p, lt-leb g (x .progress .low) a) }
 
 -- ---- rule 3: at the limit, counting, and the answer of an expansion
 
 pub limited : (f : ℕ) (x : Round) (t : Bool) → t ≡ (x .marks .length || belowCost (x .progress .best .found) (x .progress .best .cost) f)
     → Limited f x (record { count = x .count; marks = record { width = x .marks .width; length = t }; improved = x .improved; progress = x .progress })
 unfolding atLimit roundOf progressOf
-limited f x t e = record { count = refl; steps = refl; same = λ rule M kept plan n q. rw (e, q, below-best-is rule M plan (x .progress .best) f) }
+limited f x t e = record { count = refl; steps = refl; round-same = refl; same = λ rule M kept plan n q. rw (e, q, below-best-is rule M plan (x .progress .best) f) }
 
-pub counted-one : (x : Round) → Counted x (record { count = x .count; marks = x .marks; improved = x .improved; progress = record { best = x .progress .best; low = x .progress .low; expansions = x .progress .expansions + 1 } })
+pub counted-one : (x : Round) (t : Tally) → t ≡ oneMore (x .progress .tally) → Counted x (record { count = x .count; marks = x .marks; improved = x .improved; progress = record { best = x .progress .best; low = x .progress .low; tally = t } })
 unfolding counted roundOf progressOf
-counted-one x = record { best = refl; same = λ rule M kept plan. rw (add-one (x .progress .expansions)) }
+counted-one x t e = rw e (record { best = refl; round-same = refl; same = λ rule M kept plan. rw (add-one (x .progress .tally .expansions)) })
 
 module _ (g i : ℕ) (z : Expanded) (x : Round) (t : Bool) (m : t ≡ (x .marks .width || z .cut)) where
   abbrev after : Round
@@ -97,15 +100,15 @@ module _ (g i : ℕ) (z : Expanded) (x : Round) (t : Bool) (m : t ≡ (x .marks 
 
   pub told-on : z .trial ≡ T.On → Told g i z x (record { round = after; next = N.On })
   unfolding trialResult roundWith roundOf resultOf
-  told-on e = record { count = refl; steps = refl; inside = λ w limit k s d h. tt {0}; same = λ before kept plan path n p q. rw (e, m) }
+  told-on e = record { count = refl; steps = refl; round-same = refl; inside = λ w limit k s d h. tt {0}; same = λ before kept plan path n p q. rw (e, m) }
 
   pub told-before : {r : ℕ} → z .trial ≡ T.Before r → Told g i z x (record { round = after; next = N.Over (E.At r g i) })
   unfolding trialResult roundWith roundOf resultOf endingOf
-  told-before e = record { count = refl; steps = refl; inside = λ w limit k s d h. (s, omega arith); same = λ before kept plan path n p q. rw (e, p, q) }
+  told-before e = record { count = refl; steps = refl; round-same = refl; inside = λ w limit k s d h. (s, omega arith); same = λ before kept plan path n p q. rw (e, p, q) }
 
   pub told-at : {r c u : ℕ} → z .trial ≡ T.At r c u → Told g i z x (record { round = after; next = N.Over (E.Beyond r c i u) })
   unfolding trialResult roundWith roundOf resultOf endingOf
-  told-at e = record { count = refl; steps = refl; inside = λ w limit k s d h. (s, rw e at h, d); same = λ before kept plan path n p q. rw (e, q) }
+  told-at e = record { count = refl; steps = refl; round-same = refl; inside = λ w limit k s d h. (s, rw e at h, d); same = λ before kept plan path n p q. rw (e, q) }
 
 -- ---- rule 2: a base state
 
@@ -119,6 +122,7 @@ module _ (words plan : List ℕ) (w k i g : ℕ) (x : Round) where
       record {
         count = h .count;
         steps = λ limit a o. omega (arith, h .steps);
+        round-same = h .round-same;
         inside = h .inside;
         same = λ rule M kept n p q.
             rw (test rule M n p b)
@@ -131,53 +135,16 @@ module _ (words plan : List ℕ) (w k i g : ℕ) (x : Round) where
       record {
         count = refl;
         steps = λ limit a o. o;
+        round-same = refl;
         inside = λ v limit j. tt {0};
         same = λ rule M kept n p q. rw (test rule M n p b);
       }
 
--- ---- the working words: the current layer and the back pointers stay
-
-back-same : (words words′ : List ℕ) (w y : ℕ) → drop (46 * w) words′ ≡ drop (46 * w) words → getD words′ (64 * w + y) 0 ≡ getD words (64 * w + y) 0
-back-same words words′ w y e =
-    let z : 64 * w + y ≡ 46 * w + (18 * w + y) = omega arith in
-    rw z (sym (getD-drop (46 * w) words′ (18 * w + y) 0) ∙ ap (λ (l : List ℕ). getD l (18 * w + y) 0) e ∙ getD-drop (46 * w) words (18 * w + y) 0)
-
-back-in-same : (words words′ : List ℕ) (w k i : ℕ) → drop (46 * w) words′ ≡ drop (46 * w) words → backIn words′ w k i ≡ backIn words w k i
-unfolding backIn
-back-in-same words words′ w k i e = back-same words words′ w _ e
-
-path-same : (words words′ : List ℕ) (w k i : ℕ) → drop (46 * w) words′ ≡ drop (46 * w) words → pathBy words′ w k i ≡ pathBy words w k i
-unfolding pathBy
-path-same words words′ w zero i e = refl
-path-same words words′ w (suc k) i e = rw (back-in-same words words′ w (suc k) i e) (ap (λ (l : List ℕ). (backIn words w (suc k) i % 256) ∷ l) (path-same words words′ w k _ e))
-
-pub paths-same : (words words′ : List ℕ) (w k : ℕ) → drop (46 * w) words′ ≡ drop (46 * w) words → pathBy words′ w k ≡ pathBy words w k
-paths-same words words′ w k e = fun-ext (λ i. path-same words words′ w k i e)
-
-pub slot-same : (words words′ : List ℕ) (w i : ℕ) → i < w → 46 * w ≤ length words → 46 * w ≤ length words′ → take (20 * w) words′ ≡ take (20 * w) words → wordsIn words′ i ≡ wordsIn words i
-slot-same words words′ w i h l l′ e = in-front words′ l′ ∙ ap (λ (s : List ℕ). wordsIn s i) e ∙ sym (in-front words l)
-  where
-    in-front : (s : List ℕ) → 46 * w ≤ length s → wordsIn s i ≡ wordsIn (take (20 * w) s) i
-    in-front s long =
-        unfold wordsIn in
-        let n : length (take (20 * w) s) ≡ 20 * w = length-take-le (20 * w) s (omega arith) in
-        ap (λ (r : List ℕ). take slotWords (drop (i * slotWords) r)) (sym (take-append-drop (20 * w) s))
-        ∙ ap (take slotWords) (drop-append-le (i * slotWords) (take (20 * w) s) (drop (20 * w) s) (omega arith))
-        ∙ take-append-le slotWords (drop (i * slotWords) (take (20 * w) s)) (drop (20 * w) s) (omega (arith, length-drop (i * slotWords) (take (20 * w) s)))
+-- ---- the working words
 
 -- a held layer in the making has its room
 pub room : {outline : List ℕ} {w n : ℕ} (words : List ℕ) → Held outline w n (nextOf w words) → 46 * w ≤ length words
 room {outline} {w} {n} words h = omega (arith, h .long, width-positive h, length-take (46 * w - 20 * w) (drop (20 * w) words), length-drop (20 * w) words)
-
--- words behind a part that was lent
-pub rows-stay : (w : ℕ) (words ys : List ℕ) → 46 * w ≤ length words → length ys ≡ length (nextOf w words) → drop (46 * w) (put (20 * w) (46 * w) words ys) ≡ drop (46 * w) words
-rows-stay w words ys long l =
-    let le : 20 * w ≤ 46 * w = omega arith in
-    let n : length (put (20 * w) (46 * w) words ys) ≡ length words = put-length (20 * w) (46 * w) words ys le long l in
-    let c : (46 * w + length words) - 46 * w ≡ length words = omega arith in
-    sym (take-all (length words) (drop (46 * w) (put (20 * w) (46 * w) words ys)) (omega (arith, length-drop (46 * w) (put (20 * w) (46 * w) words ys))))
-    ∙ (rw c at (put-behind (20 * w) (46 * w) words ys le long l (46 * w) (46 * w + length words) (omega arith)))
-    ∙ take-all (length words) (drop (46 * w) words) (omega (arith, length-drop (46 * w) words))
 
 -- ---- a status by its answer
 
@@ -206,11 +173,11 @@ module _ (bytes outline words node : List ℕ) (w limit k i : ℕ) (x : Round) (
   here = nodeAt (modelOf bytes .variables) (pathBy words w k) i node
 
   -- the words stay, and so many nodes are in the making
-  stays : (plan plan′ : List ℕ) (y : Visited) (rule : S.Round State ℕ → Result (S.Round State ℕ) ℕ) → y .round .count ≡ x .count → y .round .progress .best .length ≤ limit → Inside w limit k (y .next)
+  stays : (plan plan′ : List ℕ) (y : Visited) (rule : S.Round State ℕ → Result (S.Round State ℕ) ℕ) → y .round .count ≡ x .count → y .round .progress .best .length ≤ limit → roundBegun (y .round .progress) ≡ roundBegun (x .progress) → Inside w limit k (y .next)
       → rule (roundIn bytes words plan w k x) ≡ resultOf (pathBy words w k) (y .next) (roundOf (nodesOf w (nextOf w words) (modelOf bytes .variables) (pathBy words w k) (x .count)) plan′ (y .round))
       → Leaves bytes outline words words plan plan′ w limit k x y rule
   unfolding roundOf
-  stays plan plan′ y rule n b s e = record { held = rw n (m .held); best-fits = b; inside = s; current = refl; rows = refl; same = rw n e }
+  stays plan plan′ y rule n b o s e = record { held = rw n (m .held); best-fits = b; round-same = o; inside = s; current = refl; rows = refl; same = rw n e }
 
   -- rule 3: at the limit
   pub limit-leaves : (budget : ℕ) (x′ : Round) → k ≡ limit → Limited (getD node fAt 0) x x′ → Keeps bytes outline words words w limit k x (record { round = x′; next = N.On }) (advance (costsIn bytes) (systemIn bytes) budget w (limit - k) here)
@@ -218,28 +185,28 @@ module _ (bytes outline words node : List ℕ) (w limit k i : ℕ) (x : Round) (
   limit-leaves budget x′ a h =
       let z : limit - k ≡ 0 = omega arith in
       record {
-        leaves = λ plan. stays plan plan (record { round = x′; next = N.On }) (advance (costsIn bytes) (systemIn bytes) budget w (limit - k) here) (h .count) (omega (arith, h .steps, m .best-fits)) (tt {0})
+        leaves = λ plan. stays plan plan (record { round = x′; next = N.On }) (advance (costsIn bytes) (systemIn bytes) budget w (limit - k) here) (h .count) (omega (arith, h .steps, m .best-fits)) (h .round-same) (tt {0})
             (rw z (ap on (h .same (modelOf bytes .rule) (systemIn bytes) (nodesOf w (nextOf w words) (modelOf bytes .variables) (pathBy words w k) (x .count)) plan here refl)));
       }
 
   -- rule 3: the budget is used up
-  pub spent-leaves : (budget : ℕ) → k < limit → budget ≤ x .progress .expansions → Keeps bytes outline words words w limit k x (record { round = x; next = N.Over (E.Decided W.BudgetSpent) }) (advance (costsIn bytes) (systemIn bytes) budget w (limit - k) here)
+  pub spent-leaves : (budget : ℕ) → k < limit → budget ≤ x .progress .tally .expansions → Keeps bytes outline words words w limit k x (record { round = x; next = N.Over (E.Decided W.BudgetSpent) }) (advance (costsIn bytes) (systemIn bytes) budget w (limit - k) here)
   unfolding advance resultOf endingOf verdictOf roundOf progressOf
   spent-leaves budget a b =
       let z : limit - k ≡ suc (limit - k - 1) = omega arith in
       record {
-        leaves = λ plan. stays plan plan (record { round = x; next = N.Over (E.Decided W.BudgetSpent) }) (advance (costsIn bytes) (systemIn bytes) budget w (limit - k) here) refl (m .best-fits) (tt {0})
-            (rw (z, le-ltb (x .progress .expansions) budget b));
+        leaves = λ plan. stays plan plan (record { round = x; next = N.Over (E.Decided W.BudgetSpent) }) (advance (costsIn bytes) (systemIn bytes) budget w (limit - k) here) refl (m .best-fits) refl (tt {0})
+            (rw (z, le-ltb (x .progress .tally .expansions) budget b));
       }
 
   -- rule 3: one that is expanded
-  pub expanded-leaves : (budget : ℕ) (words′ : List ℕ) (y : Visited) → k < limit → x .progress .expansions < budget
+  pub expanded-leaves : (budget : ℕ) (words′ : List ℕ) (y : Visited) → k < limit → x .progress .tally .expansions < budget
       → Keeps bytes outline words words′ w limit k x y (λ q. expand (costsIn bytes) (systemIn bytes) w (systemIn bytes .transitions) 0 here (counted (costsIn bytes) (systemIn bytes) q))
       → Keeps bytes outline words words′ w limit k x y (advance (costsIn bytes) (systemIn bytes) budget w (limit - k) here)
   unfolding advance roundOf progressOf
   expanded-leaves budget words′ y a b h =
       let z : limit - k ≡ suc (limit - k - 1) = omega arith in
-      record { leaves = λ plan. let l = h .leaves plan in record { held = l .held; best-fits = l .best-fits; inside = l .inside; current = l .current; rows = l .rows; same = rw (z, lt-ltb (x .progress .expansions) budget b) (l .same) } }
+      record { leaves = λ plan. let l = h .leaves plan in record { held = l .held; best-fits = l .best-fits; round-same = l .round-same; inside = l .inside; current = l .current; rows = l .rows; same = rw (z, lt-ltb (x .progress .tally .expansions) budget b) (l .same) } }
 
   -- rule 4: what an expansion leaves
   module _ (ys : List ℕ) (less : k < limit) (l : length ys ≡ length (nextOf w words)) (z : Expanded)
@@ -261,8 +228,11 @@ module _ (bytes outline words node : List ℕ) (w limit k i : ℕ) (x : Round) (
       inside-it : nextOf w words′ ≡ ys
       inside-it = put-in (20 * w) (46 * w) words ys (omega arith) (room words (m .held)) l
 
+      current′ : take (20 * w) words′ ≡ take (20 * w) words
+      current′ = making-first words ys w (room words (m .held)) l
+
       rows′ : drop (46 * w) words′ ≡ drop (46 * w) words
-      rows′ = rows-stay w words ys (room words (m .held)) l
+      rows′ = making-last words ys w (room words (m .held)) l
 
       grown : (plan : List ℕ) → expand (costsIn bytes) (systemIn bytes) w (systemIn bytes .transitions) 0 here (counted (costsIn bytes) (systemIn bytes) (roundOf kept plan x)) ≡ resultOf path (y .next) (roundOf kept′ plan (y .round))
       unfolding counted roundOf progressOf nodeAt
@@ -279,10 +249,11 @@ module _ (bytes outline words node : List ℕ) (w limit k i : ℕ) (x : Round) (
                 record {
                   held = rw (told .count, inside-it) (grows .held);
                   best-fits = omega (arith, told .steps, ap (λ (b : Best). b .length) (one .best), m .best-fits);
+                  round-same = told .round-same ∙ one .round-same;
                   inside = told .inside w limit k (m .slot) less (grows .numbered);
-                  current = put-first (20 * w) (46 * w) words ys (omega arith) (room words (m .held)) l (20 * w) (omega arith);
+                  current = current′;
                   rows = rows′;
-                  same = rw (told .count, inside-it, paths-same words words′ w k rows′) (grown plan);
+                  same = rw (told .count, inside-it, paths-kept words words′ w (width-positive (m .held)) current′ rows′ k) (grown plan);
                 };
           }
 
@@ -294,7 +265,7 @@ module _ (bytes outline words node : List ℕ) (w limit k i : ℕ) (x : Round) (
   pub base-leaves : (budget : ℕ) (plan plan′ : List ℕ) (y : Visited) → A.Base ≡ statusAnswer (systemIn bytes .status (stateIn bytes (take 16 node))) → Reached words plan plan′ w k i (getD node gAt 0) x y → Leaves bytes outline words words plan plan′ w limit k x y (rest budget)
   unfolding visit nodeAt
   base-leaves budget plan plan′ y e h =
-      stays plan plan′ y (rest budget) (h .count) (h .steps limit (m .depth) (m .best-fits)) (h .inside w limit k)
+      stays plan plan′ y (rest budget) (h .count) (h .steps limit (m .depth) (m .best-fits)) (h .round-same) (h .inside w limit k)
       (rw (is-base _ (sym e)) (h .same (modelOf bytes .rule) (systemIn bytes) (nodesOf w (nextOf w words) (modelOf bytes .variables) (pathBy words w k) (x .count)) here refl refl))
 
   pub advance-leaves : (budget : ℕ) (words′ plan : List ℕ) (y : Visited) → A.Unfinished ≡ statusAnswer (systemIn bytes .status (stateIn bytes (take 16 node)))
@@ -302,11 +273,11 @@ module _ (bytes outline words node : List ℕ) (w limit k i : ℕ) (x : Round) (
   unfolding visit nodeAt
   advance-leaves budget words′ plan y e h =
       let l = h .leaves plan in
-      record { held = l .held; best-fits = l .best-fits; inside = l .inside; current = l .current; rows = l .rows; same = rw (is-unfinished _ (sym e)) (l .same) }
+      record { held = l .held; best-fits = l .best-fits; round-same = l .round-same; inside = l .inside; current = l .current; rows = l .rows; same = rw (is-unfinished _ (sym e)) (l .same) }
 
   pub trouble-leaves : (budget : ℕ) (plan : List ℕ) {t : ℕ} → A.Trouble t ≡ statusAnswer (systemIn bytes .status (stateIn bytes (take 16 node))) → Leaves bytes outline words words plan plan w limit k x (record { round = x; next = N.Over (E.At t (getD node gAt 0) i) }) (rest budget)
   unfolding visit refuse routeTo nodeAt resultOf endingOf roundOf
-  trouble-leaves budget plan {t} e = stays plan plan (record { round = x; next = N.Over (E.At t (getD node gAt 0) i) }) (rest budget) refl (m .best-fits) (m .slot, m .depth) (rw (no-status _ (sym e)))
+  trouble-leaves budget plan {t} e = stays plan plan (record { round = x; next = N.Over (E.At t (getD node gAt 0) i) }) (rest budget) refl (m .best-fits) refl (m .slot, m .depth) (rw (no-status _ (sym e)))
 
 -- ---- a path that was written
 

@@ -15,7 +15,7 @@ use Rattle.steps.specs.Held.{Outlined}
 use Rattle.beam.specs.Held.{Held, roundWith}
 use Rattle.expansion.specs.Expansion.{trialResult, Numbered}
 use Rattle.routes.specs.Routes.{pathBy, nextOf}
-use Rattle.visits.specs.Work.{roundOf, resultOf, Inside, Leaves}
+use Rattle.visits.specs.Work.{roundOf, roundBegun, resultOf, Inside, Leaves}
 use Rattle.expansion.specs.declared.trials.Expanded.{Expanded}
 use Rattle.visits.specs.declared.work.Round.{Round}
 use Rattle.visits.specs.declared.work.Visited.{Visited}
@@ -24,6 +24,7 @@ use Rattle.visits.specs.declared.work.Visited.{Visited}
 pub record NewBest (k g : ℕ) (x : Round) (y : Visited) : Type 0 where
   pub count : y .round .count ≡ x .count
   pub steps : y .round .progress .best .length ≡ k
+  pub round-same : roundBegun (y .round .progress) ≡ roundBegun (x .progress)
   pub inside : (w limit j : ℕ) → Inside w limit j (y .next)
   pub same : (rule : Rule) (M : System State ℕ) (kept : List (Node State ℕ)) (plan plan′ : List ℕ) (path : ℕ → List ℕ) (n : Node State ℕ) → n .g ≡ g → n .path ≡ reverse (take k plan′)
       → newBest (costsOf rule) M n (roundOf kept plan x) ≡ resultOf path (y .next) (roundOf kept plan′ (y .round))
@@ -32,6 +33,7 @@ pub record NewBest (k g : ℕ) (x : Round) (y : Visited) : Type 0 where
 pub record Reached (words plan plan′ : List ℕ) (w k i g : ℕ) (x : Round) (y : Visited) : Type 0 where
   pub count : y .round .count ≡ x .count
   pub steps : (limit : ℕ) → k ≤ limit → x .progress .best .length ≤ limit → y .round .progress .best .length ≤ limit
+  pub round-same : roundBegun (y .round .progress) ≡ roundBegun (x .progress)
   pub inside : (v limit j : ℕ) → Inside v limit j (y .next)
   pub same : (rule : Rule) (M : System State ℕ) (kept : List (Node State ℕ)) (n : Node State ℕ) → n .g ≡ g → n .path ≡ pathBy words w k i
       → reached (costsOf rule) M n (roundOf kept plan x) ≡ resultOf (pathBy words w k) (y .next) (roundOf kept plan′ (y .round))
@@ -40,17 +42,20 @@ pub record Reached (words plan plan′ : List ℕ) (w k i g : ℕ) (x : Round) (
 pub record Limited (f : ℕ) (x y : Round) : Type 0 where
   pub count : y .count ≡ x .count
   pub steps : y .progress .best .length ≡ x .progress .best .length
+  pub round-same : roundBegun (y .progress) ≡ roundBegun (x .progress)
   pub same : (rule : Rule) (M : System State ℕ) (kept : List (Node State ℕ)) (plan : List ℕ) (n : Node State ℕ) → n .f ≡ f → atLimit (costsOf rule) M n (roundOf kept plan x) ≡ roundOf kept plan y
 
 -- an expansion counts
 pub record Counted (x y : Round) : Type 0 where
   pub best : y .progress .best ≡ x .progress .best
+  pub round-same : roundBegun (y .progress) ≡ roundBegun (x .progress)
   pub same : (rule : Rule) (M : System State ℕ) (kept : List (Node State ℕ)) (plan : List ℕ) → counted (costsOf rule) M (roundOf kept plan x) ≡ roundOf kept plan y
 
 -- an expansion of the node in slot i, with its g, has answered z. kept: the nodes of the layer in the making then
 pub record Told (g i : ℕ) (z : Expanded) (x : Round) (y : Visited) : Type 0 where
   pub count : y .round .count ≡ z .count
   pub steps : y .round .progress .best .length ≡ x .progress .best .length
+  pub round-same : roundBegun (y .round .progress) ≡ roundBegun (x .progress)
   pub inside : (w limit k : ℕ) → i < w → k < limit → Numbered (z .trial) → Inside w limit k (y .next)
   pub same : (before kept : List (Node State ℕ)) (plan : List ℕ) (path : ℕ → List ℕ) (n : Node State ℕ) → n .g ≡ g → n .path ≡ path i
       → trialResult (z .trial) n (roundWith kept (z .cut) (roundOf before plan x)) ≡ resultOf path (y .next) (roundOf kept plan (y .round))

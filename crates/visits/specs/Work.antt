@@ -1,5 +1,5 @@
 -- The definition's records and results that the code's stand for.
-use Prim.Native.Nat.{ℕ, _+_, _*_, _≤_, _<_}
+use Prim.Native.Nat.{ℕ, _*_, _≤_, _<_}
 use mathlib.Core.Path.{_≡_}
 use mathlib.Core.Bool.{cond}
 use mathlib.Core.List.{List, _∷_, reverse}
@@ -39,7 +39,7 @@ unfoldable pub bestOf : (plan : List ℕ) → Best → Option (Route ℕ)
 bestOf plan b = cond (b .found) (some (record { cost = b .cost; path = reverse (take (b .length) plan) })) none
 
 unfoldable pub progressOf : (plan : List ℕ) → Progress → S.Progress ℕ
-progressOf plan p = record { best = bestOf plan (p .best); low = p .low; expansions = p .expansions }
+progressOf plan p = record { best = bestOf plan (p .best); low = p .low; expansions = p .tally .expansions }
 
 unfoldable pub roundOf : (kept : List (Node State ℕ)) (plan : List ℕ) → Round → S.Round State ℕ
 roundOf kept plan x = record { kept = kept; widthMark = x .marks .width; lengthMark = x .marks .length; improved = x .improved; progress = progressOf plan (x .progress) }
@@ -53,6 +53,10 @@ endingOf path (E.Beyond e c i t) = refused e (record { cost = c; path = t ∷ pa
 unfoldable pub resultOf : (path : ℕ → List ℕ) → Next → S.Round State ℕ → Result (S.Round State ℕ) ℕ
 resultOf path N.On r = on r
 resultOf path (N.Over e) r = over (record { ending = endingOf path e; progress = r .progress })
+
+-- the round that a run is in: its number and its width
+abbrev pub roundBegun : Progress → ℕ × ℕ
+roundBegun p = (p .tally .rounds, p .tally .width)
 
 -- the round that the working words and the code's record stand for, in layer k of a round of width w
 abbrev pub roundIn : (bytes words plan : List ℕ) (w k : ℕ) → Round → S.Round State ℕ
@@ -89,6 +93,7 @@ Inside w limit k (N.Over e) = EndsInside w limit k e
 pub record Leaves (bytes outline words words′ plan plan′ : List ℕ) (w limit k : ℕ) (x : Round) (y : Visited) (rule : S.Round State ℕ → Result (S.Round State ℕ) ℕ) : Type 0 where
   pub held : Held outline w (y .round .count) (nextOf w words′)
   pub best-fits : y .round .progress .best .length ≤ limit
+  pub round-same : roundBegun (y .round .progress) ≡ roundBegun (x .progress)
   pub inside : Inside w limit k (y .next)
   pub current : take (20 * w) words′ ≡ take (20 * w) words
   pub rows : drop (46 * w) words′ ≡ drop (46 * w) words

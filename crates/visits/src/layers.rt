@@ -1,6 +1,5 @@
 // A layer: its nodes in order.
 
-ghost use mathlib.Core.Path.{_≡_};
 ghost use Prim.Native.Nat.{_-_};
 ghost use Rattle.search.specs.Search as definition;
 ghost use Rattle.steps.specs.Held.{systemIn};

@@ -1,7 +1,5 @@
 // One node of a layer: a base state, a state at the limit, or one to expand.
 
-ghost use mathlib.Core.Path.{_≡_};
-ghost use mathlib.Core.Bool.{_||_};
 ghost use Prim.Native.Nat.{_+_, _-_, _≤_, _<_, _^_};
 ghost use lib.ListN.{length};
 ghost use Rattle.search.specs.Search as definition;
@@ -31,6 +29,7 @@ use routes::current::copy_node;
 use routes::trace::trace;
 use steps::answers::StatusAnswer;
 use steps::conditions::status;
+use tally::counted;
 
 const G_AT: usize = 16;
 
@@ -40,6 +39,7 @@ fn new_best(k: usize, g: u64, round: Round) -> Visited
 {
     let low = round.progress.low;
     let marks = round.marks;
+    let tally = round.progress.tally;
     let improved = Round {
         count: round.count,
         marks: marks,
@@ -51,7 +51,7 @@ fn new_best(k: usize, g: u64, round: Round) -> Visited
                 length: k,
             },
             low: low,
-            expansions: round.progress.expansions,
+            tally: tally,
         },
     };
     if g <= low {
@@ -118,11 +118,13 @@ fn at_limit(f: u64, round: Round) -> Round
 
 // The round with one expansion more.
 fn count_one(round: Round) -> Round
-    requires { ⌜ round .progress .expansions + 1 < 2 ^ 64 ⌝ }
+    requires { ⌜ round .progress .tally .expansions + 1 < 2 ^ 64 ⌝ }
     ensures { λ r. ⌜ Counted round r ⌝ }
 {
     let best = round.progress.best;
     let marks = round.marks;
+    let tally = round.progress.tally;
+    let more = counted(tally);
     Round {
         count: round.count,
         marks: marks,
@@ -130,7 +132,7 @@ fn count_one(round: Round) -> Round
         progress: Progress {
             best: best,
             low: round.progress.low,
-            expansions: round.progress.expansions + 1,
+            tally: more,
         },
     }
 }
@@ -179,7 +181,7 @@ fn expand_node(
     node: &[u64],
     round: Round,
 ) -> Visited
-    requires { ⌜ Met (now model) (now outline) (now words) (now node) w limit k i round × ((k < limit) × (round .progress .expansions + 1 < 2 ^ 64)) ⌝ }
+    requires { ⌜ Met (now model) (now outline) (now words) (now node) w limit k i round × ((k < limit) × (round .progress .tally .expansions + 1 < 2 ^ 64)) ⌝ }
     ensures { λ r. ⌜ Keeps (now (model .entry)) (now (outline .entry)) (now (words .entry)) (now (words .exit)) w limit k round r (λ q. definition.expand (costsIn (now (model .entry))) (systemIn (now (model .entry))) w (systemIn (now (model .entry)) .transitions) 0 (nodeAt (modelOf (now (model .entry)) .variables) (pathBy (now (words .entry)) w k) i (now (node .entry))) (definition.counted (costsIn (now (model .entry))) (systemIn (now (model .entry))) q)) ⌝ }
 {
     let n = round.count;
@@ -215,7 +217,7 @@ fn advance(
             next: Next::On,
         };
     }
-    if round.progress.expansions < budget {
+    if round.progress.tally.expansions < budget {
         return expand_node(words, model, outline, w, limit, k, i, node, round);
     }
     Visited {

@@ -1,7 +1,7 @@
 //! The names that a text gives to variables, objects, tables and transitions, looked up by index.
 
-use crate::reference::syntax::Kind;
-use crate::reference::Value;
+use crate::reference::syntax::{Kind, Variable};
+use crate::reference::{Model, Value};
 
 /// The objects that belong together, in the order of their numbers.
 #[derive(Clone, PartialEq, Eq, Debug)]
@@ -45,6 +45,25 @@ fn name_or(names: &[Option<String>], index: usize, what: &str) -> String {
 }
 
 impl Names {
+    /// No names at all: everything in the model is called by its kind and its number.
+    pub fn by_number(model: &Model) -> Names {
+        let variables = model.variables.iter().map(|variable| VariableName {
+            kind: match variable {
+                Variable::Set { .. } => Kind::Set,
+                Variable::Element { .. } => Kind::Element,
+                Variable::Number { .. } => Kind::Number,
+            },
+            name: None,
+            group: None,
+        });
+        Names {
+            groups: Vec::new(),
+            variables: variables.collect(),
+            tables: vec![None; model.tables.len()],
+            transitions: vec![None; model.transitions.len()],
+        }
+    }
+
     /// The variable's name, or such as `set 0`.
     pub fn variable(&self, index: usize) -> String {
         match self.variables.get(index) {

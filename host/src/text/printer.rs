@@ -1,8 +1,9 @@
 //! Model bytes to text without names: every thing is called by its number.
 
+use super::names::Names;
 use super::spelling::{braces, Spelling};
 use crate::reference::refusal::TOO_LONG;
-use crate::reference::{limit, read_model};
+use crate::reference::{limit, read_model, Model};
 use std::fmt::Write;
 
 /// The text of a model that the reader accepts, which assembles to the same bytes; or the refusal number.
@@ -11,9 +12,9 @@ pub fn disassemble(bytes: &[u8]) -> Result<String, u8> {
         return Err(TOO_LONG);
     }
     let model = read_model(bytes)?;
-    let lists = model.tables.iter().map(|table| table.columns == 1);
+    let names = Names::by_number(&model);
     let mut printer = Printer {
-        bytes: Spelling::new(bytes, lists.collect()),
+        bytes: Spelling::new(bytes, &names, lists(&model)),
         text: String::new(),
         variables: 0,
         tables: 0,
@@ -21,6 +22,12 @@ pub fn disassemble(bytes: &[u8]) -> Result<String, u8> {
     };
     while printer.command() {}
     Ok(printer.text)
+}
+
+/// Which tables have one column.
+pub fn lists(model: &Model) -> Vec<bool> {
+    let lists = model.tables.iter().map(|table| table.columns == 1);
+    lists.collect()
 }
 
 struct Printer<'a> {

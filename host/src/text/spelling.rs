@@ -1,5 +1,7 @@
 //! The bytes of a well-made model, walked from the front; and its expressions as text.
 
+use super::names::Names;
+
 /// How tightly an expression's outermost sign binds, as in the grammar.
 mod level {
     pub const CHOICE: u8 = 0;
@@ -54,13 +56,16 @@ pub fn braces(members: u64) -> String {
 
 pub struct Spelling<'a> {
     rest: &'a [u8],
+    names: &'a Names,
     /// Which tables have one column.
     lists: Vec<bool>,
 }
 
 impl<'a> Spelling<'a> {
-    pub fn new(bytes: &'a [u8], lists: Vec<bool>) -> Spelling<'a> {
-        Spelling { rest: bytes, lists }
+    /// Variables and tables are called by these names, objects by their numbers.
+    pub fn new(bytes: &'a [u8], names: &'a Names, lists: Vec<bool>) -> Spelling<'a> {
+        let rest = bytes;
+        Spelling { rest, names, lists }
     }
 
     // Operands.
@@ -97,7 +102,7 @@ impl<'a> Spelling<'a> {
     fn spelled(&mut self) -> Spelled {
         match self.byte() {
             0x20 => atom(self.number().to_string()),
-            0x21 => atom(format!("number {}", self.byte())),
+            0x21 => self.variable(),
             0x22 => self.infix("+", level::SUM),
             0x23 => self.infix("-", level::SUM),
             0x24 => self.infix("*", level::PRODUCT),
@@ -112,12 +117,12 @@ impl<'a> Spelling<'a> {
             }
             0x2B => self.choice(),
             0x30 => atom(self.byte().to_string()),
-            0x31 => atom(format!("element {}", self.byte())),
+            0x31 => self.variable(),
             0x40 => {
                 let count = self.byte();
                 atom(format!("{} of {count}", braces(self.members())))
             }
-            0x41 => atom(format!("set {}", self.byte())),
+            0x41 => self.variable(),
             0x42 => self.with_element("+"),
             0x43 => self.with_element("-"),
             0x44 => self.two_sets("|", level::UNION),
@@ -145,6 +150,11 @@ impl<'a> Spelling<'a> {
         }
     }
 
+    fn variable(&mut self) -> Spelled {
+        let variable = self.byte();
+        atom(self.names.variable(usize::from(variable)))
+    }
+
     /// Two parts joined by a sign; what binds alike is grouped from the left, and comparisons not at all.
     fn infix(&mut self, sign: &str, level: u8) -> Spelled {
         let looser = u8::from(level == level::COMPARISON);
@@ -167,14 +177,15 @@ impl<'a> Spelling<'a> {
 
     /// A table with its indices; the only column of a list is not written.
     fn entry(&mut self) -> String {
-        let table = self.byte();
+        let table = usize::from(self.byte());
+        let name = self.names.table(table);
         let row = self.expression();
-        if self.lists[usize::from(table)] && self.rest.starts_with(&[0x30, 0]) {
+        if self.lists[table] && self.rest.starts_with(&[0x30, 0]) {
             self.operand::<2>();
-            return format!("table {table}[{row}]");
+            return format!("{name}[{row}]");
         }
         let column = self.expression();
-        format!("table {table}[{row}, {column}]")
+        format!("{name}[{row}, {column}]")
     }
 
     fn choice(&mut self) -> Spelled {

@@ -1,3 +1,4 @@
+-- `cases::number` meets its contract, and no index or sum leaves its range.
 use Prim.Native.Nat.{_-_, _≤_}
 use lib.ListN.{length}
 use borrow.Author.Needs.{needs}

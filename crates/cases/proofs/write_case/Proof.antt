@@ -1,3 +1,4 @@
+-- `cases::write_case` meets its contract, and no index or sum leaves its range.
 use mathlib.Core.Path.{sym}
 use lib.Seq.{length-take-le}
 use borrow.Author.Needs.{needs}

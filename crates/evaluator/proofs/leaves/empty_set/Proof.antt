@@ -4,12 +4,12 @@ use Rattle.evaluator.specs.Runs.{emptySet}
 use Rattle.evaluator.proofs.leaves.empty_set.Statement.{statement}
 use Rattle.evaluator.proofs.leaves.empty_set.Tie as tie
 
-set-requires : tie.Need-set-requires
-set-requires c κs = search needs
+set-near-requires : tie.Need-set-near-requires
+set-near-requires c κs = search needs
 
 returns : tie.Need-returns
 unfolding emptySet
-returns c = rw (c .before .set .ensures .0)
+returns c = rw (c .before .set-near .ensures)
 
 pub empty-set-spec : {M : Type 1} → statement M
-empty-set-spec = tie.close (tie.spec set-requires returns)
+empty-set-spec = tie.close (tie.spec set-near-requires returns)

@@ -1,18 +1,39 @@
 -- `evaluator::leaves::member_of` meets its contract.
+use Prim.Native.Nat.{_+_}
+use native.Mathlib.Omega.{arith}
 use borrow.Author.Needs.{needs}
-use Rattle.evaluator.specs.Runs.{memberOf}
+use Rattle.evaluator.specs.Runs.{memberOf, elementThenSet}
+use Rattle.evaluator.proofs.Within.{element-past, set-past}
+use Rattle.evaluator.proofs.Slices.{behind}
 use Rattle.evaluator.proofs.leaves.member_of.Statement.{statement}
 use Rattle.evaluator.proofs.leaves.member_of.Tie as tie
 
-element-then-set-requires : tie.Need-element-then-set-requires
-element-then-set-requires c κs = search needs
+after-requires : tie.Need-after-requires
+after-requires c κs = search needs
+
+element-requires : tie.Need-element-requires
+element-requires c κs = search needs
+
+add-set-near : tie.Need-add-set-near
+add-set-near c =
+    let a = c .before .before .before .before .before .before .args in
+    omega (arith, element-past (a .state .now) (a .at) (a .e .now) (c .before .before .after .result .now) (c .before .element .result) (c .before .before .after .ensures) (c .before .element .ensures .0), c .before .before .before .before .before .before .good .0 .1)
+
+set-near-requires : tie.Need-set-near-requires
+set-near-requires c κs = search needs
 
 is-member-requires : tie.Need-is-member-requires
 is-member-requires c κs = search needs
 
+add-t9 : tie.Need-add-t9
+add-t9 c =
+    let a = c .before .before .before .before .before .before .before .before .before .before .args in
+    omega (arith, element-past (a .state .now) (a .at) (a .e .now) (c .before .before .before .before .before .before .after .result .now) (c .before .before .before .before .before .element .result) (c .before .before .before .before .before .before .after .ensures) (c .before .before .before .before .before .element .ensures .0), set-past (a .depth) (a .state .now) (a .full .now) (a .at + c .before .before .before .before .before .element .result .used) (a .e .now) (c .before .before .before .set-near .result) (c .before .before .before .set-near .ensures), c .before .before .before .before .before .before .before .before .before .before .good .0 .1)
+
 returns : tie.Need-returns
-unfolding memberOf
-returns c = rw (c .is-member .ensures, c .before .element-then-set .ensures)
+unfolding memberOf elementThenSet
+returns c =
+    let a = c .before .before .before .before .before .before .before .before .before .before .args in rw (c .before .before .is-member .ensures, c .before .before .before .set-near .ensures, behind (a .at) (c .before .before .before .before .before .element .result .used) (a .e .now), c .before .before .before .before .before .element .ensures .0, c .before .before .before .before .before .before .after .ensures)
 
 pub member-of-spec : {M : Type 1} → statement M
-member-of-spec = tie.close (tie.spec element-then-set-requires is-member-requires returns)
+member-of-spec = tie.close (tie.spec after-requires element-requires add-set-near set-near-requires is-member-requires add-t9 returns)

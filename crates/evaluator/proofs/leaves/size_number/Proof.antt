@@ -7,8 +7,8 @@ use Rattle.evaluator.specs.Runs.{sizeNumber}
 use Rattle.evaluator.proofs.leaves.size_number.Statement.{statement}
 use Rattle.evaluator.proofs.leaves.size_number.Tie as tie
 
-set-requires : tie.Need-set-requires
-set-requires c κs = search needs
+set-near-requires : tie.Need-set-near-requires
+set-near-requires c κs = search needs
 
 count-requires : tie.Need-count-requires
 count-requires c κs = search needs
@@ -22,8 +22,8 @@ ranged-requires c κs = search needs
 returns : tie.Need-returns
 unfolding sizeNumber
 returns c = let q = toZ-pos w64 {n = c .before .count .result} (omega (arith, c .before .count .ensures .1)) in
-    rw (← (c .before .before .set .ensures .0)) (rw (q, c .before .count .ensures .0) at (c .ranged .ensures))
+    rw (← (c .before .before .set-near .ensures)) (rw (q, c .before .count .ensures .0) at (c .ranged .ensures))
 
 pub size-number-spec : {M : Type 1} → statement M
 size-number-spec =
-    tie.close (tie.spec set-requires count-requires cast-ranged ranged-requires returns)
+    tie.close (tie.spec set-near-requires count-requires cast-ranged ranged-requires returns)

@@ -1,13 +1,20 @@
 -- `evaluator::sets::set_then_element` meets its contract.
+use Prim.Native.Nat.{_+_}
 use native.Mathlib.Omega.{arith}
 use borrow.Author.Needs.{needs}
 use Rattle.evaluator.specs.Runs.{setThenElement}
-use Rattle.evaluator.proofs.Within.{element-used, set-within}
+use Rattle.evaluator.proofs.Within.{element-used, set-past}
+use Rattle.evaluator.proofs.Slices.{behind}
 use Rattle.evaluator.proofs.sets.set_then_element.Statement.{statement}
 use Rattle.evaluator.proofs.sets.set_then_element.Tie as tie
 
-set-requires : tie.Need-set-requires
-set-requires c κs = search needs
+set-from-requires : tie.Need-set-from-requires
+set-from-requires c κs = search needs
+
+add-after : tie.Need-add-after
+add-after c =
+    let a = c .before .before .before .before .before .args in
+    omega (arith, set-past (a .depth) (a .state .now) (a .full .now) (a .at) (a .e .now) (c .before .set-from .result) (c .before .set-from .ensures), c .before .before .before .before .before .good .0 .1)
 
 after-requires : tie.Need-after-requires
 after-requires c κs = search needs
@@ -15,18 +22,15 @@ after-requires c κs = search needs
 element-requires : tie.Need-element-requires
 element-requires c κs = search needs
 
-add-t8 : tie.Need-add-t8
-add-t8 c = omega (
-  arith,
-  rw (← (c .before .before .before .before .set .ensures .0)) at (set-within (c .before .before .before .before .before .before .before .before .args .depth) (c .before .before .before .before .before .before .before .before .args .state .now) (c .before .before .before .before .before .before .before .before .args .full .now) (c .before .before .before .before .before .before .before .before .args .e .now)),
-  rw (← (c .before .before .element .ensures .0)) at (element-used (c .before .before .before .before .before .before .before .before .args .state .now) (c .before .before .before .after .result .now)),
-  c .before .before .before .before .before .before .before .before .good .0 .1,
-)
+add-t9 : tie.Need-add-t9
+add-t9 c =
+    let a = c .before .before .before .before .before .before .before .before .before .args in
+    omega (arith, set-past (a .depth) (a .state .now) (a .full .now) (a .at) (a .e .now) (c .before .before .before .before .before .set-from .result) (c .before .before .before .before .before .set-from .ensures), rw (← (c .before .before .element .ensures .0)) at (element-used (a .state .now) (c .before .before .before .after .result .now)), c .before .before .before .before .before .before .before .before .before .good .0 .1)
 
 returns : tie.Need-returns
 unfolding setThenElement
-returns c = rw (c .before .before .element .ensures .0, c .before .before .before .after .ensures, c .before .before .before .before .set .ensures .0)
+returns c =
+    let a = c .before .before .before .before .before .before .before .before .before .args in rw (c .before .before .element .ensures .0, c .before .before .before .after .ensures, behind (a .at) (c .before .before .before .before .before .set-from .result .used) (a .e .now), c .before .before .before .before .before .set-from .ensures)
 
 pub set-then-element-spec : {M : Type 1} → statement M
-set-then-element-spec =
-    tie.close (tie.spec set-requires after-requires element-requires add-t8 returns)
+set-then-element-spec = tie.close (tie.spec set-from-requires add-after after-requires element-requires add-t9 returns)

@@ -22,7 +22,7 @@ part-remaining-start c = search needs
 
 part-remaining-end : tie.Need-part-remaining-end
 part-remaining-end c =
-    let start = c .before .before .before .before in
+    let start = c .before .before .before .before .before in
     omega (arith, words-long _ _ (start .pre .0 .long) (start .pre .1 .0))
 
 remaining-requires : tie.Need-remaining-requires
@@ -39,14 +39,14 @@ part-raised-start c = search needs
 
 part-raised-end : tie.Need-part-raised-end
 part-raised-end c =
-    let start = c .before .before .before .before .before .before in
+    let start = c .before .before .before .before .before .before .before in
     omega (arith, words-long _ _ (start .pre .0 .long) (start .pre .1 .0))
 
 raised-requires : tie.Need-raised-requires
 raised-requires c κs = search needs
 
 returns : tie.Need-returns
-returns c = layer-ends _ _ (c .before .before .before .before .before .before .before .before .args .round) _ _ (c .before .before .remaining .ensures) (c .raised .ensures)
+returns c = layer-ends _ _ (c .before .before .before .before .before .before .before .before .before .args .round) _ _ (c .before .before .remaining .ensures) (c .raised .ensures)
 
 pub layer-end-spec : {M : Type 1} → statement M
 layer-end-spec =

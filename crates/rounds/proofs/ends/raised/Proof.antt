@@ -1,6 +1,5 @@
 -- `rounds::ends::raised` meets its contract.
 use Rattle.rounds.proofs.Ending.{raises-marked, raises-none, raises-first, raises-not, first-below}
-use Rattle.beam.proofs.Moves.{place-below}
 use native.Mathlib.Omega.{arith}
 use borrow.Author.Needs.{needs}
 use Rattle.rounds.proofs.ends.raised.Statement.{statement}

@@ -1,5 +1,4 @@
 -- `rounds::judges::nothing_left` meets its contract.
-use mathlib.Core.Path.{refl}
 use Rattle.rounds.specs.Widths.{nothingLeft}
 use Rattle.rounds.proofs.judges.nothing_left.Statement.{statement}
 use Rattle.rounds.proofs.judges.nothing_left.Tie as tie

@@ -1,35 +1,38 @@
 -- `rounds::runs::rounds` meets its contract. The invariant: the rounds that are left give the run's answer.
-use borrow.Author.Needs.{needs}
+use Rattle.rounds.proofs.Widening.{Widening, widening-first, room, number-same, widening-more, widening-over, widening-spent}
 use native.Mathlib.Omega.{arith}
-use Rattle.rounds.proofs.Widening.{Widening, widening-first, room, widening-more, widening-over, widening-spent}
+use borrow.Author.Needs.{needs}
 use Rattle.rounds.proofs.runs.rounds.Statement.{statement}
 use Rattle.rounds.proofs.runs.rounds.Tie as tie
 
 abbrev Inv-loop : tie.InvT-loop
-Inv-loop words₀ plan₀ model outline widest budget limit h progress₀ width₀ k₀ most₀ words plan progress width k most =
-    Widening model words₀ words plan₀ plan widest budget limit h progress width k most
+Inv-loop words₀ plan₀ model outline widest budget limit h progress₀ most₀ words plan progress most =
+    Widening model words₀ words plan₀ plan widest budget limit h progress most
 
 abbrev μ-loop : tie.MeasureT-loop
-μ-loop words₀ plan₀ model outline widest budget limit h progress₀ width₀ k₀ most₀ words plan progress width k most =
+μ-loop words₀ plan₀ model outline widest budget limit h progress₀ most₀ words plan progress most =
     most
+
+begin-requires : tie.Need-begin-requires Inv-loop μ-loop
+begin-requires c κs = omega arith
 
 add-most : tie.Need-add-most Inv-loop μ-loop
 add-most c = search needs
 
 loop-holds : tie.Need-loop-holds Inv-loop μ-loop
-loop-holds c = widening-first (c .before .before .before .before .pre .1 .0) (c .before .before .before .before .pre .1 .1 .0)
+loop-holds c = widening-first (c .before .before .before .before .before .pre .1 .0) (c .before .before .before .before .before .pre .1 .1 .0) (c .begin .ensures)
 
 judged-round-requires : tie.Need-judged-round-requires Inv-loop μ-loop
-judged-round-requires c κs = (c .before .before .before .before .before .before .before .before .pre .0, (room (c .before .before .before .loop .inv) (c .before .before .before .before .before .before .before .before .pre .1 .0), c .before .before .before .loop .inv .best-fits))
+judged-round-requires c κs = (c .before .before .before .before .before .before .before .before .before .pre .0, (room (c .before .before .before .loop .inv) (c .before .before .before .before .before .before .before .before .before .pre .1 .0), c .before .before .before .loop .inv .best-fits))
 
 enum-told : tie.Need-enum-told Inv-loop μ-loop
 enum-told c = search needs
 
 next-width-requires : tie.Need-next-width-requires Inv-loop μ-loop
-next-width-requires c κs = omega (arith, c .before .before .before .before .before .before .before .before .before .before .before .loop .inv .narrow, c .before .before .before .before .before .before .before .before .before .before .before .before .before .before .before .before .pre .1 .0 .narrow)
+next-width-requires c κs = omega (arith, c .before .before .before .before .before .before .before .before .before .before .before .loop .inv .narrow, c .before .before .before .before .before .before .before .before .before .before .before .before .before .before .before .before .before .pre .1 .0 .narrow)
 
-add-k : tie.Need-add-k Inv-loop μ-loop
-add-k c = record { fits = omega (arith, c .before .before .before .before .before .before .before .before .before .before .before .before .loop .inv .counted, c .before .before .before .before .before .before .before .before .before .before .before .before .before .before .before .before .before .pre .1 .1 .1) }
+begin-requires-2 : tie.Need-begin-requires-2 Inv-loop μ-loop
+begin-requires-2 c κs = omega (arith, number-same (c .before .before .before .before .before .before .before .before .before .before .before .before .loop .inv) (c .before .before .before .before .before .before .before .before .judged-round .ensures), c .before .before .before .before .before .before .before .before .before .before .before .before .loop .inv .counted, c .before .before .before .before .before .before .before .before .before .before .before .loop-test .taken, c .before .before .before .before .before .before .before .before .before .before .before .before .before .before .before .before .before .before .pre .1 .1 .1)
 
 sub-most : tie.Need-sub-most Inv-loop μ-loop
 sub-most c = search needs
@@ -38,7 +41,7 @@ loop-less : tie.Need-loop-less Inv-loop μ-loop
 loop-less c = search needs
 
 loop-again : tie.Need-loop-again Inv-loop μ-loop
-loop-again c = widening-more (c .before .before .before .before .before .before .before .before .before .before .before .before .loop .inv) (c .before .before .before .before .before .before .before .before .before .before .before .loop-test .taken) (c .before .before .before .before .before .before .before .before .judged-round .ensures) (c .before .enum-told .given .1) (c .next-width .ensures) (search needs) (search needs)
+loop-again c = widening-more (c .before .before .before .before .before .before .before .before .before .before .before .before .before .loop .inv) (c .before .before .before .before .before .before .before .before .before .before .before .before .loop-test .taken) (c .before .before .before .before .before .before .before .before .before .judged-round .ensures) (c .before .before .enum-told .given .1) (c .before .next-width .ensures) (c .begin2 .ensures) (search needs) (search needs)
 
 enum-known-next : tie.Need-enum-known-next Inv-loop μ-loop
 enum-known-next c = search needs
@@ -67,12 +70,13 @@ rounds-spec =
     (tie.spec
     Inv-loop
     μ-loop
+    begin-requires
     add-most
     loop-holds
     judged-round-requires
     enum-told
     next-width-requires
-    add-k
+    begin-requires-2
     sub-most
     loop-less
     loop-again

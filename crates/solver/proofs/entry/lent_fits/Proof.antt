@@ -1,6 +1,5 @@
 -- `solver::entry::lent_fits` meets its contract; the sum fits a word.
-use Prim.Native.Nat.{_≤_}
-use mathlib.Core.Path.{_≡_, sym}
+use mathlib.Core.Path.{sym}
 use native.Mathlib.Omega.{arith}
 use Rattle.solver.proofs.Entering.{words-bound, lent-short, lent-words}
 use borrow.Author.Needs.{needs}

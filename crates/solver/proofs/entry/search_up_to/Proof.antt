@@ -1,5 +1,5 @@
 -- `solver::entry::search_up_to` meets its contract: the tests in their order, then the search.
-use mathlib.Core.Path.{_≡_, refl, sym, _∙_}
+use mathlib.Core.Path.{_≡_, sym, _∙_}
 use mathlib.Core.Bool.{true}
 use native.Mathlib.Omega.{arith}
 use lib.ListN.{length}

@@ -1,5 +1,5 @@
 -- `solver::entry::settings_fit` meets its contract, test by test.
-use mathlib.Core.Path.{_≡_, refl, sym, _∙_}
+use mathlib.Core.Path.{sym, _∙_}
 use Rattle.solver.proofs.Entering.{fit-short, fit-long, fit-width}
 use borrow.Author.Needs.{needs}
 use Rattle.solver.proofs.entry.settings_fit.Statement.{statement}

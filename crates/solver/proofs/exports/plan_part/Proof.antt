@@ -1,5 +1,5 @@
 -- `solver::exports::plan_part` hands back the first part, or the empty one.
-use mathlib.Core.Path.{refl, sym}
+use mathlib.Core.Path.{sym}
 use borrow.Author.Tests.{le-leb, lt-leb}
 use lib.Seq.{length-take-le}
 use Rattle.search.specs.Answer.{handedBack}

@@ -1,6 +1,6 @@
+-- `timing::insertions::offer_children` meets its contract, and no index or sum leaves its range.
 use borrow.Author.Needs.{needs}
-use mathlib.Core.Path.{_≡_, refl, sym, _∙_}
-use native.Mathlib.Omega.{arith}
+use mathlib.Core.Path.{_≡_, refl, _∙_}
 use lib.ListN.{length}
 use Rattle.beam.specs.Held.{Held}
 use Rattle.timing.proofs.insertions.offer_children.Statement.{statement}

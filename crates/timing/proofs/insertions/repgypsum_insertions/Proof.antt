@@ -1,3 +1,4 @@
+-- `timing::insertions::repgypsum_insertions` meets its contract, and no index or sum leaves its range.
 use borrow.Author.Needs.{needs}
 use native.Mathlib.Omega.{arith}
 use Rattle.timing.proofs.insertions.repgypsum_insertions.Statement.{statement}

@@ -4,11 +4,11 @@ use Rattle.visits.proofs.Visiting.{counted-one}
 use Rattle.visits.proofs.visits.count_one.Statement.{statement}
 use Rattle.visits.proofs.visits.count_one.Tie as tie
 
-add-t4 : tie.Need-add-t4
-add-t4 c = search needs
+counted-requires : tie.Need-counted-requires
+counted-requires c κs = search needs
 
 returns : tie.Need-returns
-returns c = counted-one (c .before .before .before .args .round)
+returns c = counted-one (c .before .before .before .before .args .round) _ (c .counted .ensures)
 
 pub count-one-spec : {M : Type 1} → statement M
-count-one-spec = tie.close (tie.spec add-t4 returns)
+count-one-spec = tie.close (tie.spec counted-requires returns)

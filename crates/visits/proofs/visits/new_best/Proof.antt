@@ -6,17 +6,17 @@ use Rattle.visits.proofs.visits.new_best.Tie as tie
 
 returns : tie.Need-returns
 returns c =
-    let start = c .before .before .before in
+    let start = c .before .before .before .before in
     best-cheapest (start .args .k) (start .args .g) (start .args .round) (omega (arith, c .before .if1 .taken)) (omega (arith, c .if2 .taken))
 
 returns-2 : tie.Need-returns-2
 returns-2 c =
-    let start = c .before .before .before in
+    let start = c .before .before .before .before in
     best-contradicted (start .args .k) (start .args .g) (start .args .round) (omega (arith, c .before .if1 .taken)) (omega (arith, c .if2 .left))
 
 returns-3 : tie.Need-returns-3
 returns-3 c =
-    let start = c .before .before in
+    let start = c .before .before .before in
     best-on (start .args .k) (start .args .g) (start .args .round) (omega (arith, c .if1 .left))
 
 pub new-best-spec : {M : Type 1} → statement M

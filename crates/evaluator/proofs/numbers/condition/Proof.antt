@@ -1,0 +1,17 @@
+-- `evaluator::numbers::condition` meets its contract.
+use borrow.Author.Needs.{needs}
+use Rattle.evaluator.specs.Runs.{place}
+use Rattle.evaluator.proofs.Promises.{condition-kept}
+use Rattle.evaluator.proofs.numbers.condition.Statement.{statement}
+use Rattle.evaluator.proofs.numbers.condition.Tie as tie
+
+condition-from-requires : tie.Need-condition-from-requires
+condition-from-requires c κs = search needs
+
+returns : tie.Need-returns
+returns c =
+    let a = c .before .before .before .before .before .before .args in
+    condition-kept (a .depth) (place (a .model .now) (a .state .now) (a .full .now) (a .tables .now)) (a .e .now) (c .condition-from .ensures)
+
+pub condition-spec : {M : Type 1} → statement M
+condition-spec = tie.close (tie.spec condition-from-requires returns)

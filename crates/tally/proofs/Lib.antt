@@ -1,0 +1,2 @@
+-- What the walks over a tally share.
+pub mod Steps

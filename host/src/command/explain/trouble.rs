@@ -1,0 +1,173 @@
+//! Refusals by the state: where the trouble was met, and in which expression.
+
+use super::walk::{follow, last_state};
+use super::{Known, Part};
+use crate::command::settings::Run;
+use crate::command::words::{counted, grouped, refusal_name};
+use crate::reference::refusal::NEGATIVE_COST;
+use crate::reference::syntax::{Condition, Expression, Transition};
+use crate::reference::{Model, State};
+
+/// The expression that has no value in the state, or a negative cost.
+#[derive(Clone, Copy, PartialEq, Eq, Debug)]
+enum Place {
+    Constraint(usize),
+    Bound(usize),
+    BaseCase(usize, usize),
+    Condition(usize, usize),
+    Cost(usize),
+    Effect(usize, usize),
+}
+
+/// A place and the refusal number of its trouble.
+type Trouble = (Place, u8);
+
+/// The search evaluates a state in this order: constraints (not of the target), bounds, base cases, transitions.
+fn first_trouble(model: &Model, state: &State, target: bool) -> Option<Trouble> {
+    let in_constraints = || {
+        let constraints = &model.constraints;
+        in_conditions(model, constraints, state, Place::Constraint)
+    };
+    let before = if target { None } else { in_constraints() };
+    let transitions = model.transitions.iter().enumerate();
+    before
+        .or_else(|| in_bounds(model, state))
+        .or_else(|| in_base_cases(model, state))
+        .or_else(|| {
+            transitions
+                .filter_map(|(number, transition)| in_step(model, number, transition, state))
+                .next()
+        })
+}
+
+/// The first trouble in conditions that are tried in order to the first that fails.
+fn in_conditions(
+    model: &Model,
+    conditions: &[Condition],
+    state: &State,
+    place: impl Fn(usize) -> Place,
+) -> Option<Trouble> {
+    for (number, condition) in conditions.iter().enumerate() {
+        match model.condition(condition, state) {
+            Ok(true) => {}
+            Ok(false) => return None,
+            Err(refusal) => return Some((place(number), refusal)),
+        }
+    }
+    None
+}
+
+fn in_bounds(model: &Model, state: &State) -> Option<Trouble> {
+    let bounds = model.bounds.iter().enumerate();
+    let mut troubles = bounds.filter_map(|(number, bound)| {
+        let refusal = model.number(bound, state).err()?;
+        Some((Place::Bound(number), refusal))
+    });
+    troubles.next()
+}
+
+fn in_base_cases(model: &Model, state: &State) -> Option<Trouble> {
+    for (case, conditions) in model.base_cases.iter().enumerate() {
+        let place = |number| Place::BaseCase(case, number);
+        if let Some(trouble) = in_conditions(model, conditions, state, place) {
+            return Some(trouble);
+        }
+        if model.all_hold(conditions, state) == Ok(true) {
+            return None;
+        }
+    }
+    None
+}
+
+/// Trouble in a transition's conditions, cost or effects.
+fn in_step(model: &Model, number: usize, step: &Transition, state: &State) -> Option<Trouble> {
+    let place = |condition| Place::Condition(number, condition);
+    if let Some(trouble) = in_conditions(model, &step.conditions, state, place) {
+        return Some(trouble);
+    }
+    if model.all_hold(&step.conditions, state) != Ok(true) {
+        return None;
+    }
+    if let Err(refusal) = model.step_cost(step, state) {
+        return Some((Place::Cost(number), refusal));
+    }
+    for (effect, value) in step.effects.iter().enumerate() {
+        if let Expression::Number(value) = &value.value {
+            if let Err(refusal) = model.number(value, state) {
+                return Some((Place::Effect(number, effect), refusal));
+            }
+        }
+    }
+    None
+}
+
+impl Known {
+    /// The place in words, with its expression.
+    fn place(&self, place: Place) -> String {
+        let listing = &self.listing;
+        match place {
+            Place::Constraint(number) => {
+                format!("constraint {number}, {}", listing.constraints[number])
+            }
+            Place::Bound(number) => format!("bound {number}, {}", listing.bounds[number]),
+            Place::BaseCase(case, number) => {
+                let condition = &listing.base_cases[case][number];
+                format!("condition {number} of base case {case}, {condition}")
+            }
+            Place::Condition(step, number) => {
+                let condition = &listing.transitions[step].conditions[number];
+                format!(
+                    "condition {number} of {}, {condition}",
+                    self.step_name(step)
+                )
+            }
+            Place::Cost(step) => {
+                let cost = &listing.transitions[step].cost;
+                format!("the cost of {}, {cost}", self.step_name(step))
+            }
+            Place::Effect(step, number) => {
+                let (variable, value) = &listing.transitions[step].effects[number];
+                let name = self.names.variable(*variable);
+                format!("the effect of {} on {name}, {value}", self.step_name(step))
+            }
+        }
+    }
+
+    fn step_name(&self, number: usize) -> String {
+        format!("transition {}", self.transition(number))
+    }
+}
+
+/// What was met, in which state and in which expression.
+pub fn part(known: &Known, run: &Run) -> Part {
+    let answer = &run.answer;
+    let mut part = Part::new("What was met");
+    part.say(format!(
+        "The search met a {} and ended there. It gives no plan, and says nothing about plans.",
+        refusal_name(answer.number)
+    ));
+    part.say(format!(
+        "The path to the state evaluated has {} and costs {}. The bound then stood at {}.",
+        counted(answer.length, "step"),
+        grouped(answer.cost),
+        grouped(answer.bound)
+    ));
+    let model = &known.model;
+    let Some(stages) = follow(model, &run.steps) else {
+        return part;
+    };
+    let state = last_state(model, &stages);
+    part.say(format!("The state: {}.", known.state(&state)));
+    match first_trouble(model, &state, run.steps.is_empty()) {
+        Some((place, number)) if number == answer.number => {
+            part.say(format!("Met in {}.", known.place(place)));
+            if let (Place::Cost(step), NEGATIVE_COST) = (place, number) {
+                let cost = model.number(&model.transitions[step].cost, &state);
+                part.say(format!("Its value there is {}.", cost.unwrap_or_default()));
+            }
+            part.say("This place is found by the independent implementation, which is tested and not proved.");
+        }
+        _ => part.say("The independent implementation meets no such trouble there. One of the two is wrong: please report it."),
+    }
+    part
+}

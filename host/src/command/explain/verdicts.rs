@@ -1,0 +1,210 @@
+//! What is proved of each verdict, and what a stopped or contradicted run leaves open.
+
+use super::walk::follow;
+use super::{Known, Part};
+use crate::command::input::Source;
+use crate::command::settings::{Run, Settings};
+use crate::command::words::{counted, grouped};
+use crate::proved;
+use crate::reference::{limit, verdict};
+
+/// The theorems of docs/AUDIT.md.
+const A_PLAN: &str = "a-plan-given-is-a-plan";
+const CHEAPEST: &str = "cheapest-costs-no-more";
+const NO_PLAN: &str = "no-plan-means-none";
+const STOPPED: &str = "stopped-bound-below-every-plan";
+const CONTRADICTED: &str = "contradicted-only-if-false";
+
+/// The sentence with a capital letter at its front.
+fn capital(sentence: &str) -> String {
+    let (first, rest) = sentence.split_at(1);
+    format!("{}{rest}", first.to_uppercase())
+}
+
+/// What the mark stands on, each sentence with its theorem.
+pub fn proved(known: &Known, run: &Run) -> Part {
+    let mut part = Part::new("What is proved");
+    let answer = &run.answer;
+    if answer.plan_flag {
+        let cost = grouped(answer.cost);
+        part.say(format!(
+            "The plan is a plan of the model, at cost {cost}, whatever the model declares [{A_PLAN}]."
+        ));
+    }
+    let bound = grouped(answer.bound);
+    let conditional = match answer.number {
+        verdict::CHEAPEST => {
+            format!("no plan of the model costs less, of whatever length [{CHEAPEST}]")
+        }
+        verdict::NO_PLAN => format!("the model has no plan, of whatever length [{NO_PLAN}]"),
+        verdict::CONTRADICTED => {
+            part.say(format!(
+                "Some declared bound or preference of the model is false [{CONTRADICTED}]."
+            ));
+            return part;
+        }
+        _ => format!("every plan of the model costs at least {bound} [{STOPPED}]"),
+    };
+    if known.declares() {
+        part.say(format!(
+            "If the model's declarations are true, {conditional}."
+        ));
+    } else {
+        part.say(format!("{}.", capital(&conditional)));
+        part.say(
+            "The model declares no bounds and no preferences, so that nothing here is conditional.",
+        );
+    }
+    part.say("The theorems in brackets are those of docs/AUDIT.md, which says what they rest on.");
+    part
+}
+
+/// The part that belongs to the verdict alone.
+pub fn more(known: &Known, settings: &Settings, run: &Run) -> Option<Part> {
+    match run.answer.number {
+        verdict::WIDTH_STOP | verdict::LENGTH_STOP | verdict::BUDGET_SPENT => {
+            Some(stopped(known, settings, run))
+        }
+        verdict::CONTRADICTED => Some(contradicted(known, run)),
+        _ => None,
+    }
+}
+
+/// The gap, and what would have to change.
+fn stopped(known: &Known, settings: &Settings, run: &Run) -> Part {
+    let answer = &run.answer;
+    let mut part = Part::new("What is open");
+    let supposing = if known.declares() {
+        ", if the declarations are true"
+    } else {
+        ""
+    };
+    let bound = grouped(answer.bound);
+    if answer.plan_flag {
+        let gap = grouped(answer.cost.saturating_sub(answer.bound));
+        part.say(format!(
+            "Cost {} and bound {bound} leave a gap of {gap}: the cheapest plan costs at most {gap} less{supposing}.",
+            grouped(answer.cost)
+        ));
+    } else {
+        part.say(format!(
+            "No plan was found. There may be one, at cost {bound} or more{supposing}."
+        ));
+    }
+    match answer.number {
+        verdict::WIDTH_STOP => width_stop(settings, &mut part),
+        verdict::LENGTH_STOP => length_stop(settings, &mut part),
+        _ => budget_spent(settings, &mut part),
+    }
+    part
+}
+
+fn width_stop(settings: &Settings, part: &mut Part) {
+    part.say(format!(
+        "A layer had more states than the widest beam keeps, and some were cut at width {}.",
+        grouped(settings.width.into())
+    ));
+    if u64::from(settings.width) < limit::WIDTH {
+        part.say(format!(
+            "To change: a wider beam, --width {} or more, up to {}.",
+            settings.width * 2,
+            limit::WIDTH
+        ));
+    } else {
+        part.say("The beam is the widest there is. Higher bounds, preferences or constraints would leave fewer states.");
+    }
+    part.say("Then the length limit may stop the run, which shows only when no state is cut.");
+}
+
+fn length_stop(settings: &Settings, part: &mut Part) {
+    part.say(format!(
+        "An unfinished state that may still lead to a better plan lay at the limit of {}.",
+        counted(settings.length.into(), "step")
+    ));
+    if u64::from(settings.length) < limit::LENGTH {
+        part.say(format!(
+            "To change: a longer limit, --length {} or more, up to {}.",
+            settings.length + 1,
+            limit::LENGTH
+        ));
+    } else {
+        part.say("The limit is the longest there is. A model with fewer and larger steps would end before it.");
+    }
+}
+
+fn budget_spent(settings: &Settings, part: &mut Part) {
+    part.say(format!(
+        "The budget of {} was used up.",
+        counted(settings.budget.into(), "expansion")
+    ));
+    if settings.budget < u32::MAX {
+        part.say(format!(
+            "To change: a larger budget, --budget {} or more, up to {}.",
+            settings.budget + 1,
+            u32::MAX
+        ));
+    } else {
+        part.say("The budget is the largest there is. Higher bounds, preferences or constraints would leave fewer states.");
+    }
+}
+
+/// The plan against the bound, and a bound that the plan itself shows to be false.
+fn contradicted(known: &Known, run: &Run) -> Part {
+    let answer = &run.answer;
+    let mut part = Part::new("What is contradicted");
+    part.say(format!(
+        "By the declarations every plan costs at least {}; the plan given costs {}.",
+        grouped(answer.bound),
+        grouped(answer.cost)
+    ));
+    match false_bound(known, &run.steps) {
+        Some(sentence) => part.say(sentence),
+        None => part.say("Along this plan no bound is above the cost of the steps that follow: what is false shows elsewhere."),
+    }
+    part.say("Until the declarations are put right, this model's marks say no more than that a plan given is a plan.");
+    part
+}
+
+/// The first state of the plan where a bound is above the cost of the rest of the plan.
+fn false_bound(known: &Known, steps: &[u8]) -> Option<String> {
+    let model = &known.model;
+    let stages = follow(model, steps)?;
+    for done in 0..=stages.len() {
+        let rest = &stages[done..];
+        let to_go = rest
+            .iter()
+            .fold(0, |cost, stage| model.join(cost, stage.cost));
+        let state = match done {
+            0 => model.target(),
+            _ => stages[done - 1].state.clone(),
+        };
+        for (number, bound) in model.bounds.iter().enumerate() {
+            let value = model.number(bound, &state).ok()?;
+            if value > to_go {
+                return Some(format!(
+                    "After {} of it bound {number}, {}, is {value}, and the rest of the plan costs {to_go}.",
+                    counted(done as u64, "step"),
+                    known.listing.bounds[number],
+                ));
+            }
+        }
+    }
+    None
+}
+
+/// The proved plan check on the plan given.
+pub fn checked_again(source: &Source, run: &Run) -> Part {
+    let mut part = Part::new("The plan check");
+    let (answer, cost) = proved::plan_check(&source.model, &run.steps);
+    let steps = counted(run.steps.len() as u64, "step");
+    part.say(format!(
+        "The proved plan check, run on these {steps}: answer {answer}, cost {}.",
+        grouped(cost)
+    ));
+    if (answer, cost) == (0, run.answer.cost) {
+        part.say("The plan passes, at the cost that the search states.");
+    } else {
+        part.say("This disagrees with the search: please report it.");
+    }
+    part
+}

@@ -1,0 +1,66 @@
+//! Words for document 01's numbers, and numbers and lists as a reader likes them.
+
+use crate::reference::{refusal, verdict};
+
+/// A verdict's name.
+pub fn verdict_name(number: u8) -> &'static str {
+    match number {
+        verdict::CHEAPEST => "cheapest",
+        verdict::NO_PLAN => "no plan",
+        verdict::WIDTH_STOP => "width stop",
+        verdict::LENGTH_STOP => "length stop",
+        verdict::BUDGET_SPENT => "budget spent",
+        verdict::CONTRADICTED => "contradicted",
+        _ => "unknown",
+    }
+}
+
+/// A refusal's name.
+pub fn refusal_name(number: u8) -> &'static str {
+    match number {
+        refusal::TOO_LONG => "model too long",
+        refusal::SETTING => "setting out of range",
+        refusal::LENT => "too little lent",
+        refusal::CUT => "bytes end early",
+        refusal::NOT_DUE => "a byte that begins nothing due here",
+        refusal::MISFIT => "wrong kind, undeclared name or counts that do not fit",
+        refusal::LIMIT => "outside its limits",
+        refusal::TOO_DEEP => "nested too deep",
+        refusal::AFTER_END => "bytes after the end command",
+        refusal::OUT_OF_RANGE => "number out of range",
+        refusal::BY_ZERO => "quotient by zero",
+        refusal::NEGATIVE_COST => "negative cost",
+        refusal::NOT_A_PLAN => "not a plan",
+        _ => "unknown",
+    }
+}
+
+/// Whether the refusal was met in a state, so that a path leads to it.
+pub fn by_state(number: u8) -> bool {
+    (refusal::OUT_OF_RANGE..=refusal::NEGATIVE_COST).contains(&number)
+}
+
+/// A number with commas between its thousands.
+pub fn grouped(number: u64) -> String {
+    let digits = number.to_string();
+    let mut text = String::new();
+    for (place, digit) in digits.chars().enumerate() {
+        if place > 0 && (digits.len() - place).is_multiple_of(3) {
+            text.push(',');
+        }
+        text.push(digit);
+    }
+    text
+}
+
+/// Such as `1 step` and `1,000 steps`.
+pub fn counted(number: u64, what: &str) -> String {
+    let ending = if number == 1 { "" } else { "s" };
+    format!("{} {what}{ending}", grouped(number))
+}
+
+/// The bytes in decimal, with a blank between two.
+pub fn spaced(bytes: &[u8]) -> String {
+    let numbers: Vec<String> = bytes.iter().map(u8::to_string).collect();
+    numbers.join(" ")
+}
