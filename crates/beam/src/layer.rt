@@ -22,6 +22,13 @@ use order::F_AT;
 use order::H_AT;
 use order::SLOT_WORDS;
 
+// Where the order and the links begin behind the slots, and where a layer ends, for each place of the width.
+pub const ORDER_AT: usize = 20;
+
+const LINKS_AT: usize = 21;
+
+pub const LAYER_END: usize = 26;
+
 // How many nodes a layer has after an insertion, and whether one was cut.
 pub struct Inserted {
     pub count: usize,
@@ -33,9 +40,9 @@ pub fn empty(layer: &mut [u64], w: usize)
     requires { ⌜ (0 < w) × ((w ≤ 2 ^ 30) × (26 * w ≤ length (now layer))) ⌝ }
     ensures { λ _. ⌜ Emptied w (now (layer .exit)) ⌝ }
 {
-    let a = 20 * w;
-    let b = 21 * w;
-    let e = 26 * w;
+    let a = ORDER_AT * w;
+    let b = LINKS_AT * w;
+    let e = LAYER_END * w;
     order::fill(&mut layer[a..b]);
     links::clear(&mut layer[b..e]);
 }
@@ -45,9 +52,9 @@ fn remove_place(layer: &mut [u64], outline: &[u64], w: usize, n: usize, k: usize
     requires { ⌜ Held (now outline) w n (now layer) × ((p < n) × ((k < 4 * w) × (bucketIn (now outline) (slotsOf w (now layer)) (4 * w) (getD (orderOf w (now layer)) p 0) ≡ k))) ⌝ }
     ensures { λ _. ⌜ (slotsOf w (now (layer .exit)) ≡ slotsOf w (now (layer .entry))) × Removed (now (outline .entry)) w (4 * w) n p (slotsOf w (now (layer .entry))) (orderOf w (now (layer .entry))) (orderOf w (now (layer .exit))) (linksOf w (now (layer .exit))) ⌝ }
 {
-    let a = 20 * w;
-    let b = 21 * w;
-    let e = 26 * w;
+    let a = ORDER_AT * w;
+    let b = LINKS_AT * w;
+    let e = LAYER_END * w;
     let s = layer[a + p] as usize;
     links::remove(&mut layer[b..e], w, k, s);
     order::remove_at(&mut layer[a..b], n, p);
@@ -58,8 +65,8 @@ fn place_in(layer: &[u64], w: usize, n: usize, f: u64, h: u64) -> usize
     requires { ⌜ Layer w n (now layer) ⌝ }
     ensures { λ r. ⌜ (r ≤ n) × (Rising (earlierAt (slotsOf w (now (layer .entry))) (orderOf w (now (layer .entry))) f h) n → Cutoff (earlierAt (slotsOf w (now (layer .entry))) (orderOf w (now (layer .entry))) f h) n r) ⌝ }
 {
-    let a = 20 * w;
-    let b = 21 * w;
+    let a = ORDER_AT * w;
+    let b = LINKS_AT * w;
     order::place(&layer[..a], &layer[a..b], w, n, f, h)
 }
 
@@ -68,8 +75,8 @@ fn before_last(layer: &[u64], w: usize, f: u64, h: u64) -> bool
     requires { ⌜ (0 < w) × Layer w w (now layer) ⌝ }
     ensures { λ r. ⌜ r ≡ earlierAt (slotsOf w (now (layer .entry))) (orderOf w (now (layer .entry))) f h (w - 1) ⌝ }
 {
-    let a = 20 * w;
-    let b = 21 * w;
+    let a = ORDER_AT * w;
+    let b = LINKS_AT * w;
     order::earlier_at(&layer[..a], &layer[a..b], w - 1, f, h)
 }
 
@@ -86,9 +93,9 @@ fn find_in(
     requires { ⌜ Outlined (now model) (now outline) × ((26 * w ≤ length (now layer)) × ((k < 4 * w) × (Falling w (linksOf w (now layer)) × (length (now child) ≡ slotWords)))) ⌝ }
     ensures { λ r. ⌜ Found (linksOf w (now (layer .entry))) w k (sought (modelOf (now (model .entry)) .variables) (slotsOf w (now (layer .entry))) (now (child .entry)) beaten) r ⌝ }
 {
-    let a = 20 * w;
-    let b = 21 * w;
-    let e = 26 * w;
+    let a = ORDER_AT * w;
+    let b = LINKS_AT * w;
+    let e = LAYER_END * w;
     find(
         model,
         outline,
@@ -106,9 +113,9 @@ fn add_child(layer: &mut [u64], outline: &[u64], w: usize, n: usize, k: usize, c
     requires { ⌜ Held (now outline) w n (now layer) × ((n < w) × ((k < 4 * w) × ((length (now child) ≡ slotWords) × (bucketOf (now outline) (stateWords (now child)) (4 * w) ≡ k)))) ⌝ }
     ensures { λ _. ⌜ Placed (now (outline .entry)) w (4 * w) n (slotsOf w (now (layer .entry))) (orderOf w (now (layer .entry))) (slotsOf w (now (layer .exit))) (orderOf w (now (layer .exit))) (linksOf w (now (layer .exit))) (now (child .entry)) ⌝ }
 {
-    let a = 20 * w;
-    let b = 21 * w;
-    let e = 26 * w;
+    let a = ORDER_AT * w;
+    let b = LINKS_AT * w;
+    let e = LAYER_END * w;
     let f = child[F_AT];
     let h = child[H_AT];
     let p = place_in(layer, w, n, f, h);
@@ -124,8 +131,8 @@ fn remove_slot(layer: &mut [u64], outline: &[u64], w: usize, n: usize, k: usize,
     requires { ⌜ Held (now outline) w n (now layer) × ((s < w) × ((used (orderOf w (now layer)) n s ≡ true) × ((k < 4 * w) × (bucketIn (now outline) (slotsOf w (now layer)) (4 * w) s ≡ k)))) ⌝ }
     ensures { λ _. ⌜ (slotsOf w (now (layer .exit)) ≡ slotsOf w (now (layer .entry))) × SlotRemoved (now (outline .entry)) w (4 * w) n s (slotsOf w (now (layer .entry))) (orderOf w (now (layer .entry))) (orderOf w (now (layer .exit))) (linksOf w (now (layer .exit))) ⌝ }
 {
-    let a = 20 * w;
-    let b = 21 * w;
+    let a = ORDER_AT * w;
+    let b = LINKS_AT * w;
     let at = s * SLOT_WORDS;
     let f = layer[at + F_AT];
     let h = layer[at + H_AT];
@@ -162,7 +169,7 @@ fn replace_last(layer: &mut [u64], outline: &[u64], w: usize, k: usize, child: &
     requires { ⌜ Held (now outline) w w (now layer) × ((getD (now outline) variableCountAt 0 ≤ mostVariables) × ((k < 4 * w) × ((length (now child) ≡ slotWords) × (bucketOf (now outline) (stateWords (now child)) (4 * w) ≡ k)))) ⌝ }
     ensures { λ _. ⌜ LastReplaced (now (outline .entry)) w (4 * w) (slotsOf w (now (layer .entry))) (orderOf w (now (layer .entry))) (slotsOf w (now (layer .exit))) (orderOf w (now (layer .exit))) (linksOf w (now (layer .exit))) (now (child .entry)) ⌝ }
 {
-    let a = 20 * w;
+    let a = ORDER_AT * w;
     let p = w - 1;
     let s = layer[a + p] as usize;
     let other = slot_bucket(outline, &layer[..a], s, 4 * w);
@@ -217,7 +224,7 @@ pub fn keep_below(layer: &[u64], width: usize, n: usize, best: u64) -> usize
     requires { ⌜ Layer width n (now layer) ⌝ }
     ensures { λ r. ⌜ Below width n r best (now (layer .entry)) ⌝ }
 {
-    let a = 20 * width;
+    let a = ORDER_AT * width;
     let mut left = n;
     while 0 < left {
         let s = layer[a + (left - 1)] as usize;

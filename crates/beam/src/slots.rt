@@ -9,10 +9,9 @@ ghost use Rattle.order.specs.Slots.{slotWords};
 ghost use Rattle.links.specs.Links.{Falling, Found};
 ghost use Rattle.beam.specs.Nodes.{beats as Nodes·beats};
 ghost use Rattle.beam.specs.Parts.{written, sought as Held·sought};
+use order::G_AT;
 use order::SLOT_WORDS;
 use steps::states::dominates;
-
-const G_AT: usize = 16;
 
 // Copies all words.
 pub fn copy_words(from: &[u64], to: &mut [u64])

@@ -6,7 +6,7 @@ ghost use lib.ListN.{length};
 use libc::STDOUT_FILENO;
 use lines::write_answer;
 use lines::write_fields;
-use solver::answers::Outcome;
+use reports::answers::Outcome;
 use solver::entry::search;
 
 const ARGUMENTS: usize = 7;

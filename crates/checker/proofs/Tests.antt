@@ -6,7 +6,7 @@ use native.Mathlib.Omega.{arith}
 use lib.ListN.{length}
 use borrow.Author.Tests.{lt-ltb, le-ltb}
 use Rattle.model.specs.Numbers.{mostModelBytes, mostSteps, modelTooLong, badSetting}
-use Rattle.model.specs.Values.{Value, value, trouble}
+use Rattle.model.specs.Values.{Value, trouble}
 use Rattle.model.specs.Readers.{Read, read, refused}
 use Rattle.model.specs.Syntax.{Model}
 use Rattle.model.specs.Commands.{model}

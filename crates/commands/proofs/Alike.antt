@@ -2,21 +2,18 @@
 use Prim.Native.Nat.{ℕ, zero, suc, _+_}
 use mathlib.Core.Path.{_≡_, refl, sym, ap, subst, _∙_, fun-ext}
 use mathlib.Core.Bool.{Bool, true, false}
-use mathlib.Core.List.{List, [], _∷_, map}
+use mathlib.Core.List.{List, [], _∷_}
 use mathlib.Core.Option.{Option}
-use mathlib.Core.Option as O
-use native.Mathlib.Omega.{arith}
 use lib.ListN.{drop, getElem?}
 use lib.Dec.{eqb}
-use borrow.Author.Tests.{le-leb, lt-leb, ne-eqb}
-use Rattle.laws.specs.Lists.{All, any}
+use Rattle.laws.specs.Lists.{any}
 use Rattle.model.specs.Numbers.{mostVariables, mostNesting}
 use Rattle.model.specs.Readers.{Read, read, refused, Reader, after, many}
 use Rattle.model.specs.Syntax.{Kind, aSet, anElement, aNumber, Variable, Table, Effect}
 use Rattle.model.specs.Commands.{conditions, effectTarget, expressionFor, effectOn, transition}
 use Rattle.model.proofs.Loops.{many-more, many-end, many-full, many-early, many-head-refused, many-body-refused}
-use Rattle.words.specs.Signature.{variableOf, variablesOf, tablesOf, kindByteOf, kindByte, Objects, WellFormed}
-use Rattle.expressions.proofs.Alike.{ReadsAlike, reads-alike}
+use Rattle.words.specs.Signature.{variablesOf, tablesOf}
+use Rattle.expressions.proofs.Alike.{SameVariable, neither, both, same-variable, ReadsAlike, reads-alike}
 use Rattle.commands.specs.Groups.{itemOf, VariablesDeclared, TablesDeclared}
 use Rattle.commands.specs.Transitions.{effectsBehind}
 use Rattle.commands.specs.declared.Group.{Group}
@@ -70,30 +67,6 @@ module _ {A C B : Type 0} (due : ℕ → Bool) (head : ℕ → List B → Reader
     many-alike zero done e = none-alike done e
     many-alike (suc room) done e = more-alike room done (λ x f. many-alike room (x ∷ done) f) e
 
--- ---- declared variables
-
-kind-of-byte : (k : Kind) (n : ℕ) → Objects k n → variableOf (kindByteOf k n) .kind ≡ k
-unfolding variableOf kindByteOf
-kind-of-byte aNumber n h = refl
-kind-of-byte anElement n h = rw (ne-eqb n 0 (λ z. omega (arith, h .0)), le-leb n 64 (h .1))
-kind-of-byte aSet n h = rw (ne-eqb (64 + n) 0 (λ z. omega arith), lt-leb (64 + n) 64 (omega (arith, h .0)))
-
-objects-of-byte : (k : Kind) (n : ℕ) → Objects k n → variableOf (kindByteOf k n) .objects ≡ n
-unfolding variableOf kindByteOf
-objects-of-byte aNumber n h = sym h
-objects-of-byte anElement n h = rw (le-leb n 64 (h .1))
-objects-of-byte aSet n h = rw (lt-leb (64 + n) 64 (omega (arith, h .0))) (omega arith)
-
-data SameVariable (o p : Option Variable) : Type 0 where
-  neither : o ≡ O.none → p ≡ O.none → SameVariable o p
-  both : {x y : Variable} → o ≡ O.some x → p ≡ O.some y → x .kind ≡ y .kind → x .objects ≡ y .objects → SameVariable o p
-
-same-variable : (vs : List Variable) → All WellFormed vs → (v : ℕ) → SameVariable (getElem? vs v) (getElem? (variablesOf (map kindByte vs)) v)
-unfolding kindByte
-same-variable [] w v = neither refl refl
-same-variable (x ∷ vs) w zero = both refl refl (sym (kind-of-byte (x .kind) (x .objects) (w .0))) (sym (objects-of-byte (x .kind) (x .objects) (w .0)))
-same-variable (x ∷ vs) w (suc v) = same-variable vs (w .1) v
-
 -- ---- effects, transitions, items
 
 module _ (vs : List Variable) (ts : List Table) (us : List Variable) (ss : List Table) (alike : ReadsAlike vs ts us ss mostNesting) where
@@ -115,13 +88,13 @@ module _ (vs : List Variable) (ts : List Table) (us : List Variable) (ss : List 
     same-target : (b : ℕ) (done : List Effect) (e : List ℕ)
         → SameHead (λ b. eqb b 0x0a) (effectTarget vs ts) (effectOn vs ts) (effectTarget us ss) (effectOn us ss) (effectTarget vs ts b done e) (effectTarget us ss b done e)
     same-target b done [] = both-refused (target-cut vs ts b done [] refl) (target-cut us ss b done [] refl)
-    same-target b done (v ∷ f) = go (any (λ g. eqb (g .target) v) done) refl (same v)
+    same-target b done (v ∷ f) = go (any (λ g. eqb (g .target) v) done) refl (getElem? vs v) (getElem? us v) refl refl (same v)
       where
-        go : (t : Bool) → any (λ g. eqb (g .target) v) done ≡ t → SameVariable (getElem? vs v) (getElem? us v)
+        go : (t : Bool) → any (λ g. eqb (g .target) v) done ≡ t → (o i : Option Variable) → getElem? vs v ≡ o → getElem? us v ≡ i → SameVariable o i
             → SameHead (λ b. eqb b 0x0a) (effectTarget vs ts) (effectOn vs ts) (effectTarget us ss) (effectOn us ss) (effectTarget vs ts b done (v ∷ f)) (effectTarget us ss b done (v ∷ f))
-        go true h s = both-refused (target-again vs ts b done (v ∷ f) v f refl h) (target-again us ss b done (v ∷ f) v f refl h)
-        go false h (neither p q) = both-refused (target-undeclared vs ts b done (v ∷ f) v f refl h p) (target-undeclared us ss b done (v ∷ f) v f refl h q)
-        go false h (both {x} {y} p q k o) = both-read (target-good vs ts b done (v ∷ f) v f refl h p) (target-good us ss b done (v ∷ f) v f refl h q) (effect-alike v x y k o)
+        go true h o i p q s = both-refused (target-again vs ts b done (v ∷ f) v f refl h) (target-again us ss b done (v ∷ f) v f refl h)
+        go false h o i p q neither = both-refused (target-undeclared vs ts b done (v ∷ f) v f refl h p) (target-undeclared us ss b done (v ∷ f) v f refl h q)
+        go false h o i p q (both {x} {y} k n) = both-read (target-good vs ts b done (v ∷ f) v f refl h p) (target-good us ss b done (v ∷ f) v f refl h q) (effect-alike v x y k n)
 
     effects-alike : effectsBehind vs ts mostVariables [] ≡ effectsBehind us ss mostVariables []
     effects-alike = fun-ext (many-alike (λ b. eqb b 0x0a) (effectTarget vs ts) (effectOn vs ts) (effectTarget us ss) (effectOn us ss) same-target mostVariables [])

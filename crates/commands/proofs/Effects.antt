@@ -25,7 +25,7 @@ use Rattle.expressions.specs.declared.Part.the-variants as R
 use Rattle.commands.specs.Places.{readAt, placeOf}
 use Rattle.commands.specs.Transitions.{placeOfPart, dueFor, countFits, partFrom, costNumber, effectsBehind, Marked, Changed}
 use Rattle.commands.specs.declared.Place.the-variants.{At, Refused}
-use Rattle.commands.proofs.Operands.{word-one}
+use Rattle.words.proofs.Literal.{word-one}
 use Rattle.commands.proofs.Positions.{front, byte-inside, reads-at, refuses-at, give-at, given-at, place-read, place-refused, then-read, then-refused, next-read, next-refused, next-split, reverse-more, turn, turn-full, turn-head-refused, turn-body-refused, turn-end, turn-early}
 
 -- ---- an expression at a position

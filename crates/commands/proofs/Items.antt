@@ -10,7 +10,7 @@ use lib.Seq.{getD-set-same, getD-set-other}
 use lib.Dec.{eqb}
 use borrow.Author.Tests.{eq-eqb, ne-eqb}
 use Rattle.model.specs.Numbers.{endsEarly, offLimits}
-use Rattle.model.specs.Readers.{Read, read, refused, Reader, give, many, upTo}
+use Rattle.model.specs.Readers.{Read, read, refused, Reader, give, upTo}
 use Rattle.commands.specs.Places.{readAt, Each}
 use Rattle.commands.specs.Groups.{ItemIn, ItemsRead}
 use Rattle.commands.proofs.Positions.{at-reads, give-at, byte-inside, rest, turn, turn-full, turn-body-refused, turn-end, turn-early}

@@ -8,16 +8,12 @@ use native.Mathlib.Omega.{arith}
 use lib.ListN.{length, getD, getElem?, take, drop, length-append, length-take, length-drop, List·getD-append}
 use lib.Seq.{length-take-le, getD-take, getD-drop, getD-append-add}
 use Rattle.laws.specs.Lists.{All}
+use Rattle.laws.proofs.Lists.{found-below}
 use Rattle.commands.specs.Places.{Each}
 
 module _ {A : Type 0} where
   none-some : {x : A} → none ≡ some x → ⊥
   none-some e = let z : _≡_ {A = ℕ} 0 1 = cc in omega arith
-
-  pub some-inside : (l : List A) (k : ℕ) {x : A} → getElem? l k ≡ some x → k < length l
-  some-inside [] k e = absurd (none-some e)
-  some-inside (a ∷ l) zero e = omega arith
-  some-inside (a ∷ l) (suc k) e = omega (arith, some-inside l k e)
 
   pub inside-some : (l : List A) (k : ℕ) (d : A) → k < length l → getElem? l k ≡ some (getD l k d)
   inside-some [] k d h = let z : ⊥ = omega arith in absurd z
@@ -42,11 +38,11 @@ module _ {A : Type 0} where
   each-more P Q l x p f q k y e = go (more-cases l x k e)
     where
       go : (getElem? l k ≡ some y) ⊎ ((k ≡ length l) × (x ≡ y)) → Q k y
-      go (inl h) = f k y (some-inside l k h) (p k y h)
+      go (inl h) = f k y (found-below l k h) (p k y h)
       go (inr h) = rw (h .0, ← h .1) q
 
   pub each-map : (P Q : ℕ → A → Type 0) (l : List A) → Each P l → ((k : ℕ) (y : A) → k < length l → P k y → Q k y) → Each Q l
-  each-map P Q l p f k y e = f k y (some-inside l k e) (p k y e)
+  each-map P Q l p f k y e = f k y (found-below l k e) (p k y e)
 
   pub each-all : (P : A → Type 0) (l : List A) → Each (λ k x. P x) l → All P l
   each-all P [] e = tt

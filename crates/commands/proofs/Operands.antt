@@ -15,18 +15,14 @@ use Rattle.model.specs.Numbers.{endsEarly, notDue, offLimits, rangeEnd}
 use Rattle.model.specs.Readers.{Read, read, refused, after, continue, _>>=_, _>>_, give, require, byte, word, one, integer, command}
 use Rattle.model.specs.Syntax.{aSet, anElement, aNumber, none, Variable}
 use Rattle.model.specs.Expressions.{among, isCount, objectsAndMembers}
-use Rattle.model.specs.Commands.{ruleOf, costRule, preferenceOf, setVariable, elementVariable, numberVariable, variableOf, entries, sides}
+use Rattle.model.specs.Commands.{ruleOf, costRule, preferenceOf, setVariable, elementVariable, numberVariable, variableOf, sides}
 use Rattle.words.specs.States.{valueOf}
 use Rattle.words.specs.Signature.{kindByteOf, kindByte}
-use Rattle.words.proofs.Literal.{word-is, word-short, integer-is, integer-short}
+use Rattle.words.proofs.Literal.{word-is, word-short, word-one, integer-is, integer-short}
 use Rattle.words.proofs.Integers.{word-back}
 use Rattle.outline.specs.Outline.{preferenceNumber, ruleNumber}
 use Rattle.commands.specs.Declarations.{Declares}
 use Rattle.commands.specs.declared.Declaration.{Declaration}
-
-pub word-one : (b : ℕ) (e : List ℕ) → word 1 (b ∷ e) ≡ read b 1
-unfolding word byte give _>>=_ continue after
-word-one b e = ap (λ (n : ℕ). read n 1) (omega arith)
 
 -- ---- 01
 

@@ -17,7 +17,8 @@ use Rattle.commands.specs.declared.Group.{Group}
 use Rattle.commands.specs.declared.Group.the-variants as G
 use Rattle.commands.specs.declared.Place.the-variants.{At, Refused}
 use Rattle.commands.proofs.Positions.{nothing, front, reads-at, refuses-at, next-read, next-refused, command-there, command-other, command-early}
-use Rattle.commands.proofs.Lists.{some-inside, withPart, part-in, part-before, part-behind, part-length}
+use Rattle.laws.proofs.Lists.{found-below}
+use Rattle.commands.proofs.Lists.{withPart, part-in, part-before, part-behind, part-length}
 
 pub code-positive : (g : Group) → 0 < codeOf g
 code-positive G.Transitions = omega arith
@@ -57,7 +58,7 @@ module _ (vs : List Variable) (ts : List Table) (g : Group) (bytes : List ℕ) (
           count = getD-set-same filled (countAt g) n 0 inside ∙ sym (h .count);
           few = omega (arith, h .count, h .few);
           placed = λ k x e.
-              let less : k < mostOf g = omega (arith, some-inside (h .items) k e, h .count, h .few) in
+              let less : k < mostOf g = omega (arith, found-below (h .items) k e, h .count, h .few) in
               let w : getD (set filled (countAt g) n) (offsetsFrom g + k) 0 ≡ getD part k 0 =
               getD-set-other filled (countAt g) (offsetsFrom g + k) n 0 (λ q. omega (arith, room g .low)) ∙ part-in (offsetsFrom g) (mostOf g) before part fits whole k less in
               let i = h .placed k x e in

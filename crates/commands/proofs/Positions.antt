@@ -12,6 +12,7 @@ use lib.Dec.{leb}
 use borrow.Author.Tests.{leb-true, leb-false, eq-eqb, ne-eqb}
 use Rattle.model.specs.Numbers.{endsEarly, notDue, offLimits}
 use Rattle.model.specs.Readers.{Read, read, refused, Reader, after, continue, _>>=_, _>>_, give, require, byte, command, many}
+use Rattle.model.proofs.Chains.{after-read}
 use Rattle.model.proofs.Loops.{after-after, many-more, many-end, many-full, many-early, many-head-refused, many-body-refused}
 use Rattle.commands.specs.Places.{readAt, placeOf}
 use Rattle.commands.specs.declared.Place.the-variants.{At, Refused}
@@ -49,11 +50,6 @@ module _ {A : Type 0} where
   pub place-refused : (x : Read A) {t : ℕ} → Refused t ≡ placeOf x → x ≡ refused t
   place-refused (read a k) q = let z : _≡_ {A = ℕ} 0 1 = cc in absurd (omega arith)
   place-refused (refused u) {t} q = let h : u ≡ t = cc in ap refused h
-
-  after-read : (at : ℕ) (x : Read A) {a : A} {n : ℕ} → after at x ≡ read a n → (k : ℕ) × (x ≡ read a k) × (n ≡ at + k)
-  unfolding after
-  after-read at (read b k) e = (k, cc, cc)
-  after-read at (refused t) e = let z : _≡_ {A = ℕ} 0 1 = cc in absurd (omega arith)
 
   after-refused : (at : ℕ) (x : Read A) {t : ℕ} → after at x ≡ refused t → x ≡ refused t
   unfolding after

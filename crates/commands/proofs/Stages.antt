@@ -18,7 +18,7 @@ use Rattle.commands.specs.declared.Group.the-variants as G
 use Rattle.commands.specs.declared.Place.{Place}
 use Rattle.commands.specs.declared.Place.the-variants as P
 use Rattle.commands.proofs.Positions.{give-at, then-read, then-refused, next-read, next-refused, next-split}
-use Rattle.commands.proofs.Lists.{some-inside}
+use Rattle.laws.proofs.Lists.{found-below}
 use Rattle.commands.proofs.Alike.{items-alike}
 
 -- ---- a group's words, after another group has written its own
@@ -31,7 +31,7 @@ group-later r g bytes words later items kept h = record {
   count = kept (countAt g) (inl refl) ∙ h .count;
   few = h .few;
   placed = λ k x e.
-      let less : k < mostOf g = omega (arith, some-inside items k e, h .few) in
+      let less : k < mostOf g = omega (arith, found-below items k e, h .few) in
       let w : getD later (offsetsFrom g + k) 0 ≡ getD words (offsetsFrom g + k) 0 = kept (offsetsFrom g + k) (inr (omega arith, omega arith)) in
       let i = h .placed k x e in
       record { inside = rw w (i .inside); used = i .used; reads = rw w (i .reads) };

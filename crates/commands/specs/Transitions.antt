@@ -7,7 +7,7 @@ use lib.ListN.{getD}
 use lib.Dec.{leb, eqb}
 use Rattle.laws.specs.Lists.{any}
 use Rattle.model.specs.Numbers.{mostVariables, mostNesting}
-use Rattle.model.specs.Readers.{read, refused, Reader, _>>_, command, many}
+use Rattle.model.specs.Readers.{refused, Reader, _>>_, command, many}
 use Rattle.model.specs.Syntax.{Number, elementCount, setCount, Kind, aSet, anElement, aNumber, Variable, Table, Effect}
 use Rattle.model.specs.Expressions.{element, set, number, condition}
 use Rattle.model.specs.Commands.{effectTarget, effectOn}

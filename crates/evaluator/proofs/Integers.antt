@@ -1,22 +1,13 @@
 -- Whole numbers in 64 bits: read back from their bits, and the divisor's test.
-use Prim.Native.Nat.{zero, suc, _<_, _^_}
+use Prim.Native.Nat.{zero, suc}
 use mathlib.Core.Path.{_≡_, refl}
 use mathlib.Core.Bool.{Bool, true, false, not}
 use native.Mathlib.Omega.{arith}
 use lib.IntN.{ℤ, pos, negsuc}
-use lib.Signed.{mag}
 use mir.Syntax.{w64}
-use mir.Val.{SFits, toZ, ofZ}
-use mir.Facts.{toZ-ofZ}
+use mir.Val.{SFits, ofZ}
 use Rattle.words.specs.Signs.{NotZero}
 use Rattle.evaluator.specs.Runs.{agree}
-
--- a number from its bits
-pub back : {z : ℤ} → SFits w64 z → toZ w64 (ofZ w64 z) ≡ z
-back f = toZ-ofZ f
-
-pub small-fits : (z : ℤ) → mag z < 2 ^ 63 → SFits w64 z
-small-fits z h = record { sfits = h }
 
 pub zero-bits : (z : ℤ) → SFits w64 z → ofZ w64 z ≡ 0 → z ≡ pos 0
 zero-bits (pos zero) f h = refl

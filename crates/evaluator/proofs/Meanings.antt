@@ -16,8 +16,6 @@ use Rattle.model.specs.Syntax.{Element, object, Set, add, remove, union, inters
 use Rattle.model.specs.Expressions.{objectsAndMembers, objectNumber, variable, element, set, number, condition}
 use Rattle.model.specs.Meaning as Meaning
 use Rattle.model.specs.Meaning.{State, numberAt, naturalAt, elementValue, setValue, entryAt, sumOver, fit, numberValue, conditionValue}
-use Rattle.evaluator.specs.declared.answers.NumberValue.{NumberValue}
-use Rattle.evaluator.specs.declared.answers.ConditionValue.{ConditionValue}
 use Rattle.evaluator.specs.declared.answers.SetValue.{SetValue}
 use Rattle.evaluator.specs.declared.forms.Operation.{Operation}
 use Rattle.evaluator.specs.declared.forms.Operation.the-variants as Op
@@ -158,18 +156,9 @@ module _ (vs : List Variable) (ts : List Table) (p : Place) (known : Describes v
       let x = set-element-is (p .state) (λ e. setAt d e) (h .rest) s g n j m (rw behind at a) (rw behind at b) in
       rw (h .whole, x, sum-same (λ i. R.entryOf (p .model) (getD (p .tables) t 0) i j) (λ i. entryAt (tableAt ts t) i j) (λ i. entry-is (known .tabled t l) i j) (Sets.members s), h .used)
 
-  abbrev numbersAt : ℕ → List ℕ → NumberValue
-  numbersAt d e = runNumber d p e
-
-  abbrev conditionsAt : ℕ → List ℕ → ConditionValue
-  conditionsAt d e = runCondition d p e
-
   -- what the readers of one depth less tell
   abbrev NumberRuns : ℕ → Type 0
   NumberRuns d = (e : List ℕ) → Of (λ x n. runNumber d p e ≡ numberAnswer (numberValue rangeEnd ts x now) n) (number vs ts d e)
-
-  abbrev ConditionRuns : ℕ → Type 0
-  ConditionRuns d = (e : List ℕ) → Of (λ x n. runCondition d p e ≡ conditionAnswer (conditionValue rangeEnd ts x now) n) (condition vs ts d e)
 
   -- what is behind the first byte
   NumberBehind : ℕ → List ℕ → ℕ → NumberForm → Read Number → Type 0

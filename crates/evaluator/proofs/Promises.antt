@@ -2,18 +2,13 @@
 use Prim.Native.Nat.{ℕ}
 use mathlib.Core.Path.{_≡_, _∙_}
 use mathlib.Core.List.{List}
-use Rattle.model.specs.Readers.{read}
-use Rattle.model.specs.Syntax.{Element, Set, Number, Condition, Variable, Table}
-use Rattle.model.specs.Expressions as reading
 use Rattle.evaluator.specs.declared.answers.NumberValue.{NumberValue}
 use Rattle.evaluator.specs.declared.answers.ConditionValue.{ConditionValue}
 use Rattle.evaluator.specs.declared.answers.ElementValue.{ElementValue}
 use Rattle.evaluator.specs.declared.answers.SetValue.{SetValue}
-use Rattle.evaluator.specs.Forms.{span}
 use Rattle.evaluator.specs.Runs.{Place, runElement, runSet, runNumber, runCondition}
 use Rattle.evaluator.specs.Promise.{NumberPromise, ConditionPromise, SetPromise, ElementPromise}
 use Rattle.evaluator.proofs.Reading.{of-read}
-use Rattle.evaluator.proofs.Spans.{element-ends, set-ends, number-ends, condition-ends, ends-span}
 use Rattle.evaluator.proofs.Meanings.{full-known, element-runs, set-runs, number-runs, condition-runs}
 
 pub run-element : (ws e : List ℕ) → ElementPromise ws e (runElement ws e)
@@ -27,19 +22,6 @@ run-number d p e vs ts x n h q = of-read q (number-runs vs ts p h d e)
 
 pub run-condition : (d : ℕ) (p : Place) (e : List ℕ) → ConditionPromise d p e (runCondition d p e)
 run-condition d p e vs ts x n h q = of-read q (condition-runs vs ts p h d e)
-
-module _ (vs : List Variable) (ts : List Table) (d : ℕ) (e : List ℕ) (n : ℕ) where
-  pub skip-number : (x : Number) → reading.number vs ts d e ≡ read x n → span e 0 1 ≡ n
-  skip-number x q = ends-span e n (of-read q (number-ends vs ts d e))
-
-  pub skip-condition : (x : Condition) → reading.condition vs ts d e ≡ read x n → span e 0 1 ≡ n
-  skip-condition x q = ends-span e n (of-read q (condition-ends vs ts d e))
-
-  pub skip-set : (x : Set) → reading.set vs ts d e ≡ read x n → span e 0 1 ≡ n
-  skip-set x q = ends-span e n (of-read q (set-ends vs ts d e))
-
-  pub skip-element : (x : Element) → reading.element vs ts d e ≡ read x n → span e 0 1 ≡ n
-  skip-element x q = ends-span e n (of-read q (element-ends vs ts d e))
 
 -- an answer that is the run keeps the promise
 pub element-kept : (ws e : List ℕ) {r : ElementValue} → r ≡ runElement ws e → (r ≡ runElement ws e) × ElementPromise ws e r

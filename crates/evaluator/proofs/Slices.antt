@@ -4,10 +4,8 @@ use mathlib.Core.Path.{_≡_, sym, _∙_, ap}
 use mathlib.Core.List.{List}
 use native.Mathlib.Omega.{arith}
 use lib.ListN.{length, getD, take, drop, length-drop, drop-of-length-le}
-use lib.Seq.{take-all, drop-length, drop-drop, getD-drop}
-
-pub suffix : (n : ℕ) (e : List ℕ) → take (length e - n) (drop n e) ≡ drop n e
-suffix n e = take-all (length e - n) (drop n e) (omega (arith, length-drop n e))
+use lib.Seq.{drop-length, drop-drop, getD-drop}
+use Rattle.words.proofs.Literal.{suffix}
 
 -- beyond the end
 pub no-suffix : (n : ℕ) (e : List ℕ) → length e ≤ n → take (length e - length e) (drop (length e) e) ≡ drop n e

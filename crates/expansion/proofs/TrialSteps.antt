@@ -1,6 +1,6 @@
 -- A transition tried in a node: the child's words, the offer of it by rule 4, and what each answer of the step comes to.
 use Prim.Native.Nat.{ℕ, _+_, _*_, _%_, _/_, _^_, _≤_, _<_}
-use mathlib.Core.Path.{_≡_, refl, sym, ap, _∙_}
+use mathlib.Core.Path.{_≡_, sym, ap, _∙_}
 use mathlib.Core.Bool.{Bool, true, false}
 use mathlib.Core.List.{List, _∷_}
 use mathlib.Core.Option.{Option, none, some}
@@ -9,7 +9,7 @@ use lib.ListN.{length, take, getD, set, length-set}
 use lib.Seq.{getD-take, getD-set-same, getD-set-other}
 use Rattle.model.specs.Numbers.{rangeEnd}
 use Rattle.model.specs.Values.{Value, value, trouble}
-use Rattle.model.specs.System.{System, Move, blocked, moved, troubleBefore, troubleAfter}
+use Rattle.model.specs.System.{System, moved}
 use Rattle.model.specs.Syntax.{Rule, Variable}
 use Rattle.model.specs.Meaning.{State}
 use Rattle.model.specs.Steps.{costsOf}
@@ -22,11 +22,12 @@ use Rattle.search.specs.Search.{Node, Route, Round, Result, less, belowBest}
 use Rattle.steps.specs.declared.answers.BoundAnswer.the-variants as B
 use Rattle.steps.specs.declared.answers.MoveAnswer.{MoveAnswer}
 use Rattle.steps.specs.declared.answers.MoveAnswer.the-variants as M
-use Rattle.steps.specs.Answers.{boundAnswer, moveAnswer}
+use Rattle.steps.specs.Answers.{boundAnswer}
 use Rattle.steps.specs.Held.{Outlined, stateIn, systemIn}
 use Rattle.steps.specs.Follow.{costsIn}
 use Rattle.steps.specs.Says.{MoveSays}
 use Rattle.steps.proofs.StateWords.{state-alike}
+use Rattle.steps.proofs.Following.{is-blocked, is-moved, is-before, is-after}
 use Rattle.order.specs.Slots.{slotWords, gAt, fAt}
 use Rattle.beam.specs.Nodes.{nodeOf, nodeAt}
 use Rattle.beam.specs.Held.{nodesOf, Held, roundWith, InsertedInto}
@@ -47,34 +48,6 @@ is-trouble : (x : Value ℕ) {t : ℕ} → boundAnswer x ≡ B.Trouble t → x �
 unfolding boundAnswer
 is-trouble (value h) e = let z : _≡_ {A = ℕ} 0 1 = cc in absurd (omega arith)
 is-trouble (trouble t) e = cc
-
-is-blocked : (x : Move State ℕ) → moveAnswer x ≡ M.Blocked → x ≡ blocked
-unfolding moveAnswer
-is-blocked blocked e = refl
-is-blocked (moved c u) e = let z : _≡_ {A = ℕ} 0 1 = cc in absurd (omega arith)
-is-blocked (troubleBefore t) e = let z : _≡_ {A = ℕ} 0 1 = cc in absurd (omega arith)
-is-blocked (troubleAfter c t) e = let z : _≡_ {A = ℕ} 0 1 = cc in absurd (omega arith)
-
-is-moved : (x : Move State ℕ) {c : ℕ} → moveAnswer x ≡ M.Moved c → (u : State) × (x ≡ moved c u)
-unfolding moveAnswer
-is-moved blocked e = let z : _≡_ {A = ℕ} 0 1 = cc in absurd (omega arith)
-is-moved (moved c u) e = (u, cc)
-is-moved (troubleBefore t) e = let z : _≡_ {A = ℕ} 0 1 = cc in absurd (omega arith)
-is-moved (troubleAfter c t) e = let z : _≡_ {A = ℕ} 0 1 = cc in absurd (omega arith)
-
-is-before : (x : Move State ℕ) {t : ℕ} → moveAnswer x ≡ M.Before t → x ≡ troubleBefore t
-unfolding moveAnswer
-is-before blocked e = let z : _≡_ {A = ℕ} 0 1 = cc in absurd (omega arith)
-is-before (moved c u) e = let z : _≡_ {A = ℕ} 0 1 = cc in absurd (omega arith)
-is-before (troubleBefore t) e = cc
-is-before (troubleAfter c t) e = let z : _≡_ {A = ℕ} 0 1 = cc in absurd (omega arith)
-
-is-after : (x : Move State ℕ) {c t : ℕ} → moveAnswer x ≡ M.After c t → x ≡ troubleAfter c t
-unfolding moveAnswer
-is-after blocked e = let z : _≡_ {A = ℕ} 0 1 = cc in absurd (omega arith)
-is-after (moved c u) e = let z : _≡_ {A = ℕ} 0 1 = cc in absurd (omega arith)
-is-after (troubleBefore t) e = let z : _≡_ {A = ℕ} 0 1 = cc in absurd (omega arith)
-is-after (troubleAfter c t) e = cc
 
 -- ---- the offer
 

@@ -15,7 +15,9 @@ use crate::trials::Expanded;
 use crate::trials::Trial;
 use beam::layer::Inserted;
 use beam::layer::insert;
+use order::BACK_AT;
 use order::F_AT;
+use order::G_AT;
 use order::H_AT;
 use outline::word_at;
 use steps::answers::BoundAnswer;
@@ -24,10 +26,6 @@ use steps::bounds::bound;
 use steps::check::combine;
 use steps::layout::TRANSITION_COUNT;
 use steps::moves::step;
-
-const G_AT: usize = 16;
-
-const BACK_AT: usize = 19;
 
 // Whether f is below the best cost.
 pub fn below_best(found: bool, best: u64, f: u64) -> bool

@@ -1,24 +1,20 @@
 -- Reading depends on each variable's kind and objects and on each table's sides alone: it may be done over their bytes.
-use Prim.Native.Nat.{ℕ, zero, suc, _+_, _-_, _≤_}
+use Prim.Native.Nat.{ℕ, zero, suc, _+_, _-_}
 use mathlib.Core.Path.{_≡_, refl, sym, ap, fun-ext}
-use mathlib.Core.Bool.{Bool, true, false, cond}
 use mathlib.Core.List.{List, [], _∷_, map}
 use mathlib.Core.Option.{Option}
 use mathlib.Core.Option as O
 use native.Mathlib.Omega.{arith}
 use lib.ListN.{length, getElem?}
-use lib.Dec.{leb, eqb}
-use borrow.Author.Tests.{le-leb, lt-leb, ne-eqb, eqb-true, eqb-false, leb-true, leb-false}
+use lib.Dec.{eqb}
+use borrow.Author.Tests.{le-leb, lt-leb, ne-eqb}
 use Rattle.laws.specs.Lists.{All}
-use Rattle.model.specs.Numbers.{mismatch, mostObjects}
-use Rattle.model.specs.Syntax.{Element, Set, Number, Condition, entry, total, elementCount, setCount, Kind, aSet, anElement, aNumber, Variable, Table, tableAt}
+use Rattle.model.specs.Numbers.{mismatch}
+use Rattle.model.specs.Syntax.{Element, entry, total, elementCount, setCount, Kind, aSet, anElement, aNumber, Variable, Table, tableAt}
 use Rattle.model.specs.Readers.{Reader, after, continue, _>>=_, _>>_, give, require, byte, word}
 use Rattle.model.specs.Expressions.{kindNumber, declared, variable, tableNumber, inTable, element, set, number, condition}
 use Rattle.words.specs.Signature.{variableOf, variablesOf, tableOf, tablesOf, kindByteOf, kindByte, Objects, WellFormed}
-use Rattle.expressions.specs.Parts.{noCount, partOf, partAt}
-use Rattle.expressions.specs.declared.Due.{Due}
-use Rattle.expressions.specs.declared.Due.the-variants as D
-use Rattle.expressions.proofs.Operands.{one-byte}
+use Rattle.words.proofs.Literal.{word-one}
 
 -- ---- the byte of a variable tells its kind and objects
 
@@ -34,31 +30,12 @@ objects-of-byte aNumber n h = sym h
 objects-of-byte anElement n h = rw (le-leb n 64 (h .1))
 objects-of-byte aSet n h = rw (lt-leb (64 + n) 64 (omega (arith, h .0))) (omega arith)
 
-pub byte-of-variable : (k : ℕ) → kindByte (variableOf k) ≡ k
-unfolding variableOf kindByte kindByteOf
-byte-of-variable k = go (eqb k 0) refl (leb k 64) refl
-  where
-    go : (s : Bool) → eqb k 0 ≡ s → (t : Bool) → leb k 64 ≡ t → kindByteOf (cond s aNumber (cond t anElement aSet)) (cond t k (k - 64)) ≡ k
-    go true p t q = sym (eqb-true k 0 p)
-    go false p true q = refl
-    go false p false q = omega (arith, leb-false k 64 q)
-
-pub well-formed-byte : (k : ℕ) → k ≤ mostObjects + mostObjects → WellFormed (variableOf k)
-unfolding variableOf
-well-formed-byte k h = go (eqb k 0) refl (leb k 64) refl
-  where
-    go : (s : Bool) → eqb k 0 ≡ s → (t : Bool) → leb k 64 ≡ t → Objects (cond s aNumber (cond t anElement aSet)) (cond t k (k - 64))
-    go true p true q = eqb-true k 0 p
-    go true p false q = absurd (omega (arith, eqb-true k 0 p, leb-false k 64 q))
-    go false p true q = (omega (arith, eqb-false k 0 p), leb-true k 64 q)
-    go false p false q = (omega (arith, leb-false k 64 q), omega arith)
-
 -- both undeclared, or of the same kind and objects
-data SameVariable : Option Variable → Option Variable → Type 0 where
+pub data SameVariable : Option Variable → Option Variable → Type 0 where
   neither : SameVariable O.none O.none
   both : {x y : Variable} → x .kind ≡ y .kind → x .objects ≡ y .objects → SameVariable (O.some x) (O.some y)
 
-same-variable : (vs : List Variable) → All WellFormed vs → (v : ℕ) → SameVariable (getElem? vs v) (getElem? (variablesOf (map kindByte vs)) v)
+pub same-variable : (vs : List Variable) → All WellFormed vs → (v : ℕ) → SameVariable (getElem? vs v) (getElem? (variablesOf (map kindByte vs)) v)
 unfolding kindByte
 same-variable [] w v = neither
 same-variable (x ∷ vs) w zero = both (sym (kind-of-byte (x .kind) (x .objects) (w .0))) (sym (objects-of-byte (x .kind) (x .objects) (w .0)))
@@ -106,7 +83,7 @@ module _ (vs : List Variable) (ts : List Table) (us : List Variable) (ss : List 
 
       go : (e : List ℕ) → variable vs ts k e ≡ variable us ss k e
       go [] = unfold word byte in refl
-      go (v ∷ e) = rw (one-byte v e) (ap (after 1) (by v e (getElem? vs v) (getElem? us v) (same v)))
+      go (v ∷ e) = rw (word-one v e) (ap (after 1) (by v e (getElem? vs v) (getElem? us v) (same v)))
 
   module _ (same-count : length ts ≡ length ss) (rows : (t : ℕ) → tableAt ts t .rows ≡ tableAt ss t .rows) (columns : (t : ℕ) → tableAt ts t .columns ≡ tableAt ss t .columns) where
     in-table-alike : {A B : Type 0} (ra : Reader A) (count : A → ℕ) (re : Reader Element) (make : ℕ → A → Element → B) → inTable vs ts ra count re make ≡ inTable us ss ra count re make
@@ -162,11 +139,3 @@ module _ (vs : List Variable) (ts : List Table) {kinds rows columns : List ℕ}
       go : (us : List Variable) (ss : List Table) → length ts ≡ length ss → ((t : ℕ) → tableAt ts t .rows ≡ tableAt ss t .rows) → ((t : ℕ) → tableAt ts t .columns ≡ tableAt ss t .columns)
           → ((k : Kind) → variable vs ts k ≡ variable us ss k) → ReadsAlike vs ts us ss d
       go us ss l r c n = record { elements = element-alike vs ts us ss l r c n d; sets = set-alike vs ts us ss l r c n d; numbers = number-alike vs ts us ss l r c n d; conditions = condition-alike vs ts us ss l r c n d }
-
-  -- so `expression` answers for the declared variables and tables themselves
-  pub part-alike : (due : Due) (d : ℕ) (e : List ℕ) → partAt due vs ts d e ≡ partAt due (variablesOf kinds) (tablesOf rows columns) d e
-  unfolding partAt
-  part-alike D.Number d e = ap (λ (r : Reader Number). partOf noCount (r e)) (reads-alike d .numbers)
-  part-alike D.Condition d e = ap (λ (r : Reader Condition). partOf noCount (r e)) (reads-alike d .conditions)
-  part-alike D.Element d e = ap (λ (r : Reader Element). partOf elementCount (r e)) (reads-alike d .elements)
-  part-alike D.Set d e = ap (λ (r : Reader Set). partOf setCount (r e)) (reads-alike d .sets)

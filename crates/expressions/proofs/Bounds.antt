@@ -5,7 +5,7 @@ use lib.ListN.{length}
 use Rattle.model.specs.Readers.{Read, read, refused, Reader}
 use Rattle.model.specs.Syntax.{Variable, Table}
 use Rattle.model.specs.Expressions.{element, set, number, condition}
-use Rattle.model.proofs.Fair.{FairRead, fair-read, fair-refusal, Fair}
+use Rattle.model.proofs.Fair.{FairRead, fair-read, fair-refusal}
 use Rattle.model.proofs.Reading.{element-fair, set-fair, number-fair, condition-fair}
 
 -- at most L bytes, where something was read

@@ -24,7 +24,7 @@ use Rattle.expressions.specs.declared.Parts.{Parts}
 use Rattle.expressions.specs.declared.Parts.the-variants as P
 use Rattle.expressions.specs.declared.Fit.the-variants.{Any}
 use Rattle.expressions.specs.declared.Layout.{Layout}
-use Rattle.expressions.proofs.Operands.{one-byte}
+use Rattle.words.proofs.Literal.{word-one}
 use Rattle.expressions.proofs.Counts.{counted, oneMore, part-after, whole-counted, short-part, by-one, by-two, by-elementAndSet, by-twoSets, by-three, in-sides}
 use Rattle.expressions.proofs.Bounds.{bounded-element, bounded-set, bounded-number, bounded-condition}
 
@@ -74,7 +74,7 @@ module _ (kinds rows columns : List ℕ) where
   by-variable : (due : Due) (kind : Kind) → dueNumber due ≡ kindNumber kind → (e : List ℕ) → partOf (λ p. p .1) (variable vs ts kind e) ≡ variableAt due kinds e
   unfolding variable variableAt _>>=_ _>>_ continue declared require give refuse after
   by-variable due kind q [] = unfold word byte in refl
-  by-variable due kind q (v ∷ e) = rw (one-byte v e, q, lt-ltb 0 (length (v ∷ e)) (omega arith)) (go (ltb v (length kinds)) refl)
+  by-variable due kind q (v ∷ e) = rw (word-one v e, q, lt-ltb 0 (length (v ∷ e)) (omega arith)) (go (ltb v (length kinds)) refl)
     where
       tested : (x : Variable) (t : Bool) → partOf (λ (p : ℕ × ℕ). p .1) (after 1 (after 0 ((require t mismatch >> give (v, x .objects)) e))) ≡ cond t (Good 1 (x .objects)) (Refused mismatch)
       tested x true = refl
@@ -92,7 +92,7 @@ module _ (kinds rows columns : List ℕ) where
       (twoParts (partOf f (ra (drop 1 e))) (λ n. partOf elementCount (re (drop n (drop 1 e)))))) (Refused mismatch)) (Refused endsEarly))
   unfolding inTable tableNumber _>>=_ _>>_ continue require give after
   by-inTable f ra re make [] = unfold word byte in refl
-  by-inTable {A} f ra re make (t ∷ e) = rw (one-byte t e, tables-length rows columns, lt-ltb 0 (length (t ∷ e)) (omega arith)) (go (ltb t (length rows)) refl)
+  by-inTable {A} f ra re make (t ∷ e) = rw (word-one t e, tables-length rows columns, lt-ltb 0 (length (t ∷ e)) (omega arith)) (go (ltb t (length rows)) refl)
     where
       go : (b : Bool) → ltb t (length rows) ≡ b
           → partOf noCount (continue (after 1 (continue (require b mismatch e) (λ _. give t) e)) (λ t. ra >>= λ a. re >>= λ y. require (leb (f a) (tableAt ts t .rows) && leb (elementCount y) (tableAt ts t .columns)) mismatch >> give (make t a y)) (t ∷ e))

@@ -5,7 +5,4 @@ pub mod Readers
 pub mod Bounds
 pub mod Counts
 pub mod Forms
-pub mod Inverse
-pub mod FirstBytes
-pub mod Deeper
 pub mod Alike

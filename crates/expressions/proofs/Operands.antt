@@ -1,28 +1,23 @@
 -- Fixed operands: what their readers answer, by the length of the bytes and the tests.
-use Prim.Native.Nat.{ℕ, zero, suc, _+_, _-_, _*_, _%_, _^_, _≤_, _<_}
+use Prim.Native.Nat.{ℕ, suc, _+_, _-_, _*_, _%_, _^_, _≤_, _<_}
 use mathlib.Core.Path.{_≡_, refl, sym, ap, _∙_}
 use mathlib.Core.Bool.{Bool, true, false, cond, _&&_}
 use mathlib.Core.List.{List, [], _∷_}
 use native.Mathlib.Omega.{arith}
 use native.Mathlib.Nat.{add-zero, mod-eq-of-lt, one-mul}
-use native.Mathlib.Numerals.{one-add}
-use lib.ListN.{length, getD, take, drop, length-drop}
-use lib.Seq.{take-all, getD-drop}
+use lib.ListN.{length, getD, drop}
 use lib.Dec.{leb, ltb, eqb}
 use lib.Pow.{pow-lt}
 use borrow.Author.Tests.{lt-ltb, le-ltb, le-leb, eqb-true, eqb-false}
 use Rattle.model.specs.Numbers.{endsEarly, mismatch, offLimits}
-use Rattle.model.specs.Readers.{Read, read, refused, Reader, after, continue, _>>=_, _>>_, give, require, byte, word, integer, one}
+use Rattle.model.specs.Readers.{Read, read, refused, Reader, after, continue, _>>=_, _>>_, give, require, word, integer, one}
 use Rattle.model.specs.Expressions.{among, isCount, objectsAndMembers, objectNumber, kindNumber}
 use Rattle.words.specs.Signature.{variableOf}
+use Rattle.words.proofs.Literal.{word-is, word-short, word-one}
 use Rattle.expressions.specs.Parts.{noCount, partOf}
-use Rattle.expressions.specs.Forms.{littleEndian, dueNumber, variableAt}
+use Rattle.expressions.specs.Forms.{dueNumber, variableAt}
 use Rattle.expressions.specs.declared.Due.{Due}
 use Rattle.expressions.specs.declared.Part.the-variants.{Good, Refused}
-
--- what `&e[n..]` is
-pub suffix : (n : ℕ) (e : List ℕ) → take (length e - n) (drop n e) ≡ drop n e
-suffix n e = take-all (length e - n) (drop n e) (omega (arith, length-drop n e))
 
 pub part-one : {A B : Type 0} (count : B → ℕ) (r : Reader A) (make : A → B) (e : List ℕ) → partOf count (one r make e) ≡ partOf (λ a. count (make a)) (r e)
 unfolding one _>>=_
@@ -32,35 +27,11 @@ part-one {A} {B} count r make e = go (r e)
     go (read a n) = unfold continue give after in rw add-zero
     go (refused t) = unfold continue in refl
 
--- ---- little-endian words
-
-pub word-reads : (k : ℕ) (e : List ℕ) → k ≤ length e → word k e ≡ read (littleEndian k e) k
-unfolding word littleEndian _>>=_ continue byte give after
-word-reads zero e h = refl
-word-reads (suc k) [] h = absurd (omega arith)
-word-reads (suc k) (b ∷ e) h = rw (word-reads k e (omega arith), add-zero, one-add)
-
-pub word-short : (k : ℕ) (e : List ℕ) → length e < k → word k e ≡ refused endsEarly
-unfolding word _>>=_ continue byte after
-word-short zero e h = absurd (omega arith)
-word-short (suc k) [] h = refl
-word-short (suc k) (b ∷ e) h = rw (word-short k e (omega arith))
-
-pub one-byte : (b : ℕ) (e : List ℕ) → word 1 (b ∷ e) ≡ read b 1
-unfolding word _>>=_ continue byte give after
-one-byte b e = rw (add-zero b)
-
--- the eight bytes as the code joins them
-pub eight-bytes : (e : List ℕ)
-    → littleEndian 8 e ≡ getD e 0 0 + 256 * (getD e 1 0 + 256 * (getD e 2 0 + 256 * (getD e 3 0 + 256 * (getD e 4 0 + 256 * (getD e 5 0 + 256 * (getD e 6 0 + 256 * getD e 7 0))))))
-unfolding littleEndian
-eight-bytes e = simp (getD-drop, add-zero)
-
 -- ---- an integer, an object, members
 
 pub integer-read : (e : List ℕ) → 4 ≤ length e → Good 4 0 ≡ partOf noCount (integer e)
 unfolding integer
-integer-read e h = sym (part-one noCount (word 4) _ e ∙ rw (word-reads 4 e h))
+integer-read e h = sym (part-one noCount (word 4) _ e ∙ rw (word-is 4 e h))
 
 pub integer-short : (e : List ℕ) → length e < 4 → Refused endsEarly ≡ partOf noCount (integer e)
 unfolding integer
@@ -69,24 +40,24 @@ integer-short e h = sym (part-one noCount (word 4) _ e ∙ rw (word-short 4 e h)
 pub object-read : (e : List ℕ) → 1 ≤ length e → (t : Bool) → ltb (getD e 0 0) 64 ≡ t → cond t (Good 1 (getD e 0 0 + 1)) (Refused offLimits) ≡ partOf suc (objectNumber e)
 unfolding objectNumber _>>=_ _>>_ continue require give after
 object-read [] h t q = absurd (omega arith)
-object-read (k ∷ e) h true q = rw (one-byte k e, q) (ap (Good 1) (omega arith))
-object-read (k ∷ e) h false q = rw (one-byte k e, q)
+object-read (k ∷ e) h true q = rw (word-one k e, q) (ap (Good 1) (omega arith))
+object-read (k ∷ e) h false q = rw (word-one k e, q)
 
 pub object-short : (e : List ℕ) → length e < 1 → Refused endsEarly ≡ partOf suc (objectNumber e)
 unfolding objectNumber _>>=_ continue
 object-short e h = rw (word-short 1 e h)
 
-pub members-read : (e : List ℕ) → 9 ≤ length e → (w : ℕ) → w ≡ littleEndian 8 (drop 1 e) → (t : Bool) → t ≡ (isCount (getD e 0 0) && ltb w (2 ^ getD e 0 0))
+pub members-read : (e : List ℕ) → 9 ≤ length e → (w : ℕ) → word 8 (drop 1 e) ≡ read w 8 → (t : Bool) → t ≡ (isCount (getD e 0 0) && ltb w (2 ^ getD e 0 0))
     → cond t (Good 9 (getD e 0 0)) (Refused offLimits) ≡ partOf (λ p. p .0) (objectsAndMembers e)
 unfolding objectsAndMembers _>>=_ _>>_ continue require give after
 members-read [] h w p t q = absurd (omega arith)
-members-read (n ∷ e) h w p true q = rw (one-byte n e, word-reads 8 e (omega arith), ← p, ← q)
-members-read (n ∷ e) h w p false q = rw (one-byte n e, word-reads 8 e (omega arith), ← p, ← q)
+members-read (n ∷ e) h w p true q = rw (word-one n e, p, ← q)
+members-read (n ∷ e) h w p false q = rw (word-one n e, p, ← q)
 
 pub members-short : (e : List ℕ) → length e < 9 → Refused endsEarly ≡ partOf (λ p. p .0) (objectsAndMembers e)
 unfolding objectsAndMembers _>>=_ continue after
 members-short [] h = rw (word-short 1 [] (omega arith))
-members-short (n ∷ e) h = rw (one-byte n e, word-short 8 e (omega arith))
+members-short (n ∷ e) h = rw (word-one n e, word-short 8 e (omega arith))
 
 -- ---- members below an object count
 

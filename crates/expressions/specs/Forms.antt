@@ -1,5 +1,5 @@
 -- An expression's answer from its layout and the answers of its parts, over the bytes of the declared names.
-use Prim.Native.Nat.{ℕ, zero, suc, _+_, _*_, _≤_}
+use Prim.Native.Nat.{ℕ, suc, _+_, _≤_}
 use mathlib.Core.Bool.{cond, _&&_}
 use mathlib.Core.List.{List}
 use lib.ListN.{length, getD, drop}
@@ -76,11 +76,6 @@ TakeAtMost l (P.Good n a b) = n ≤ l
 TakeAtMost l (P.Refused t) = Unit {0}
 
 -- ---- operands
-
--- the number of k bytes, the least first
-unfoldable pub littleEndian : (k : ℕ) → List ℕ → ℕ
-littleEndian zero e = 0
-littleEndian (suc k) e = getD e 0 0 + 256 * littleEndian k (drop 1 e)
 
 -- as `kindNumber`; no variable is a condition
 abbrev pub dueNumber : Due → ℕ

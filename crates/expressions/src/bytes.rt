@@ -9,13 +9,14 @@ ghost use Rattle.model.specs.Readers as readers;
 ghost use Rattle.model.specs.Expressions.{objectNumber, objectsAndMembers, kindNumber, isCount};
 ghost use Rattle.words.specs.Signature.{variableOf};
 ghost use Rattle.expressions.specs.Parts.{noCount, partOf};
-ghost use Rattle.expressions.specs.Forms.{littleEndian, dueNumber, variableAt};
+ghost use Rattle.expressions.specs.Forms.{dueNumber, variableAt};
 use crate::Due;
 use crate::ENDS_EARLY;
 use crate::MISMATCH;
 use crate::MOST_OBJECTS;
 use crate::OFF_LIMITS;
 use crate::Part;
+use words::literals::long;
 
 // The byte at i, or 0 where there is none.
 pub fn byte_at(s: &[u8], i: usize) -> u8
@@ -51,17 +52,6 @@ pub fn object(e: &[u8]) -> Part
     }
 }
 
-// Eight bytes, the least first.
-fn word(e: &[u8]) -> u64
-    requires { ⌜ 8 ≤ length (now e) ⌝ }
-    ensures { λ r. ⌜ r ≡ littleEndian 8 (now (e .entry)) ⌝ }
-{
-    let a = laws::wide(e[6]) + 256 * laws::wide(e[7]);
-    let b = laws::wide(e[4]) + 256 * (laws::wide(e[5]) + 256 * a);
-    let c = laws::wide(e[2]) + 256 * (laws::wide(e[3]) + 256 * b);
-    laws::wide(e[0]) + 256 * (laws::wide(e[1]) + 256 * c)
-}
-
 // Whether n is an object count and every member is below it.
 fn members_fit(n: u8, members: u64) -> bool
     ensures { λ r. ⌜ r ≡ (isCount n && ltb members (2 ^ n)) ⌝ }
@@ -81,7 +71,7 @@ pub fn objects_and_members(e: &[u8]) -> Part
 {
     if 9 <= e.len() {
         let n = e[0];
-        if members_fit(n, word(&e[1..])) {
+        if members_fit(n, long(&e[1..])) {
             Part::Good(9, n)
         } else {
             Part::Refused(OFF_LIMITS)

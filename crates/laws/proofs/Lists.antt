@@ -1,10 +1,12 @@
--- Laws of specs/Lists: members, selection, the list without its last, no two alike.
-use Prim.Native.Nat.{ℕ, suc}
+-- Laws of lists: members, selection, the list without its last, no two alike.
+use Prim.Native.Nat.{ℕ, zero, suc, _<_}
 use mathlib.Core.Path.{_≡_, refl, ap}
 use mathlib.Core.Logic.{_⊎_, inl, inr}
 use mathlib.Core.Bool.{Bool, true, false, true≢false, false≢true}
 use mathlib.Core.List.{List, [], _∷_, dropLast}
-use lib.ListN.{length}
+use mathlib.Core.Option.{some}
+use native.Mathlib.Omega.{arith}
+use lib.ListN.{length, getElem?}
 use Rattle.laws.specs.Lists.{any, filter, isEmpty, All, Different}
 use Rattle.laws.proofs.Bools.{by-cond, or-either, or-neither}
 
@@ -119,3 +121,9 @@ module _ {A B : Type 0} (v : A → B) where
   pub length-values : (l : List A) → length (values l) ≡ length l
   length-values [] = refl
   length-values (x ∷ xs) = ap suc (length-values xs)
+
+-- an item that is there has a place below the length
+pub found-below : {A : Type 0} (l : List A) (k : ℕ) {x : A} → getElem? l k ≡ some x → k < length l
+found-below [] k e = let z : _≡_ {A = ℕ} 0 1 = cc in absurd (omega arith)
+found-below (x ∷ xs) zero e = omega arith
+found-below (x ∷ xs) (suc k) e = omega (arith, found-below xs k e)

@@ -3,11 +3,10 @@ use Prim.Native.Nat.{ℕ}
 use mathlib.Core.Path.{_≡_}
 use mathlib.Core.Bool.{cond}
 use mathlib.Core.List.{[], _∷_}
-use Rattle.search.specs.Answer as A
 use Rattle.search.specs.Answer.{outcomeNumber}
 use Rattle.search.specs.Run.{fields}
-use Rattle.solver.specs.Answers.{outcomeOf}
-use Rattle.solver.specs.declared.answers.Answer.{Answer}
+use Rattle.reports.specs.Answers.{outcomeOf}
+use Rattle.reports.specs.declared.answers.Answer.{Answer}
 use Rattle.lines.specs.Line.{InLine}
 
 pub in-line : (a : Answer) (v f : ℕ) → v ≡ outcomeNumber (outcomeOf (a .outcome)) → f ≡ cond (a .flag) 1 0

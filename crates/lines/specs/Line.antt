@@ -4,8 +4,8 @@ use mathlib.Core.Path.{_≡_}
 use mathlib.Core.List.{List}
 use Rattle.search.specs.Answer as A
 use Rattle.search.specs.Run.{fields}
-use Rattle.solver.specs.Answers.{AnswerIs}
-use Rattle.solver.specs.declared.answers.Answer.{Answer}
+use Rattle.reports.specs.Answers.{AnswerIs}
+use Rattle.reports.specs.declared.answers.Answer.{Answer}
 
 -- "the answer's fields in the order above"
 pub record InLine (x : Answer) (numbers : List ℕ) : Type 0 where

@@ -4,10 +4,10 @@ ghost use Rattle.lines.specs.Line.{InLine};
 use io::print_decimal;
 use io::write_all;
 use libc::STDOUT_FILENO;
-use solver::answers::Answer;
-use solver::answers::Outcome;
-use solver::exports::flag_number;
-use solver::exports::outcome_number;
+use reports::answers::Answer;
+use reports::answers::Outcome;
+use reports::numbers::flag_number;
+use reports::numbers::outcome_number;
 use solver::exports::plan_part;
 
 // The numbers of the line, in their order.

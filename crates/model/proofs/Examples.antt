@@ -1,5 +1,4 @@
 -- Worked cases of the lower layer, computed from bytes: one table, one theorem.
-use Prim.Native.Nat.{ℕ}
 use mathlib.Core.Path.{_≡_, refl}
 use mathlib.Core.List.{List, [], _∷_}
 use lib.IntN.{pos, negsuc}

@@ -28,9 +28,6 @@ module _ {A : Type 0} where
   of-refusal : {bytes : List ℕ} {t : ℕ} → FairRead bytes (refused t) → ReadingRefusal t
   of-refusal (fair-refusal h) = h
 
-  pub fair-within : {bytes : List ℕ} {x : Read A} {a : A} {n : ℕ} → FairRead bytes x → x ≡ read a n → n ≤ length bytes
-  fair-within {bytes} f e = of-read (subst (FairRead bytes) e f)
-
   pub fair-number : {bytes : List ℕ} {x : Read A} {t : ℕ} → FairRead bytes x → x ≡ refused t → ReadingRefusal t
   fair-number {bytes} f e = of-refusal (subst (FairRead bytes) e f)
 

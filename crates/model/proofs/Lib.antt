@@ -10,4 +10,5 @@ pub mod Fair
 pub mod Reading
 pub mod Troubles
 pub mod PlanCheck
+pub mod Chains
 pub mod Loops

@@ -3,7 +3,7 @@ use Prim.Native.Nat.{ℕ}
 use mathlib.Core.List.{List, [], _∷_}
 use lib.IntN.{ℤ}
 use Rattle.model.specs.Numbers.{mostNesting, rangeEnd}
-use Rattle.model.specs.Values.{Value, value, trouble}
+use Rattle.model.specs.Values.{Value, trouble}
 use Rattle.model.specs.Readers.{Read, read, refused}
 use Rattle.model.specs.Syntax.{Number}
 use Rattle.model.specs.Meaning.{numberValue}

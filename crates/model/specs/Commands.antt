@@ -1,13 +1,13 @@
 -- Reading a whole model: its commands in their order, within their sizes.
 use Prim.Native.Nat.{ℕ, zero, suc, _*_}
-use mathlib.Core.Bool.{Bool, cond, not, _&&_}
+use mathlib.Core.Bool.{cond, not, _&&_}
 use mathlib.Core.List.{List, [], _∷_}
 use lib.ListN.{getElem?}
 use lib.Dec.{leb, ltb, eqb}
 use lib.IntN.{ℤ, pos}
 use Rattle.laws.specs.Lists.{any}
 use Rattle.model.specs.Numbers.{mismatch, offLimits, bytesAfterEnd, mostVariables, mostTables, mostTransitions, mostBaseCases, mostConstraints, mostBounds, mostConditions, mostNesting}
-use Rattle.model.specs.Readers.{Read, read, refused, Reader, _>>=_, _>>_, give, require, word, integer, one, command, many, upTo}
+use Rattle.model.specs.Readers.{read, refused, Reader, _>>=_, _>>_, give, require, word, integer, one, command, many, upTo}
 use Rattle.model.specs.Syntax.{Condition, elementCount, setCount, Expression, ofSet, ofElement, ofNumber, Kind, aSet, anElement, aNumber, Preference, none, less, more, Rule, sum, largest, Variable, Table, Effect, Transition, Model}
 use Rattle.model.specs.Expressions.{among, isCount, objectsAndMembers, declared, element, set, number, condition}
 

@@ -1,7 +1,7 @@
 -- Reading expressions: a byte, its fixed operands, its parts. In one place the refusals come in the order 4, 8, 5, 6 for kind,
 -- 4 for operands, 7, 6 for names, and 6 for counts once the parts are read.
 use Prim.Native.Nat.{ℕ, zero, suc, _+_, _^_}
-use mathlib.Core.Bool.{Bool, true, false, cond, _&&_, _||_}
+use mathlib.Core.Bool.{Bool, cond, _&&_, _||_}
 use mathlib.Core.List.{List, [], _∷_}
 use mathlib.Core.Option.{Option}
 use mathlib.Core.Option as O

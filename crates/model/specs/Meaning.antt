@@ -6,7 +6,7 @@ use lib.ListN.{length, getD}
 use lib.Dec.{eqb}
 use lib.IntN.{ℤ, pos, _+ℤ_, _-ℤ_, _*ℤ_}
 use lib.Signed.{ltZ, leZ, mag}
-use Rattle.model.specs.Values.{Value, value, trouble, _>>=_, inRange, floorQuotient}
+use Rattle.model.specs.Values.{Value, value, _>>=_, inRange, floorQuotient}
 use Rattle.model.specs.Sets as S
 use Rattle.model.specs.Syntax.{Element, object, elementVariable, Set, someOf, setVariable, add, remove, union, intersection, difference, complement, Number, literal, numberVariable, plus, minus, times, quotient, lesser, greater, entry, size, total, choice, Condition, equal, less, atMost, same, member, isEmpty, subset, negation, both, either, setCount, Expression, ofSet, ofElement, ofNumber, Table, tableAt}
 

@@ -9,9 +9,13 @@ ghost use Rattle.order.specs.Order.{inserted, removed, upFrom, earlierAt
 // The words of a slot, and which of them hold what.
 pub const SLOT_WORDS: usize = 20;
 
+pub const G_AT: usize = 16;
+
 pub const H_AT: usize = 17;
 
 pub const F_AT: usize = 18;
+
+pub const BACK_AT: usize = 19;
 
 // Writes 0, 1, 2, .. into the array.
 pub fn fill(order: &mut [u64])

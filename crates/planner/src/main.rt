@@ -3,7 +3,7 @@
 use io::write_all;
 use libc::STDERR_FILENO;
 use libc::STDIN_FILENO;
-use solver::answers::Answer;
+use reports::answers::Answer;
 use solver::entry::search_up_to;
 ghost use Prim.Native.Nat.{_≤_};
 ghost use lib.ListN.{length};

@@ -1,7 +1,7 @@
 -- The layer's end by rule 6: what remains, and how low rises.
 use Prim.Native.Nat.{ℕ, _+_, _-_, _*_, _≤_, _<_}
 use mathlib.Core.Path.{_≡_, refl, sym, ap, subst, _∙_}
-use mathlib.Core.Bool.{Bool, true, false, cond}
+use mathlib.Core.Bool.{Bool, true, false}
 use mathlib.Core.List.{List, []}
 use mathlib.Core.Option.{Option, some, none}
 use native.Mathlib.Omega.{arith}
@@ -25,9 +25,9 @@ use Rattle.beam.proofs.Nodes.{nodes-none, raised-low}
 use Rattle.expansion.specs.Expansion.{BestIs}
 use Rattle.routes.specs.Routes.{pathBy, nextOf}
 use Rattle.visits.specs.Work.{bestOf, progressOf, roundOf, roundIn}
+use Rattle.visits.proofs.Visiting.{best-is}
 use Rattle.rounds.specs.Rounds.{LayerEnds}
 use Rattle.rounds.specs.Ends.{Remains, Raises}
-use Rattle.visits.specs.declared.work.Best.{Best}
 use Rattle.visits.specs.declared.work.Round.{Round}
 
 -- ---- what remains
@@ -73,14 +73,6 @@ module _ {layer : List ℕ} {w n : ℕ} (la : Layer w n layer) (low : ℕ) (mark
   raises-not h = record { same = λ rule M vs path. rw unmarked (raised-low vs path la rule M low pos ∙ rw (le-leb first low h)) }
 
 -- ---- the layer's end
-
-best-is : (plan : List ℕ) (b : Best) → BestIs (b .found) (b .cost) (bestOf plan b)
-unfolding bestOf
-best-is plan b = pick (b .found) _ _
-  where
-    pick : (has : Bool) (cost : ℕ) (path : List ℕ) → BestIs has cost (cond has (some (record { cost = cost; path = path })) none)
-    pick true cost path = (refl, refl)
-    pick false cost path = refl
 
 pub layer-ends : (words : List ℕ) (w : ℕ) (x : Round) (count low : ℕ) → Remains (nextOf w words) w (x .progress .best .found) (x .progress .best .cost) (x .count) count
     → Raises (nextOf w words) w (x .marks .width) count (x .progress .low) low

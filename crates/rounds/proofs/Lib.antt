@@ -1,7 +1,5 @@
--- Laws of a layer's end, of a turn, of a round, of its judgement, and of the widths.
+-- Laws of a layer's end, of a turn, and of a round.
 pub mod Costing
 pub mod Ending
 pub mod Turning
 pub mod Rounding
-pub mod Judging
-pub mod Widening

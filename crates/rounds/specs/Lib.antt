@@ -1,4 +1,3 @@
--- What is promised of layers, rounds and runs in code.
+-- What is promised of layers and rounds in code.
 pub mod Rounds
 pub mod Ends
-pub mod Widths

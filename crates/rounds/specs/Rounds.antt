@@ -1,20 +1,14 @@
--- What is promised of a layer's end, a turn, a round and a run in code: equations with the definition's rules 1, 6 and 7.
+-- What is promised of a layer's end, a turn and a round in code: equations with the definition's rules 1 and 6.
 use Prim.Native.Nat.{ℕ, suc, _+_, _-_, _*_, _≤_, _<_}
 use mathlib.Core.Path.{_≡_}
-use mathlib.Core.Bool.{Bool, true, false}
-use mathlib.Core.List.{List, _∷_}
-use mathlib.Core.Option.{none}
-use lib.Dec.{eqb}
+use mathlib.Core.Bool.{true, false}
+use mathlib.Core.List.{List}
 use lib.ListN.{length}
-use Rattle.laws.specs.Lists.{any}
 use Rattle.model.specs.Numbers.{mostSteps}
-use Rattle.model.specs.System.{Costs, System}
 use Rattle.model.specs.Meaning.{State}
 use Rattle.model.specs.Steps.{originOf}
-use Rattle.search.specs.Answer as A
-use Rattle.search.specs.Search.{Node, After, again, ended, decided, root}
+use Rattle.search.specs.Search.{root}
 use Rattle.search.specs.Search as S
-use Rattle.search.specs.Run.{widerWidths, widerUpTo}
 use Rattle.outline.specs.Outline.{modelOf}
 use Rattle.steps.specs.Held.{systemIn}
 use Rattle.steps.specs.Follow.{costsIn}
@@ -22,12 +16,9 @@ use Rattle.beam.specs.Held.{Layer}
 use Rattle.routes.specs.Routes.{pathBy, nextOf, currentOf}
 use Rattle.visits.specs.declared.work.Progress.{Progress}
 use Rattle.visits.specs.declared.work.Round.{Round}
-use Rattle.visits.specs.Work.{verdictOf, progressOf, roundOf, roundBegun, endingOf, resultOf, roundIn, Ready, EndsInside, Inside}
+use Rattle.visits.specs.Work.{progressOf, roundBegun, resultOf, roundIn, Ready, Inside}
 use Rattle.rounds.specs.declared.ends.Turned.{Turned}
 use Rattle.rounds.specs.declared.rounds.Ended.{Ended}
-use Rattle.rounds.specs.declared.judges.Judgement.{Judgement}
-use Rattle.rounds.specs.declared.judges.Judgement.the-variants as J
-use Rattle.rounds.specs.declared.runs.Stop.{Stop}
 
 -- what a run of width w and this length limit needs of the words and of the bytes for the best plan
 pub record RoomFor (words plan : List ℕ) (w limit : ℕ) : Type 0 where
@@ -61,6 +52,7 @@ pub record Turns (bytes outline words words′ plan plan′ : List ℕ) (w budge
       × (layersFrom bytes words plan w budget limit k n x ≡ layersFrom bytes words′ plan′ w budget limit (suc k) (y .nodes) (y .round))
   pub ends : y .more ≡ false → layersFrom bytes words plan w budget limit k n x ≡ resultOf (pathBy words′ w k) (y .next) (roundIn bytes words′ plan′ w k (y .round))
 
+-- a round from the target on, begun with p: its layers, then on to rule 7, or the run is over in it
 pub record RoundEnds (bytes outline words′ plan plan′ : List ℕ) (w budget limit h : ℕ) (p : Progress) (y : Ended) : Type 0 where
   pub best-fits : y .round .progress .best .length ≤ limit
   pub round-same : roundBegun (y .round .progress) ≡ roundBegun p
@@ -68,25 +60,3 @@ pub record RoundEnds (bytes outline words′ plan plan′ : List ℕ) (w budget 
   pub counted : length (roundIn bytes words′ plan′ w (y .layer) (y .round) .kept) ≡ y .round .count
   pub same : S.round (costsIn bytes) (systemIn bytes) budget limit w (root (costsIn bytes) (systemIn bytes) (originOf (modelOf bytes)) h) (progressOf plan p)
       ≡ resultOf (pathBy words′ w (y .layer)) (y .next) (roundIn bytes words′ plan′ w (y .layer) (y .round))
-
--- rule 7
-unfoldable pub judgementOf : (K : Costs ℕ) (M : System State ℕ) → Judgement → S.Progress ℕ → After K M
-judgementOf K M J.Again p = again p
-judgementOf K M (J.Ended v) p = ended (record { ending = decided (verdictOf v); progress = p })
-
-pub record Judges (atWidest : Bool) (x : Round) (j : Judgement) : Type 0 where
-  pub same : (bytes plan : List ℕ) (kept : List (Node State ℕ)) → length kept ≡ x .count
-      → S.judge (costsIn bytes) (systemIn bytes) atWidest (roundOf kept plan x) ≡ judgementOf (costsIn bytes) (systemIn bytes) j (progressOf plan (x .progress))
-
--- the widest is one of 1, 2, 4 up to 4,096
-abbrev pub Doubling : ℕ → Type 0
-Doubling widest = any (λ w. eqb w widest) (1 ∷ widerWidths) ≡ true
-
--- the rounds from the first on, h being the target's bound: the tally has their number and the last width
-pub record Runs (bytes words′ plan′ : List ℕ) (widest budget limit h : ℕ) (y : Stop) : Type 0 where
-  pub best-fits : y .progress .best .length ≤ limit
-  pub some-width : 0 < y .progress .tally .width
-  pub narrow : y .progress .tally .width ≤ widest
-  pub inside : EndsInside (y .progress .tally .width) limit (y .layer) (y .ending)
-  pub same : S.rounds (costsIn bytes) (systemIn bytes) (suc budget) budget limit 1 (widerUpTo widest) 1 (root (costsIn bytes) (systemIn bytes) (originOf (modelOf bytes)) h) (record { best = none; low = h; expansions = 0 })
-      ≡ S.answerOf (costsIn bytes) (systemIn bytes) (endingOf (pathBy words′ (y .progress .tally .width) (y .layer)) (y .ending)) (y .progress .tally .rounds) (y .progress .tally .width) (progressOf plan′ (y .progress))

@@ -9,9 +9,12 @@ ghost use Rattle.routes.specs.Routes.{nextOf};
 ghost use Rattle.visits.specs.Work.{Ready};
 ghost use Rattle.rounds.specs.Rounds.{LayerEnds, Turns};
 ghost use Rattle.rounds.specs.Ends.{Remains, Raises, MovesOn};
+use beam::layer::ORDER_AT;
 use beam::layer::keep_below;
 use order::F_AT;
 use order::SLOT_WORDS;
+use routes::NEXT_AT;
+use routes::NEXT_END;
 use routes::current::next_layer;
 use visits::layers::layer;
 use visits::work::Next;
@@ -50,7 +53,7 @@ fn raised(layer: &[u64], w: usize, marked: bool, count: usize, low: u64) -> u64
     if count == 0 {
         return low;
     }
-    let slot = layer[20 * w] as usize;
+    let slot = layer[ORDER_AT * w] as usize;
     let f = layer[slot * SLOT_WORDS + F_AT];
     if low < f { f } else { low }
 }
@@ -60,8 +63,8 @@ fn layer_end(words: &[u64], w: usize, round: Round) -> Round
     requires { ⌜ Layer w (round .count) (nextOf w (now words)) × ((0 < w) × (w ≤ 4096)) ⌝ }
     ensures { λ r. ⌜ LayerEnds (now (words .entry)) w round r ⌝ }
 {
-    let a = 20 * w;
-    let e = 46 * w;
+    let a = NEXT_AT * w;
+    let e = NEXT_END * w;
     let progress = round.progress;
     let best = progress.best;
     let tally = progress.tally;

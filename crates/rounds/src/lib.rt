@@ -1,6 +1,4 @@
-// Layers, rounds and runs: rules 1, 6 and 7.
+// Layers and rounds: rules 1 and 6.
 
 pub mod ends;
-pub mod judges;
 pub mod rounds;
-pub mod runs;

@@ -126,10 +126,6 @@ module _ (words ys : List ℕ) (w : ℕ) (room : 46 * w ≤ length words) (same 
       ∙ put-behind (20 * w) (46 * w) words ys (omega arith) room same (46 * w) (length words) (omega arith)
       ∙ take-all (length words - 46 * w) (drop (46 * w) words) (omega (arith, length-drop (46 * w) words))
 
--- the nodes in the making, by equal paths
-pub next-same-path : (w : ℕ) (layer : List ℕ) (vs : List Variable) (path path′ : ℕ → List ℕ) (n : ℕ) → ((i : ℕ) → path i ≡ path′ i) → nodesOf w layer vs path n ≡ nodesOf w layer vs path′ n
-next-same-path w layer vs path path′ n e = ap (λ (p : ℕ → List ℕ). nodesOf w layer vs p n) (fun-ext e)
-
 -- ---- one node more
 
 slot-full : (words : List ℕ) (s : ℕ) → s * slotWords + slotWords ≤ length words → length (wordsIn words s) ≡ slotWords

@@ -47,3 +47,9 @@ pub all-written : (words : List ℕ) (w left slot : ℕ) (plan : List ℕ) → l
 unfolding pathBy
 all-written words w zero slot plan h = refl
 all-written words w (suc n) slot plan h = absurd (omega arith)
+
+-- a path to layer k has k steps
+pub path-length : (words : List ℕ) (w k i : ℕ) → length (pathBy words w k i) ≡ k
+unfolding pathBy
+path-length words w zero i = refl
+path-length words w (suc k) i = ap suc (path-length words w k _)

@@ -7,16 +7,18 @@ ghost use Rattle.order.specs.Slots.{slotWords, wordsIn};
 ghost use Rattle.steps.specs.Held.{Outlined};
 ghost use Rattle.beam.specs.Held.{Layer};
 ghost use Rattle.routes.specs.Routes.{nextOf, Started, NodeTaken, Taken};
+use crate::BACKS_AT;
+use crate::NEXT_AT;
+use crate::NEXT_END;
+use crate::NEXT_ORDER_AT;
 use beam::layer::empty;
 use beam::slots::copy_words;
+use order::BACK_AT;
 use order::F_AT;
+use order::G_AT;
 use order::H_AT;
 use order::SLOT_WORDS;
 use steps::states::start;
-
-const G_AT: usize = 16;
-
-const BACK_AT: usize = 19;
 
 // Copies the words of the node in slot i.
 pub fn copy_node(words: &[u64], i: usize, node: &mut [u64])
@@ -38,8 +40,8 @@ pub fn start_round(words: &mut [u64], model: &[u8], outline: &[u64], w: usize, h
     node[H_AT] = h;
     node[F_AT] = h;
     copy_words(&node, &mut words[..SLOT_WORDS]);
-    let a = 20 * w;
-    let e = 46 * w;
+    let a = NEXT_AT * w;
+    let e = NEXT_END * w;
     empty(&mut words[a..e], w);
 }
 
@@ -49,11 +51,11 @@ fn take_node(words: &mut [u64], w: usize, k: usize, i: usize)
     ensures { λ _. ⌜ NodeTaken (now (words .entry)) (now (words .exit)) w k i ⌝ }
 {
     let mut node = [0u64; 20];
-    let s = words[40 * w + i] as usize;
+    let s = words[NEXT_ORDER_AT * w + i] as usize;
     copy_node(words, w + s, &mut node);
     let at = i * SLOT_WORDS;
     copy_words(&node, &mut words[at..at + SLOT_WORDS]);
-    words[64 * w + (k * w + i)] = node[BACK_AT];
+    words[BACKS_AT * w + (k * w + i)] = node[BACK_AT];
 }
 
 // The n nodes of the layer in the making, the children of layer k, become the current layer; none is in the making then.
@@ -66,7 +68,7 @@ pub fn next_layer(words: &mut [u64], w: usize, k: usize, n: usize)
         take_node(words, w, k + 1, i);
         i += 1;
     }
-    let a = 20 * w;
-    let e = 46 * w;
+    let a = NEXT_AT * w;
+    let e = NEXT_END * w;
     empty(&mut words[a..e], w);
 }

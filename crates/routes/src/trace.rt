@@ -5,6 +5,7 @@ ghost use mathlib.Core.List.{_++_, reverse};
 ghost use Prim.Native.Nat.{_≤_, _<_};
 ghost use lib.ListN.{length, drop};
 ghost use Rattle.routes.specs.Routes.{pathBy};
+use crate::BACKS_AT;
 use outline::word_at;
 
 // Writes the path to slot i of layer k, the first step first.
@@ -15,7 +16,7 @@ pub fn trace(words: &[u64], w: usize, k: usize, i: usize, plan: &mut [u8])
     let mut slot = i;
     let mut left = k;
     while 0 < left {
-        let back = word_at(words, 64 * w + (left * w + slot % w));
+        let back = word_at(words, BACKS_AT * w + (left * w + slot % w));
         left -= 1;
         plan[left] = (back % 256) as u8;
         slot = (back / 256) as usize;

@@ -1,17 +1,17 @@
 -- A run, a plan check and a number's value with every definition opened, for cases that the checker computes.
 use Prim.Native.Nat.{ℕ}
-use mathlib.Core.List.{List, [], _∷_, _++_}
-use mathlib.Core.Bool.{Bool, true, false, cond}
+use mathlib.Core.List.{List, [], _∷_}
+use mathlib.Core.Bool.{Bool}
 use lib.ListN.{length}
 use lib.IntN.{ℤ}
 use Rattle.model.specs.Numbers.{mostNesting, rangeEnd, mostModelBytes}
-use Rattle.model.specs.Values.{Value, value, trouble}
+use Rattle.model.specs.Values.{Value, trouble}
 use Rattle.model.specs.Readers.{Read, read, refused}
 use Rattle.model.specs.Syntax.{Number}
 use Rattle.model.specs.Meaning.{numberValue}
 use Rattle.model.specs.Check.{check, answerNumber, answerCost}
 use Rattle.search.specs.Answer.{Answer, isRefusal, bufferAfter}
-use Rattle.search.specs.Run.{Settings, Lent, run, fields}
+use Rattle.search.specs.Run.{run, fields}
 use Rattle.laws.specs.Lists as ofLists
 use Rattle.laws.specs.Hex as ofHex
 use Rattle.model.specs.Values as ofValues

@@ -1,13 +1,13 @@
 -- What an answer is worth: demand 3 of the mission, of plans as document 01 defines them.
 use Prim.Native.Nat.{ℕ, _≤_}
 use mathlib.Core.Path.{_≡_}
-use mathlib.Core.Bool.{Bool, true, false}
+use mathlib.Core.Bool.{true}
 use mathlib.Core.List.{List, [], _∷_}
 use lib.ListN.{length}
 use Rattle.laws.specs.Lists.{All, Different}
 use Rattle.model.specs.System.{Costs, System, Origin, unfinished}
 use Rattle.model.specs.Plans.{Plan, InLayer, TrueDeclarations, Overfull, OpenAt}
-use Rattle.search.specs.Answer.{Verdict, cheapest, noPlan, widthStop, lengthStop, budgetSpent, contradicted, Outcome, verdict, Answer}
+use Rattle.search.specs.Answer.{cheapest, noPlan, widthStop, lengthStop, budgetSpent, contradicted, Outcome, verdict, Answer}
 
 -- "Runs with 2, 3 or 4 are stopped"
 pub data Stopped : Outcome → Type 0 where

@@ -1,7 +1,7 @@
 -- A run from the bytes of a model and the settings: refusals 1, 2 and 3, then reading, then the search.
 use Prim.Native.Nat.{ℕ, _+_, _*_}
-use mathlib.Core.Bool.{Bool, true, false, cond, not, _&&_}
-use mathlib.Core.List.{List, [], _∷_, _++_}
+use mathlib.Core.Bool.{Bool, false, cond, not, _&&_}
+use mathlib.Core.List.{List, [], _∷_}
 use lib.ListN.{length}
 use lib.Dec.{leb, ltb, eqb}
 use Rattle.laws.specs.Lists.{any, filter}
@@ -10,7 +10,7 @@ use Rattle.model.specs.Readers.{Read, read, refused}
 use Rattle.model.specs.Syntax.{Model}
 use Rattle.model.specs.Commands.{model}
 use Rattle.model.specs.Steps.{costsOf, systemOf, originOf}
-use Rattle.search.specs.Answer.{Outcome, byInput, Answer, outcomeNumber}
+use Rattle.search.specs.Answer.{byInput, Answer, outcomeNumber}
 use Rattle.search.specs.Search.{search}
 
 pub record Settings : Type 0 where
@@ -30,9 +30,13 @@ widerWidths = 2 ∷ 4 ∷ 8 ∷ 16 ∷ 32 ∷ 64 ∷ 128 ∷ 256 ∷ 512 ∷ 102
 unfoldable pub widerUpTo : ℕ → List ℕ
 widerUpTo widest = filter (λ w. leb w widest) widerWidths
 
+-- "a power of two, 1..4,096"
+abbrev pub isWidth : ℕ → Bool
+isWidth widest = any (λ w. eqb w widest) (1 ∷ widerWidths)
+
 -- "widest beam W, a power of two, 1..4,096; length L, 1..256"
 unfoldable pub settingsFit : Settings → Bool
-settingsFit q = any (λ w. eqb w (q .widest)) (1 ∷ widerWidths) && leb 1 (q .limit) && leb (q .limit) mostSteps
+settingsFit q = isWidth (q .widest) && leb 1 (q .limit) && leb (q .limit) mostSteps
 
 -- "The caller lends at least L plan bytes and 64 × W + W × (L + 1) working words"
 unfoldable pub wordsNeeded : Settings → ℕ

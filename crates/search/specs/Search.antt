@@ -8,7 +8,7 @@ use lib.Dec.{ltb}
 use Rattle.laws.specs.Lists.{any, filter, isEmpty}
 use Rattle.model.specs.Values.{Value, value, trouble}
 use Rattle.model.specs.System.{Costs, System, Origin, Status, base, unfinished, noStatus, Move, blocked, moved, troubleBefore, troubleAfter}
-use Rattle.search.specs.Answer.{Verdict, cheapest, noPlan, widthStop, lengthStop, budgetSpent, contradicted, Outcome, verdict, byState, Tally, Answer}
+use Rattle.search.specs.Answer.{Verdict, cheapest, noPlan, widthStop, lengthStop, budgetSpent, contradicted, verdict, byState, Tally, Answer}
 
 -- g: the path's cost. h: the bound. f: g combined with h. path: transition numbers, the last step first
 pub record Node (S C : Type 0) : Type 0 where

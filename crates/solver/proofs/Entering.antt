@@ -1,7 +1,7 @@
 -- What a run comes to, test by test: the settings, what is lent, the reading, the target's bound, then the rounds.
 use Prim.Native.Nat.{ℕ, suc, _+_, _*_, _≤_, _<_}
 use mathlib.Core.Path.{_≡_, refl, sym, ap, _∙_, subst}
-use mathlib.Core.Bool.{Bool, true, false, cond, _&&_, _||_}
+use mathlib.Core.Bool.{Bool, true, false, _&&_, _||_}
 use mathlib.Core.List.{List, [], _∷_}
 use mathlib.Core.Option.{none}
 use native.Mathlib.Nat.{mul-le-mul}
@@ -24,10 +24,10 @@ use Rattle.model.proofs.Costs.{cost-laws}
 use Rattle.model.proofs.Reading.{model-refusal}
 use Rattle.outline.specs.Outline.{modelOf, readModel, refusalOf}
 use Rattle.search.specs.Answer as A
-use Rattle.search.specs.Answer.{bufferAfter, outcomeNumber, isRefusal}
+use Rattle.search.specs.Answer.{bufferAfter}
 use Rattle.search.specs.Search as S
 use Rattle.search.specs.Search.{root, search, begin, answer, answerOf}
-use Rattle.search.specs.Run.{widerWidths, widerUpTo, settingsFit, wordsNeeded, lentFits, refusedByInput, searchModel, runRead, run}
+use Rattle.search.specs.Run.{widerWidths, isWidth, widerUpTo, settingsFit, wordsNeeded, lentFits, refusedByInput, searchModel, runRead, run}
 use Rattle.search.proofs.Counts.{never-by-input}
 use Rattle.search.proofs.Mission.{run-guarantee}
 use Rattle.steps.specs.Held.{systemIn, stateIn}
@@ -35,13 +35,13 @@ use Rattle.steps.specs.Follow.{costsIn}
 use Rattle.steps.specs.Answers.{boundAnswer}
 use Rattle.steps.specs.declared.answers.BoundAnswer.{BoundAnswer}
 use Rattle.steps.specs.declared.answers.BoundAnswer.the-variants as B
-use Rattle.rounds.specs.Rounds.{Doubling, Runs}
-use Rattle.solver.specs.Answers.{outcomeOf, AnswerIs, stopAnswer, Reports, SearchSays, settings, lent, runOf, BuffersAre, Guaranteed}
-use Rattle.solver.specs.Reported.{RefusesStart}
-use Rattle.solver.specs.Entered.{isWidth, lentOf, InNumbers}
-use Rattle.solver.specs.declared.answers.Answer.{Answer}
-use Rattle.rounds.specs.declared.runs.Stop.{Stop}
-use Rattle.solver.proofs.Reporting.{answer-same}
+use Rattle.runs.specs.Runs.{Runs}
+use Rattle.reports.specs.Answers.{AnswerIs, stopAnswer, Reports}
+use Rattle.solver.specs.Searches.{SearchSays, settings, lentOf, lent, runOf, BuffersAre, Guaranteed}
+use Rattle.reports.specs.Reported.{RefusesStart}
+use Rattle.reports.specs.declared.answers.Answer.{Answer}
+use Rattle.runs.specs.declared.Stop.{Stop}
+use Rattle.reports.proofs.Reporting.{answer-same}
 
 -- ---- the widths
 
@@ -89,7 +89,7 @@ module _ (w l b : ℕ) where
   fit-long h = rw (lt-leb l mostSteps h) (and-no (among w widths && leb 1 l))
 
   pub fit-width : 1 ≤ l → l ≤ mostSteps → settingsFit (settings w l b) ≡ isWidth w
-  unfolding settingsFit isWidth
+  unfolding settingsFit
   fit-width h k = rw (le-leb 1 l h, le-leb l mostSteps k, and-yes (among w widths)) (and-yes (among w widths))
 
   pub fit-whatever : (c : ℕ) → settingsFit (settings w l b) ≡ settingsFit (settings w l c)
@@ -100,8 +100,8 @@ module _ (w l b : ℕ) where
   unfolding settingsFit
   listed e = and-both (among w widths && leb 1 l) (leb l mostSteps) e .0
 
-  pub doubling : settingsFit (settings w l b) ≡ true → Doubling w
-  doubling e = and-both (among w widths) (leb 1 l) (listed e) .0
+  pub width-fits : settingsFit (settings w l b) ≡ true → isWidth w ≡ true
+  width-fits e = and-both (among w widths) (leb 1 l) (listed e) .0
 
   pub some-steps : settingsFit (settings w l b) ≡ true → l ≤ mostSteps
   unfolding settingsFit
@@ -111,7 +111,7 @@ narrow-each : All (λ v. (0 < v) × (v ≤ 4096)) widths
 narrow-each =
     ((omega arith, omega arith), ((omega arith, omega arith), ((omega arith, omega arith), ((omega arith, omega arith), ((omega arith, omega arith), ((omega arith, omega arith), ((omega arith, omega arith), ((omega arith, omega arith), ((omega arith, omega arith), ((omega arith, omega arith), ((omega arith, omega arith), ((omega arith, omega arith), ((omega arith, omega arith), tt)))))))))))))
 
-pub narrow : (w : ℕ) → Doubling w → (0 < w) × (w ≤ 4096)
+pub narrow : (w : ℕ) → isWidth w ≡ true → (0 < w) × (w ≤ 4096)
 narrow w e =
     some-all widths narrow-each (any-some (λ v. eqb v w) widths e)
     (λ v within h. subst (λ (x : ℕ). (0 < x) × (x ≤ 4096)) (eqb-true v w h) within)
@@ -255,23 +255,3 @@ module _ (most : ℕ) (bytes plan words : List ℕ) (w l b : ℕ) where
 
 pub guaranteed : (most : ℕ) (bytes plan words : List ℕ) (w l b : ℕ) → Guaranteed bytes w l (runOf most bytes plan words w l b)
 guaranteed most bytes plan words w l b = λ m n e. run-guarantee most bytes (settings w l b) (lent plan words) m n e
-
--- ---- the answer in numbers
-
-pub in-numbers : (a : Answer) (refused-number verdict-number flag-number : ℕ) → refused-number ≡ cond (isRefusal (outcomeOf (a .outcome))) 1 0 → verdict-number ≡ outcomeNumber (outcomeOf (a .outcome)) → flag-number ≡ cond (a .flag) 1 0
-    → InNumbers a (record { refused = refused-number; verdict = verdict-number; flag = flag-number; cost = a .cost; bound = a .bound; length = a .length; expansions = a .tally .expansions; rounds = a .tally .rounds; width = a .tally .width })
-in-numbers a r v f er ev ef =
-    record {
-      same = λ d is.
-          record {
-            refused = er ∙ ap (λ (o : A.Outcome). cond (isRefusal o) 1 0) (is .outcome);
-            verdict-number = ev ∙ ap outcomeNumber (is .outcome);
-            flag = ef ∙ ap (λ (b : Bool). cond b 1 0) (is .flag);
-            cost = is .cost;
-            bound = is .bound;
-            length-of = is .length-of;
-            expansions = is .expansions;
-            rounds = is .rounds;
-            width = is .width;
-          };
-    }

@@ -1,3 +1,2 @@
--- Laws of the report of a run, and of the search by its tests.
-pub mod Reporting
+-- Laws of the search by its tests.
 pub mod Entering

@@ -1,4 +1,2 @@
--- What the search answers, by the definition's answer.
-pub mod Answers
-pub mod Reported
-pub mod Entered
+-- What the search on bytes says.
+pub mod Searches

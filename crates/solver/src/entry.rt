@@ -1,18 +1,19 @@
 // The search: refusals by the input, then the run.
 
 ghost use mathlib.Core.Path.{_≡_};
+ghost use mathlib.Core.Bool.{true};
 ghost use Prim.Native.Nat.{_≤_, _<_, _^_};
-ghost use Rattle.search.specs.Run.{settingsFit, lentFits, refusedByInput};
+ghost use Rattle.search.specs.Run.{isWidth, settingsFit, lentFits, refusedByInput};
 ghost use Rattle.steps.specs.Held.{Outlined};
-ghost use Rattle.rounds.specs.Rounds.{RoomFor, Doubling};
-ghost use Rattle.solver.specs.Answers.{AnswerIs, BuffersAre, Guaranteed, settings, runOf, SearchSays};
-ghost use Rattle.solver.specs.Reported.{RefusesStart};
-ghost use Rattle.solver.specs.Entered.{isWidth, lentOf};
-use crate::answers::Answer;
-use crate::answers::Outcome;
-use crate::report::report;
+ghost use Rattle.rounds.specs.Rounds.{RoomFor};
+ghost use Rattle.reports.specs.Answers.{AnswerIs};
+ghost use Rattle.solver.specs.Searches.{BuffersAre, Guaranteed, settings, lentOf, runOf, SearchSays};
+ghost use Rattle.reports.specs.Reported.{RefusesStart};
 use commands::read_model;
-use rounds::runs::rounds;
+use reports::answers::Answer;
+use reports::answers::Outcome;
+use reports::report::report;
+use runs::rounds;
 use steps::answers::BoundAnswer;
 use steps::bounds::bound;
 use steps::states::start;
@@ -31,7 +32,7 @@ fn search_model(
     plan: &mut [u8],
     words: &mut [u64],
 ) -> Answer
-    requires { ⌜ Outlined (now model) (now outline) × (RoomFor (now words) (now plan) widest limit × (Doubling widest × (budget < 2 ^ 32))) ⌝ }
+    requires { ⌜ Outlined (now model) (now outline) × (RoomFor (now words) (now plan) widest limit × ((isWidth widest ≡ true) × (budget < 2 ^ 32))) ⌝ }
     ensures { λ r. ⌜ SearchSays (now (model .entry)) (now (plan .entry)) (now (plan .exit)) widest limit budget r ⌝ }
 {
     let mut state = [0u64; 16];

@@ -1,6 +1,4 @@
 // The search on the bytes of a model: its answer, and the plan in the caller's buffer.
 
-pub mod answers;
 pub mod entry;
 pub mod exports;
-pub mod report;

@@ -50,28 +50,28 @@ no-status base e = let z : _≡_ {A = ℕ} 0 1 = cc in absurd (omega arith)
 no-status unfinished e = let z : _≡_ {A = ℕ} 0 1 = cc in absurd (omega arith)
 no-status (noStatus t) e = cc
 
-is-blocked : (x : Move State ℕ) → moveAnswer x ≡ M.Blocked → x ≡ blocked
+pub is-blocked : (x : Move State ℕ) → moveAnswer x ≡ M.Blocked → x ≡ blocked
 unfolding moveAnswer
 is-blocked blocked e = refl
 is-blocked (moved c u) e = let z : _≡_ {A = ℕ} 0 1 = cc in absurd (omega arith)
 is-blocked (troubleBefore t) e = let z : _≡_ {A = ℕ} 0 1 = cc in absurd (omega arith)
 is-blocked (troubleAfter c t) e = let z : _≡_ {A = ℕ} 0 1 = cc in absurd (omega arith)
 
-is-moved : (x : Move State ℕ) {c : ℕ} → moveAnswer x ≡ M.Moved c → (u : State) × (x ≡ moved c u)
+pub is-moved : (x : Move State ℕ) {c : ℕ} → moveAnswer x ≡ M.Moved c → (u : State) × (x ≡ moved c u)
 unfolding moveAnswer
 is-moved blocked e = let z : _≡_ {A = ℕ} 0 1 = cc in absurd (omega arith)
 is-moved (moved c u) e = (u, cc)
 is-moved (troubleBefore t) e = let z : _≡_ {A = ℕ} 0 1 = cc in absurd (omega arith)
 is-moved (troubleAfter c t) e = let z : _≡_ {A = ℕ} 0 1 = cc in absurd (omega arith)
 
-is-before : (x : Move State ℕ) {t : ℕ} → moveAnswer x ≡ M.Before t → x ≡ troubleBefore t
+pub is-before : (x : Move State ℕ) {t : ℕ} → moveAnswer x ≡ M.Before t → x ≡ troubleBefore t
 unfolding moveAnswer
 is-before blocked e = let z : _≡_ {A = ℕ} 0 1 = cc in absurd (omega arith)
 is-before (moved c u) e = let z : _≡_ {A = ℕ} 0 1 = cc in absurd (omega arith)
 is-before (troubleBefore t) e = cc
 is-before (troubleAfter c t) e = let z : _≡_ {A = ℕ} 0 1 = cc in absurd (omega arith)
 
-is-after : (x : Move State ℕ) {c t : ℕ} → moveAnswer x ≡ M.After c t → x ≡ troubleAfter c t
+pub is-after : (x : Move State ℕ) {c t : ℕ} → moveAnswer x ≡ M.After c t → x ≡ troubleAfter c t
 unfolding moveAnswer
 is-after blocked e = let z : _≡_ {A = ℕ} 0 1 = cc in absurd (omega arith)
 is-after (moved c u) e = let z : _≡_ {A = ℕ} 0 1 = cc in absurd (omega arith)

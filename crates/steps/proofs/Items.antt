@@ -22,11 +22,6 @@ module _ {A : Type 0} where
       later : suc (k + 1) ≡ suc k + 1
       later = omega arith
 
-  pub found-below : (l : List A) (k : ℕ) {x : A} → getElem? l k ≡ some x → k < length l
-  found-below [] k e = let z : _≡_ {A = ℕ} 0 1 = cc in absurd (omega arith)
-  found-below (x ∷ xs) zero e = omega arith
-  found-below (x ∷ xs) (suc k) e = omega (arith, found-below xs k e)
-
   pub none-beyond : (l : List A) (k : ℕ) → length l ≤ k → getElem? l k ≡ none
   none-beyond [] k h = refl
   none-beyond (x ∷ xs) zero h = let z : ⊥ = omega arith in absurd z

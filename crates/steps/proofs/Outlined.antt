@@ -9,7 +9,7 @@ use Rattle.model.specs.Steps.{target}
 use Rattle.words.specs.States.{valueOf}
 use Rattle.outline.specs.Outline.{modelOf}
 use Rattle.steps.specs.Held.{Outlined, Held, stateIn}
-use Rattle.steps.proofs.Items.{found-below}
+use Rattle.laws.proofs.Lists.{found-below}
 use Rattle.steps.proofs.StateWords.{state-alike, state-started}
 
 front-word : (ws us : List ℕ) (v : ℕ) → 16 ≤ length ws → v < 16 → getD (take 16 ws ++ us) v 0 ≡ getD ws v 0

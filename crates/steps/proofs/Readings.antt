@@ -10,66 +10,25 @@ use lib.ListN.{length, getD, getElem?, drop, length-drop}
 use lib.Seq.{getD-drop, drop-drop}
 use lib.Dec.{eqb}
 use borrow.Author.Tests.{eqb-true, eqb-false}
-use Rattle.model.specs.Numbers.{notDue, offLimits, mismatch, mostConditions, mostNesting, mostVariables}
-use Rattle.model.specs.Readers.{Read, read, refused, Reader, after, continue, _>>=_, _>>_, give, refuse, require, peek, byte, word, one, command, many, upTo}
+use Rattle.model.specs.Numbers.{offLimits, mismatch, mostConditions, mostNesting, mostVariables}
+use Rattle.model.specs.Readers.{read, Reader, after, continue, _>>=_, _>>_, give, refuse, require, peek, byte, word, one, command, many, upTo}
 use Rattle.model.specs.Syntax.{Element, Set, Condition, Number, Expression, ofSet, ofElement, ofNumber, aSet, anElement, aNumber, Variable, Table, Effect, Transition}
 use Rattle.model.specs.Expressions.{declared, element, set, number, condition}
 use Rattle.model.specs.Commands.{conditions, effectTarget, expressionFor, effectOn, transition}
+use Rattle.model.proofs.Chains.{chain, given, required, byte-used, commanded}
 use Rattle.steps.specs.Says.{effectList}
 
 -- ---- one reader behind the other
-
-after-read : {A : Type 0} (n : ℕ) (r : Read A) (a : A) (u : ℕ) → after n r ≡ read a u → (m : ℕ) × (r ≡ read a m) × (u ≡ n + m)
-unfolding after
-after-read n (read x m) a u e = (m, cc, cc)
-after-read n (refused t) a u e = let z : _≡_ {A = ℕ} 0 1 = cc in absurd (omega arith)
-
-record Chain {A B : Type 0} (r : Read A) (next : A → Reader B) (e : List ℕ) (b : B) (u : ℕ) : Type 0 where
-  first : A
-  used : ℕ
-  left : ℕ
-  reads-first : r ≡ read first used
-  reads-next : next first (drop used e) ≡ read b left
-  uses : u ≡ used + left
-
-chain : {A B : Type 0} (r : Read A) (next : A → Reader B) (e : List ℕ) (b : B) (u : ℕ) → continue r next e ≡ read b u → Chain r next e b u
-unfolding continue
-chain (read a n) next e b u h =
-    let p = after-read n (next a (drop n e)) b u h in
-    record { first = a; used = n; left = p .0; reads-first = refl; reads-next = p .1; uses = p .2 }
-chain (refused t) next e b u h = let z : _≡_ {A = ℕ} 0 1 = cc in absurd (omega arith)
-
-given : {A : Type 0} (a : A) (e : List ℕ) (b : A) (u : ℕ) → give a e ≡ read b u → (a ≡ b) × (u ≡ 0)
-unfolding give
-given a e b u h = (cc, cc)
 
 peeked : (e : List ℕ) (b n : ℕ) → peek e ≡ read b n → (n ≡ 0) × (getD e 0 0 ≡ b)
 unfolding peek
 peeked [] b n h = let z : _≡_ {A = ℕ} 0 1 = cc in absurd (omega arith)
 peeked (x ∷ e) b n h = (cc, cc)
 
-byte-used : (e : List ℕ) (b n : ℕ) → byte e ≡ read b n → (n ≡ 1) × (getD e 0 0 ≡ b)
-unfolding byte
-byte-used [] b n h = let z : _≡_ {A = ℕ} 0 1 = cc in absurd (omega arith)
-byte-used (x ∷ e) b n h = (cc, cc)
-
-required : (b : Bool) (t : ℕ) (e : List ℕ) (x : Unit {0}) (n : ℕ) → require b t e ≡ read x n → (b ≡ true) × (n ≡ 0)
-unfolding require
-required true t e x n h = (refl, cc)
-required false t e x n h = let z : _≡_ {A = ℕ} 0 1 = cc in absurd (omega arith)
-
 found : (o : Option Variable) (e : List ℕ) (x : Variable) (n : ℕ) → declared o e ≡ read x n → (o ≡ some x) × (n ≡ 0)
 unfolding declared refuse give
 found O.none e x n h = let z : _≡_ {A = ℕ} 0 1 = cc in absurd (omega arith)
 found (O.some y) e x n h = (cc, cc)
-
-commanded : (c : ℕ) (e : List ℕ) (x : Unit {0}) (n : ℕ) → command c e ≡ read x n → (n ≡ 1) × (getD e 0 0 ≡ c)
-unfolding command _>>=_
-commanded c e x n h =
-    let p = chain (byte e) _ e x n h in
-    let q = byte-used e (p .first) (p .used) (p .reads-first) in
-    let r = required (eqb (p .first) c) notDue (drop (p .used) e) x (p .left) (p .reads-next) in
-    (omega (arith, p .uses, q .0, r .1), q .1 ∙ eqb-true (p .first) c (r .0))
 
 one-byte : (e : List ℕ) (v n : ℕ) → word 1 e ≡ read v n → (n ≡ 1) × ((getD e 0 0 ≡ v) × (0 < length e))
 unfolding word byte give _>>=_ continue after

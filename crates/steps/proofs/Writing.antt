@@ -29,7 +29,7 @@ use Rattle.steps.specs.declared.answers.EffectsAnswer.the-variants as E
 use Rattle.steps.specs.Held.{Outlined, stateIn}
 use Rattle.steps.specs.Answers.{costAnswer, effectsAnswer}
 use Rattle.steps.specs.Says.{effectList, NumberSays, ElementSays, SetSays, CostSays, CostWithin, WordIs, WordWithin, NumberWordSays, WordSays, EffectsRead, EffectsSays}
-use Rattle.steps.proofs.Items.{found-below}
+use Rattle.laws.proofs.Lists.{found-below}
 use Rattle.steps.proofs.StateWords.{state-set}
 use Rattle.steps.proofs.Readings.{Listed, EffectAt, effects-listed, First, first-of, none-of, set-for, element-for, number-for}
 use Rattle.steps.proofs.Trials.{number-is, number-troubles}

@@ -4,6 +4,7 @@ ghost use Prim.Native.Nat.{_≤_, _<_, _*_, _^_};
 ghost use lib.ListN.{length};
 ghost use mathlib.Core.Path.{_≡_};
 ghost use Rattle.steps.specs.Held.{Outlined};
+use beam::layer::LAYER_END;
 use beam::layer::empty;
 use beam::layer::insert;
 use commands::read_model;
@@ -90,7 +91,7 @@ pub extern "C" fn repgypsum_insertions(
     if 4096 < w {
         return 0;
     }
-    if words.len() < 26 * w {
+    if words.len() < LAYER_END * w {
         return 0;
     }
     let mut outline = [0u64; 424];

@@ -31,6 +31,7 @@ use Rattle.beam.proofs.Whole.{put, put-in}
 use Rattle.beam.proofs.Moves.{width-positive}
 use Rattle.expansion.specs.Expansion.{BestIs, belowCost, trialResult, Grows}
 use Rattle.routes.specs.Routes.{pathBy, nextOf, nodesFrom}
+use Rattle.routes.proofs.Tracing.{path-length}
 use Rattle.tally.specs.Tally.{oneMore}
 use Rattle.routes.proofs.Gathering.{paths-kept, making-first, making-last}
 use Rattle.visits.specs.Work.{bestOf, progressOf, roundOf, roundBegun, endingOf, resultOf, verdictOf, roundIn, Within, Ready, Inside, Leaves}
@@ -280,11 +281,6 @@ module _ (bytes outline words node : List ℕ) (w limit k i : ℕ) (x : Round) (
   trouble-leaves budget plan {t} e = stays plan plan (record { round = x; next = N.Over (E.At t (getD node gAt 0) i) }) (rest budget) refl (m .best-fits) refl (m .slot, m .depth) (rw (no-status _ (sym e)))
 
 -- ---- a path that was written
-
-pub path-length : (words : List ℕ) (w k i : ℕ) → length (pathBy words w k i) ≡ k
-unfolding pathBy
-path-length words w zero i = refl
-path-length words w (suc k) i = ap suc (path-length words w k _)
 
 pub traced : (words plan plan′ : List ℕ) (w k i : ℕ) → plan′ ≡ reverse (pathBy words w k i) ++ drop k plan → take k plan′ ≡ reverse (pathBy words w k i)
 traced words plan plan′ w k i e = ap (take k) e ∙ take-at (reverse (pathBy words w k i)) (drop k plan) k (length-reverse (pathBy words w k i) ∙ path-length words w k i)

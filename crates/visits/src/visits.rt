@@ -25,13 +25,14 @@ use expansion::children::expand;
 use expansion::trials::Expanded;
 use expansion::trials::Trial;
 use order::F_AT;
+use order::G_AT;
+use routes::NEXT_AT;
+use routes::NEXT_END;
 use routes::current::copy_node;
 use routes::trace::trace;
 use steps::answers::StatusAnswer;
 use steps::conditions::status;
 use tally::counted;
-
-const G_AT: usize = 16;
 
 // Rule 2: a plan of k steps and cost g becomes best; the run is over if g is at most low.
 fn new_best(k: usize, g: u64, round: Round) -> Visited
@@ -189,8 +190,8 @@ fn expand_node(
     let found = best.found;
     let cost = best.cost;
     let g = node[G_AT];
-    let a = 20 * w;
-    let e = 46 * w;
+    let a = NEXT_AT * w;
+    let e = NEXT_END * w;
     let x = expand(&mut words[a..e], model, outline, w, n, found, cost, node, i);
     told(g, i, x, count_one(round))
 }

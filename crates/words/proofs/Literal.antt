@@ -36,6 +36,10 @@ word-short zero e h = let z : ⊥ = omega arith in absurd z
 word-short (suc k) [] h = refl
 word-short (suc k) (b ∷ e) h = rw (word-short k e (omega arith))
 
+pub word-one : (b : ℕ) (e : List ℕ) → word 1 (b ∷ e) ≡ read b 1
+unfolding word byte give _>>=_ continue after
+word-one b e = ap (λ (n : ℕ). read n 1) (omega arith)
+
 number-four : (e : List ℕ) → number 4 e ≡ getD e 0 0 + 256 * getD e 1 0 + 65536 * getD e 2 0 + 16777216 * getD e 3 0
 unfolding number
 number-four e = simp (drop-drop, getD-drop) (omega arith)

@@ -11,7 +11,7 @@ use lib.Bits.{bitAnd, and-step, and-self, and-le-r}
 use lib.Count.{ones, ones-step, ones-le, trailingZeros}
 use lib.Pow.{pow-mono}
 use mathlib.Core.Bool.{false}
-use Rattle.model.specs.Sets.{isMember, complement, consIf, membersFrom, members}
+use Rattle.model.specs.Sets.{isMember, consIf, membersFrom, members}
 
 half-lt : (n s : ℕ) → s < 2 ^ suc n → s / 2 < 2 ^ n
 half-lt n s h = omega (arith, pow-suc 2 n)
@@ -124,9 +124,3 @@ members-lowest n s h p =
 pub no-member : (n k s : ℕ) → s < 2 ^ n → n ≤ k → isMember k s ≡ false
 unfolding isMember
 no-member n k s h l = rw (div-eq-of-lt (lt-of-lt-of-le h (pow-mono l)))
-
--- ---- the set without those of s, by the full set
-
-pub complement-is : (n full s : ℕ) → full ≡ 2 ^ n - 1 → full - s ≡ complement n s
-unfolding complement
-complement-is n full s e = rw e

@@ -11,7 +11,7 @@ use Rattle.expressions.specs.Forms.{part, formAt}
 use Rattle.expressions.specs.declared.Due.the-variants as D
 use Rattle.expressions.specs.Forms as forms
 use Rattle.expressions.proofs.Forms.{next-fits, next-two-fit, part-empty, part-too-deep, part-opened, parts-fit, form-fits, used-within, parts-read, parts-refused, choice-read, choice-refused, table-short, table-undeclared, table-read}
-use Rattle.expressions.proofs.Operands.{suffix}
+use Rattle.words.proofs.Literal.{suffix}
 use Rattle.expressions.proofs.+choice+expression+form+in_table+pair.{statement}
 use Rattle.expressions.proofs.+choice+expression+form+in_table+pair.Tie.{close}
 use Rattle.expressions.proofs.choice.Reads as choice

@@ -1,7 +1,8 @@
 -- `evaluator::bytes::after` meets its contract.
 use native.Mathlib.Omega.{arith}
 use borrow.Author.Needs.{needs}
-use Rattle.evaluator.proofs.Slices.{suffix, no-suffix}
+use Rattle.evaluator.proofs.Slices.{no-suffix}
+use Rattle.words.proofs.Literal.{suffix}
 use Rattle.evaluator.proofs.bytes.after.Statement.{statement}
 use Rattle.evaluator.proofs.bytes.after.Tie as tie
 

@@ -3,7 +3,7 @@ use mir.Val.{SFits}
 use mir.Syntax.{w64}
 use borrow.Author.Needs.{needs}
 use Rattle.evaluator.specs.Answers.{numberOfTwo}
-use Rattle.evaluator.proofs.Integers.{back}
+use Rattle.words.proofs.Integers.{back}
 use Rattle.evaluator.proofs.leaves.arithmetic.Statement.{statement}
 use Rattle.evaluator.proofs.leaves.arithmetic.Tie as tie
 

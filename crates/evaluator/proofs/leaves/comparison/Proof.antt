@@ -3,7 +3,7 @@ use mir.Val.{SFits}
 use mir.Syntax.{w64}
 use borrow.Author.Needs.{needs}
 use Rattle.evaluator.specs.Answers.{conditionOfTwo}
-use Rattle.evaluator.proofs.Integers.{back}
+use Rattle.words.proofs.Integers.{back}
 use Rattle.evaluator.proofs.leaves.comparison.Statement.{statement}
 use Rattle.evaluator.proofs.leaves.comparison.Tie as tie
 

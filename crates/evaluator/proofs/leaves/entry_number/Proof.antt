@@ -7,7 +7,7 @@ use borrow.Author.Needs.{needs}
 use Rattle.evaluator.specs.Runs.{entryOf}
 use Rattle.evaluator.proofs.Within.{elements-small, elements-used}
 use Rattle.evaluator.proofs.Opening.{entry-none, entry-some}
-use Rattle.evaluator.proofs.Integers.{back}
+use Rattle.words.proofs.Integers.{back}
 use Rattle.evaluator.proofs.leaves.entry_number.Statement.{statement}
 use Rattle.evaluator.proofs.leaves.entry_number.Tie as tie
 

@@ -1,5 +1,5 @@
 -- `evaluator::leaves::greater` meets its contract.
-use Rattle.evaluator.proofs.Integers.{back}
+use Rattle.words.proofs.Integers.{back}
 use Rattle.evaluator.proofs.leaves.greater.Statement.{statement}
 use Rattle.evaluator.proofs.leaves.greater.Tie as tie
 

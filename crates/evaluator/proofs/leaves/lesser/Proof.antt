@@ -1,5 +1,5 @@
 -- `evaluator::leaves::lesser` meets its contract.
-use Rattle.evaluator.proofs.Integers.{back}
+use Rattle.words.proofs.Integers.{back}
 use Rattle.evaluator.proofs.leaves.lesser.Statement.{statement}
 use Rattle.evaluator.proofs.leaves.lesser.Tie as tie
 

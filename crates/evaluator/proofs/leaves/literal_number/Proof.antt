@@ -6,7 +6,7 @@ use mir.Syntax.{w64}
 use borrow.Author.Tests.{lt-ltb, le-ltb}
 use borrow.Author.Needs.{needs}
 use Rattle.evaluator.specs.Runs.{literalNumber, literalValue}
-use Rattle.evaluator.proofs.Integers.{back}
+use Rattle.words.proofs.Integers.{back}
 use Rattle.evaluator.proofs.leaves.literal_number.Statement.{statement}
 use Rattle.evaluator.proofs.leaves.literal_number.Tie as tie
 

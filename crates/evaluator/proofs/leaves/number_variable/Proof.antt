@@ -5,7 +5,7 @@ use mir.Val.{SFits}
 use mir.Syntax.{w64}
 use borrow.Author.Needs.{needs}
 use Rattle.evaluator.proofs.Opening.{number-variable-none, number-variable-some}
-use Rattle.evaluator.proofs.Integers.{back}
+use Rattle.words.proofs.Integers.{back}
 use Rattle.evaluator.proofs.leaves.number_variable.Statement.{statement}
 use Rattle.evaluator.proofs.leaves.number_variable.Tie as tie
 

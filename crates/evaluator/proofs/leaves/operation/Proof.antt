@@ -4,7 +4,7 @@ use mir.Val.{SFits}
 use mir.Syntax.{w64}
 use borrow.Author.Needs.{needs}
 use Rattle.evaluator.specs.Runs.{arithmetic}
-use Rattle.evaluator.proofs.Integers.{back}
+use Rattle.words.proofs.Integers.{back}
 use Rattle.evaluator.proofs.leaves.operation.Statement.{statement}
 use Rattle.evaluator.proofs.leaves.operation.Tie as tie
 

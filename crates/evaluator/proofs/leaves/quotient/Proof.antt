@@ -5,7 +5,8 @@ use mir.Syntax.{w64}
 use borrow.Author.Needs.{needs}
 use Rattle.model.specs.Values.{_>>=_ as _andThen_, floorQuotient}
 use Rattle.evaluator.specs.Answers.{numberAnswer}
-use Rattle.evaluator.proofs.Integers.{back, zero-bits, not-zero}
+use Rattle.words.proofs.Integers.{back}
+use Rattle.evaluator.proofs.Integers.{zero-bits, not-zero}
 use Rattle.evaluator.proofs.leaves.quotient.Statement.{statement}
 use Rattle.evaluator.proofs.leaves.quotient.Tie as tie
 

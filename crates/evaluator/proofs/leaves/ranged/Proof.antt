@@ -3,7 +3,7 @@ use mathlib.Core.Path.{sym, _∙_}
 use borrow.Author.Needs.{needs}
 use Rattle.model.specs.Values.{inRange}
 use Rattle.evaluator.specs.Answers.{numberAnswer}
-use Rattle.evaluator.proofs.Integers.{back}
+use Rattle.words.proofs.Integers.{back}
 use Rattle.evaluator.proofs.leaves.ranged.Statement.{statement}
 use Rattle.evaluator.proofs.leaves.ranged.Tie as tie
 

@@ -2,7 +2,7 @@
 use borrow.Author.Needs.{needs}
 use Rattle.model.specs.Meaning.{equalZ}
 use Rattle.evaluator.specs.Runs.{compared}
-use Rattle.evaluator.proofs.Integers.{back}
+use Rattle.words.proofs.Integers.{back}
 use Rattle.evaluator.proofs.leaves.relation.Statement.{statement}
 use Rattle.evaluator.proofs.leaves.relation.Tie as tie
 

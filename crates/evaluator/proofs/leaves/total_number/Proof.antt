@@ -10,7 +10,7 @@ use Rattle.evaluator.specs.Runs.{entryOf, runSet}
 use Rattle.evaluator.proofs.Within.{set-element-small, set-element-within, set-within}
 use Rattle.evaluator.proofs.Opening.{total-none, total-some}
 use Rattle.evaluator.proofs.Slices.{behind, none-behind, some-behind}
-use Rattle.evaluator.proofs.Integers.{back}
+use Rattle.words.proofs.Integers.{back}
 use Rattle.evaluator.proofs.leaves.total_number.Statement.{statement}
 use Rattle.evaluator.proofs.leaves.total_number.Tie as tie
 

@@ -12,7 +12,7 @@ use Rattle.evaluator.specs.Runs.{place, runNumber, runCondition, numberA
 use Rattle.evaluator.proofs.Within.{number-within, condition-within, condition-known, number-past, condition-past, number-room, condition-room, variable-room, literal-room, member-room, pair-in-range, pair-run-within, number-at-within, condition-at-within}
 use Rattle.evaluator.proofs.Opening.{number-no-depth, number-no-byte, number-open, variable-open, literal-open, condition-no-depth, condition-no-byte, condition-open, member-open, pair-values, pair-second, pair-first, choice-first, choice-second, choice-trouble, connective-decided, connective-open, connective-trouble, before-value, before-trouble}
 use Rattle.evaluator.proofs.Spans.{span-within}
-use Rattle.evaluator.proofs.Integers.{back}
+use Rattle.words.proofs.Integers.{back}
 use Rattle.evaluator.proofs.Slices.{behind, first-at, none-behind, some-behind}
 use Rattle.evaluator.proofs.numbers.choice.Reads as choice
 use Rattle.evaluator.proofs.numbers.choice.Kinds as choice-kinds

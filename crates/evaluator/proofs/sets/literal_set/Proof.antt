@@ -6,7 +6,7 @@ use borrow.Author.Tests.{lt-ltb}
 use borrow.Author.Needs.{needs}
 use Rattle.evaluator.specs.Runs.{literalSet}
 use Rattle.evaluator.proofs.Opening.{literal-many, literal-few}
-use Rattle.evaluator.proofs.Slices.{suffix}
+use Rattle.words.proofs.Literal.{suffix}
 use Rattle.evaluator.proofs.sets.literal_set.Statement.{statement}
 use Rattle.evaluator.proofs.sets.literal_set.Tie as tie
 

@@ -1,5 +1,4 @@
 -- `evaluator::sets::set_near` meets its contract.
-use Prim.Native.Nat.{_+_}
 use mathlib.Core.Path.{sym, _∙_}
 use native.Mathlib.Omega.{arith}
 use lib.ListN.{drop}

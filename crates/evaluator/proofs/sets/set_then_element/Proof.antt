@@ -1,5 +1,4 @@
 -- `evaluator::sets::set_then_element` meets its contract.
-use Prim.Native.Nat.{_+_}
 use native.Mathlib.Omega.{arith}
 use borrow.Author.Needs.{needs}
 use Rattle.evaluator.specs.Runs.{setThenElement}

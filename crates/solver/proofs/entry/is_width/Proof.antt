@@ -4,7 +4,7 @@ use mathlib.Core.Path.{_≡_, refl, sym, _∙_}
 use native.Mathlib.Omega.{arith}
 use borrow.Author.Needs.{needs}
 use lib.ListN.{drop}
-use Rattle.solver.specs.Entered.{isWidth}
+use Rattle.search.specs.Run.{isWidth}
 use Rattle.solver.proofs.Entering.{widths, among, width-found, width-passed, widths-passed}
 use Rattle.solver.proofs.entry.is_width.Statement.{statement}
 use Rattle.solver.proofs.entry.is_width.Tie as tie
@@ -18,7 +18,6 @@ abbrev μ-loop : tie.MeasureT-loop
 μ-loop width i₀ i = 13 - i
 
 loop-holds : tie.Need-loop-holds Inv-loop μ-loop
-unfolding isWidth
 loop-holds c = (search needs, refl)
 
 mul-if1 : tie.Need-mul-if1 Inv-loop μ-loop

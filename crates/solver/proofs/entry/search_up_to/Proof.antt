@@ -6,9 +6,8 @@ use lib.ListN.{length}
 use Rattle.model.specs.Commands.{model}
 use Rattle.outline.specs.Outline.{refusalOf}
 use Rattle.search.specs.Run.{settingsFit, lentFits}
-use Rattle.solver.specs.Answers.{settings}
-use Rattle.solver.specs.Entered.{lentOf}
-use Rattle.solver.proofs.Entering.{doubling, some-steps, narrow, lent-both, refused-says, run-long, run-unfit, run-unlent, run-refused, run-says}
+use Rattle.solver.specs.Searches.{settings, lentOf}
+use Rattle.solver.proofs.Entering.{width-fits, some-steps, narrow, lent-both, refused-says, run-long, run-unfit, run-unlent, run-refused, run-says}
 use borrow.Author.Needs.{needs}
 use Rattle.solver.proofs.entry.search_up_to.Statement.{statement}
 use Rattle.solver.proofs.entry.search_up_to.Tie as tie
@@ -33,7 +32,7 @@ lent-fits-requires : tie.Need-lent-fits-requires
 lent-fits-requires c κs =
     let a = c .before .before .before .before .before .before .args in
     let fit : settingsFit (settings (a .width) (a .length) 0) ≡ true = sym (c .before .settings-fit .ensures) ∙ c .if2 .taken in
-    (narrow (a .width) (doubling (a .width) (a .length) 0 fit) .1, some-steps (a .width) (a .length) 0 fit)
+    (narrow (a .width) (width-fits (a .width) (a .length) 0 fit) .1, some-steps (a .width) (a .length) 0 fit)
 
 slice-aggregate-read-model : tie.Need-slice-aggregate-read-model
 slice-aggregate-read-model c = search needs
@@ -48,7 +47,7 @@ search-model-requires : tie.Need-search-model-requires
 search-model-requires c κs =
     let a = c .before .before .before .before .before .before .before .before .before .before .before .before .before .before .before .args in
     let fit : settingsFit (settings (a .width) (a .length) 0) ≡ true = sym (c .before .before .before .before .before .before .before .before .before .before .settings-fit .ensures) ∙ c .before .before .before .before .before .before .before .before .before .if2 .taken in
-    let two = doubling (a .width) (a .length) 0 fit in
+    let two = width-fits (a .width) (a .length) 0 fit in
     let enough : lentFits (settings (a .width) (a .length) 0) (lentOf (length (a .plan .now)) (length (a .words .now))) ≡ true = sym (c .before .before .before .before .before .before .before .before .lent-fits .ensures) ∙ c .before .before .before .before .before .before .before .if3 .taken in
     let both = lent-both (a .width) (a .length) (length (a .plan .now)) (length (a .words .now)) enough in
     let read = c .before .before .before .before .before .read-model .ensures in (

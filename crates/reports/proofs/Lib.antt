@@ -1,0 +1,2 @@
+-- Laws of the report of a run, and of its numbers.
+pub mod Reporting

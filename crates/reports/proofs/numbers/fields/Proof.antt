@@ -1,0 +1,27 @@
+-- `reports::numbers::fields` meets its contract, field by field.
+use Rattle.reports.proofs.Reporting.{in-numbers}
+use borrow.Author.Needs.{needs}
+use Rattle.reports.proofs.numbers.fields.Statement.{statement}
+use Rattle.reports.proofs.numbers.fields.Tie as tie
+use Rattle.reports.proofs.numbers.fields.Reads as reads
+use Rattle.reports.proofs.numbers.fields.Lts as lts
+use Rattle.reports.proofs.numbers.flag_number.Reads as flag-number-reads
+use Rattle.reports.proofs.numbers.outcome_number.Reads as outcome-number-reads
+use Rattle.reports.proofs.numbers.refused_number.Reads as refused-number-reads
+
+refused-number-requires : tie.Need-refused-number-requires
+refused-number-requires c κs = search needs
+
+outcome-number-requires : tie.Need-outcome-number-requires
+outcome-number-requires c κs = search needs
+
+flag-number-requires : tie.Need-flag-number-requires
+flag-number-requires c κs = search needs
+
+returns : tie.Need-returns
+returns c = in-numbers _ _ _ _ (c .before .before .refused-number .ensures) (c .before .outcome-number .ensures) (c .flag-number .ensures)
+
+pub fields-spec : {M : Type 1} → statement M
+fields-spec =
+    tie.close
+    (tie.spec refused-number-requires outcome-number-requires flag-number-requires returns)

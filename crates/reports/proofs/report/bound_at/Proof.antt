@@ -1,0 +1,64 @@
+-- `reports::report::bound_at` meets its contract, verdict by verdict.
+use Rattle.reports.proofs.Reporting.{bound-cost, bound-without, bound-none, bound-width, bound-length, bound-budget, bound-contradicted}
+use borrow.Author.Needs.{needs}
+use Rattle.reports.proofs.report.bound_at.Statement.{statement}
+use Rattle.reports.proofs.report.bound_at.Tie as tie
+use Rattle.reports.proofs.report.bound_at.Reads as reads
+use Rattle.reports.proofs.report.bound_at.Lts as lts
+
+enum-told : tie.Need-enum-told
+enum-told c = search needs
+
+enum-told-2 : tie.Need-enum-told-2
+enum-told-2 c = search needs
+
+enum-told-3 : tie.Need-enum-told-3
+enum-told-3 c = search needs
+
+enum-told-4 : tie.Need-enum-told-4
+enum-told-4 c = search needs
+
+enum-told-5 : tie.Need-enum-told-5
+enum-told-5 c = search needs
+
+enum-told-6 : tie.Need-enum-told-6
+enum-told-6 c = search needs
+
+returns : tie.Need-returns
+returns c = bound-cost _ _ (c .before .enum-told .given .1) (c .if1 .taken)
+
+returns-2 : tie.Need-returns-2
+returns-2 c = bound-without _ _ (c .before .enum-told .given .1) (c .if1 .left)
+
+returns-3 : tie.Need-returns-3
+returns-3 c = bound-none _ _ (c .enum-told2 .given .1)
+
+returns-4 : tie.Need-returns-4
+returns-4 c = bound-width _ _ (c .enum-told3 .given .1)
+
+returns-5 : tie.Need-returns-5
+returns-5 c = bound-length _ _ (c .enum-told4 .given .1)
+
+returns-6 : tie.Need-returns-6
+returns-6 c = bound-budget _ _ (c .enum-told5 .given .1)
+
+returns-7 : tie.Need-returns-7
+returns-7 c = bound-contradicted _ _ (c .enum-told6 .given .1)
+
+pub bound-at-spec : {M : Type 1} → statement M
+bound-at-spec =
+    tie.close
+    (tie.spec
+    enum-told
+    enum-told-2
+    enum-told-3
+    enum-told-4
+    enum-told-5
+    enum-told-6
+    returns
+    returns-2
+    returns-3
+    returns-4
+    returns-5
+    returns-6
+    returns-7)

@@ -1,0 +1,30 @@
+-- `reports::report::decided` meets its contract, with a best plan and without one.
+use mathlib.Core.Path.{refl}
+use Rattle.reports.proofs.Reporting.{decides-found, decides-none}
+use borrow.Author.Needs.{needs}
+use Rattle.reports.proofs.report.decided.Statement.{statement}
+use Rattle.reports.proofs.report.decided.Tie as tie
+use Rattle.reports.proofs.report.decided.Reads as reads
+use Rattle.reports.proofs.report.decided.Lts as lts
+use Rattle.reports.proofs.report.bound_at.Reads as bound-at-reads
+use Rattle.reports.proofs.report.copy_bytes.Reads as copy-bytes-reads
+
+bound-at-requires : tie.Need-bound-at-requires
+bound-at-requires c κs = search needs
+
+copy-bytes-requires : tie.Need-copy-bytes-requires
+copy-bytes-requires c κs = search needs
+
+same-length : tie.Need-same-length
+same-length c = search needs
+
+returns : tie.Need-returns
+returns c = decides-found _ _ _ _ _ _ (c .before .before .before .before .before .before .bound-at .ensures) (c .before .before .before .before .if1 .taken) (c .before .before .before .before .before .before .before .before .before .before .before .pre .0) (c .before .before .copy-bytes .ensures)
+
+returns-2 : tie.Need-returns-2
+returns-2 c = decides-none _ _ _ _ _ _ (c .before .before .bound-at .ensures) (c .if1 .left) refl
+
+pub decided-spec : {M : Type 1} → statement M
+decided-spec =
+    tie.close
+    (tie.spec bound-at-requires copy-bytes-requires same-length returns returns-2)

@@ -1,0 +1,102 @@
+-- `reports::report::report` meets its contract, ending by ending.
+use native.Mathlib.Omega.{arith}
+use Rattle.reports.proofs.Reporting.{inside-at, inside-beyond, reports-decided, reports-at, reports-beyond}
+use borrow.Author.Needs.{needs}
+use Rattle.reports.proofs.report.report.Statement.{statement}
+use Rattle.reports.proofs.report.report.Tie as tie
+use Rattle.reports.proofs.report.report.Reads as reads
+use Rattle.reports.proofs.report.report.Lts as lts
+use Rattle.reports.proofs.report.decided.Reads as decided-reads
+use Rattle.reports.proofs.report.refused.Reads as refused-reads
+use Rattle.routes.proofs.trace.trace.Reads as trace-reads
+
+enum-known-ending : tie.Need-enum-known-ending
+enum-known-ending c = search needs
+
+decided-requires : tie.Need-decided-requires
+decided-requires c κs = search needs
+
+enum-known-ending-2 : tie.Need-enum-known-ending-2
+enum-known-ending-2 c = search needs
+
+trace-requires : tie.Need-trace-requires
+trace-requires c κs =
+    let pre = c .before .before .before .before .before .before .before .pre in
+    let ends = inside-at _ (c .before .before .ending2 .given .1) (pre .inside) in
+    (pre .some-width, (pre .narrow, (omega arith, omega arith)))
+
+refused-requires : tie.Need-refused-requires
+refused-requires c κs = search needs
+
+enum-known-ending-3 : tie.Need-enum-known-ending-3
+enum-known-ending-3 c = search needs
+
+trace-requires-2 : tie.Need-trace-requires-2
+trace-requires-2 c κs =
+    let pre = c .before .before .before .before .before .before .before .pre in
+    let ends = inside-beyond _ (c .before .before .ending3 .given .1) (pre .inside) in
+    (pre .some-width, (pre .narrow, (omega arith, omega arith)))
+
+cast-plan : tie.Need-cast-plan
+cast-plan c =
+    let pre = c .before .before .before .before .before .before .before .before .before .before .pre in
+    let ends = inside-beyond _ (c .before .before .before .before .before .ending3 .given .1) (pre .inside) in
+    record { fits = omega arith }
+
+slice-write-plan : tie.Need-slice-write-plan
+slice-write-plan c =
+    let pre = c .before .before .before .before .before .before .before .before .before .before .pre in
+    let ends = inside-beyond _ (c .before .before .before .before .before .ending3 .given .1) (pre .inside) in
+    omega arith
+
+add-refused : tie.Need-add-refused
+add-refused c =
+    let pre = c .before .before .before .before .before .before .before .before .before .before .pre in
+    let ends = inside-beyond _ (c .before .before .before .before .before .ending3 .given .1) (pre .inside) in
+    record { fits = omega arith }
+
+refused-requires-2 : tie.Need-refused-requires-2
+refused-requires-2 c κs = search needs
+
+same-length : tie.Need-same-length
+same-length c = search needs
+
+returns : tie.Need-returns
+returns c = reports-decided _ _ _ _ _ _ _ (c .before .before .before .before .before .ending .given .1) (c .before .before .decided .ensures)
+
+same-length-2 : tie.Need-same-length-2
+same-length-2 c = search needs
+
+returns-2 : tie.Need-returns-2
+returns-2 c = reports-at _ _ _ _ _ _ _ _ _ (c .before .before .before .before .before .before .ending2 .given .1) (c .refused .ensures) (c .before .before .before .trace .ensures)
+
+same-length-3 : tie.Need-same-length-3
+same-length-3 c = search needs
+
+returns-3 : tie.Need-returns-3
+returns-3 c =
+    let pre = c .before .before .before .before .before .before .before .before .before .before .before .pre in
+    let ends = inside-beyond _ (c .before .before .before .before .before .before .ending3 .given .1) (pre .inside) in
+    reports-beyond _ _ _ _ _ _ _ _ _ _ (c .before .before .before .before .before .before .ending3 .given .1) (omega arith) (c .refused2 .ensures) (c .before .before .before .trace2 .ensures)
+
+pub report-spec : {M : Type 1} → statement M
+report-spec =
+    tie.close
+    (tie.spec
+    enum-known-ending
+    decided-requires
+    enum-known-ending-2
+    trace-requires
+    refused-requires
+    enum-known-ending-3
+    trace-requires-2
+    cast-plan
+    slice-write-plan
+    add-refused
+    refused-requires-2
+    same-length
+    returns
+    same-length-2
+    returns-2
+    same-length-3
+    returns-3)

@@ -1,0 +1,3 @@
+-- What a report says, by the definition's answer.
+pub mod Answers
+pub mod Reported

@@ -1,0 +1,3 @@
+-- What is promised of judgements, widths and runs in code.
+pub mod Runs
+pub mod Widths
