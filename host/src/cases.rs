@@ -15,18 +15,19 @@ pub const FILL: u8 = 0xA5;
 
 #[derive(Clone, PartialEq, Eq, Debug)]
 pub enum Call {
-    Check {
-        model: Bytes,
-        plan: Bytes,
-    },
-    Search {
-        model: Bytes,
-        width: u64,
-        length: u64,
-        budget: u64,
-        buffer: Bytes,
-        words: u64,
-    },
+    Check { model: Bytes, plan: Bytes },
+    Search(Search),
+}
+
+/// A search at these settings, with what is lent to it: a plan buffer, and so many words.
+#[derive(Clone, PartialEq, Eq, Debug)]
+pub struct Search {
+    pub model: Bytes,
+    pub width: u64,
+    pub length: u64,
+    pub budget: u64,
+    pub buffer: Bytes,
+    pub words: u64,
 }
 
 #[derive(Clone, PartialEq, Eq, Debug)]
@@ -38,13 +39,20 @@ pub enum Outcome {
 impl Call {
     /// A search with the buffers that its settings need.
     pub fn search(model: Bytes, width: u64, length: u64, budget: u64) -> Call {
-        Call::Search {
+        Call::Search(Search {
             model,
             width,
             length,
             budget,
             buffer: vec![FILL; length as usize],
             words: words_needed(width, length),
+        })
+    }
+
+    pub fn model(&self) -> &Bytes {
+        match self {
+            Call::Check { model, .. } => model,
+            Call::Search(search) => &search.model,
         }
     }
 
@@ -54,19 +62,28 @@ impl Call {
                 let (answer, cost) = plan_check_with(slip, model, plan);
                 Outcome::Check(answer, cost)
             }
-            Call::Search {
-                model,
-                width,
-                length,
-                budget,
-                buffer,
-                words,
-            } => {
-                let mut after = buffer.clone();
-                let answer = search_with(slip, model, *width, *length, *budget, &mut after, *words);
+            Call::Search(search) => {
+                let (answer, after) = search.run(slip);
                 Outcome::Search(answer, after)
             }
         }
+    }
+}
+
+impl Search {
+    /// The answer, and the plan buffer afterwards.
+    pub fn run(&self, slip: Slip) -> (Answer, Bytes) {
+        let mut after = self.buffer.clone();
+        let answer = search_with(
+            slip,
+            &self.model,
+            self.width,
+            self.length,
+            self.budget,
+            &mut after,
+            self.words,
+        );
+        (answer, after)
     }
 }
 

@@ -1,7 +1,7 @@
 //! The fast search gives every answer field and every plan byte of the reference.
 
 use repgypsum_host::build::*;
-use repgypsum_host::cases::{groups, Call, Outcome, FILL};
+use repgypsum_host::cases::{groups, Call, FILL};
 use repgypsum_host::families::families;
 use repgypsum_host::fast;
 use repgypsum_host::generate::{damaged, model, settings, Random};
@@ -62,27 +62,17 @@ fn stored_searches() {
     let mut met = Met::default();
     for (_, cases) in groups() {
         for case in cases {
-            let outcome = case.call.run(Slip::Nothing);
-            let (
-                Call::Search {
-                    model,
-                    width,
-                    length,
-                    budget,
-                    buffer,
-                    ..
-                },
-                Outcome::Search(expected, expected_buffer),
-            ) = (case.call, outcome)
-            else {
+            let Call::Search(search) = case.call else {
                 continue;
             };
+            let (expected, expected_buffer) = search.run(Slip::Nothing);
             met.count(&expected);
             if (expected.refused, expected.number) == (true, refusal::LENT) {
                 continue;
             }
-            let (found, plan) = fast::search(&model, width, length, budget);
-            let mut left = buffer;
+            let (found, plan) =
+                fast::search(&search.model, search.width, search.length, search.budget);
+            let mut left = search.buffer;
             left[..plan.len()].copy_from_slice(&plan);
             assert_eq!((found, left), (expected, expected_buffer));
         }
@@ -97,8 +87,7 @@ fn stored_models() {
     let mut met = Met::default();
     for (_, cases) in groups() {
         for case in cases {
-            let (Call::Check { model, .. } | Call::Search { model, .. }) = case.call;
-            compare(&mut met, &model, (4, 8, 60));
+            compare(&mut met, case.call.model(), (4, 8, 60));
         }
     }
     println!("{} searches, {met:?}", met.total());

@@ -74,19 +74,10 @@ fn stored_cases() {
                     assert_eq!(proved::plan_check(model, plan), (answer, cost));
                     checks += 1;
                 }
-                (
-                    Call::Search {
-                        model,
-                        width,
-                        length,
-                        budget,
-                        buffer,
-                        words,
-                    },
-                    Outcome::Search(..),
-                ) => {
-                    let lent = (*words).min(400_000);
-                    compare(model, (*width, *length, *budget), buffer.len(), lent);
+                (Call::Search(search), Outcome::Search(..)) => {
+                    let settings = (search.width, search.length, search.budget);
+                    let words = search.words.min(400_000);
+                    compare(&search.model, settings, search.buffer.len(), words);
                     searches += 1;
                 }
                 _ => unreachable!("a call has its own outcome"),

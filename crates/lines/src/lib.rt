@@ -6,8 +6,8 @@ use io::write_all;
 use libc::STDOUT_FILENO;
 use reports::answers::Answer;
 use reports::answers::Outcome;
-use reports::numbers::flag_number;
-use reports::numbers::outcome_number;
+use reports::figures::flag_number;
+use reports::figures::outcome_number;
 use solver::exports::plan_part;
 
 // The numbers of the line, in their order.

@@ -6,7 +6,7 @@ ghost use Rattle.reports.specs.Answers.{FieldsAre};
 ghost use Rattle.solver.specs.Searches.{BuffersAre, Guaranteed, runOf};
 use crate::entry::search;
 use reports::answers::Fields;
-use reports::numbers::fields;
+use reports::figures::fields;
 
 // The search: its answer in numbers, with the plan at the front of the plan buffer.
 #[no_mangle]

@@ -16,6 +16,8 @@ use Rattle.evaluator.specs.Runs.{Place, place, runElement, runSet, runNumber, r
 use Rattle.evaluator.specs.Promise.{Describes}
 use Rattle.evaluator.proofs.Promises.{run-number, run-condition, run-set, run-element}
 use Rattle.evaluator.proofs.Within.{number-within, condition-within, set-within, element-within, element-small}
+use Rattle.conjunctions.specs.Stopped.{stopped}
+use Rattle.conjunctions.proofs.Stopping.{stopped-within}
 use Rattle.steps.specs.Held.{Outlined}
 use Rattle.steps.specs.Says.{ConditionSays, NumberSays, ElementSays, SetSays}
 
@@ -33,11 +35,12 @@ module _ (bytes words : List ℕ) (o : Outlined bytes words) (at : ℕ) (state :
     tabled = λ t h. rw (getD-drop 80 words t 0) (o .outlines .tables t h);
   }
 
-  pub condition-promised : (r : ConditionValue) → r ≡ runCondition mostNesting (place bytes state (lent 64 words) (lent 80 words)) (lent at bytes)
+  pub condition-promised : (r : ConditionValue) → r ≡ stopped (runCondition mostNesting (place bytes state (lent 64 words) (lent 80 words)) (lent at bytes))
       → ConditionSays bytes at state r × ConditionWithin (length bytes - at) r
   condition-promised r e =
-      let f : r ≡ runCondition mostNesting here (drop at bytes) = rw (suffix 64 words, suffix 80 words, suffix at bytes) at e in
-      rw (f, ← length-drop at bytes) (λ x n h. run-condition mostNesting here (drop at bytes) _ _ x n described h, condition-within mostNesting here (drop at bytes))
+      let f : r ≡ stopped (runCondition mostNesting here (drop at bytes)) = rw (suffix 64 words, suffix 80 words, suffix at bytes) at e in
+      rw (f, ← length-drop at bytes)
+      (λ x n h. ap stopped (run-condition mostNesting here (drop at bytes) _ _ x n described h), stopped-within _ _ (condition-within mostNesting here (drop at bytes)))
 
   pub number-promised : (r : NumberValue) → r ≡ runNumber mostNesting (place bytes state (lent 64 words) (lent 80 words)) (lent at bytes)
       → NumberSays bytes at state r × NumberWithin (length bytes - at) r

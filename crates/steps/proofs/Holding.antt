@@ -18,6 +18,7 @@ use Rattle.evaluator.specs.declared.answers.ConditionValue.{ConditionValue}
 use Rattle.evaluator.specs.declared.answers.ConditionValue.the-variants as C
 use Rattle.evaluator.specs.Answers.{conditionAnswer}
 use Rattle.evaluator.specs.Bounds.{ConditionWithin}
+use Rattle.conjunctions.specs.Stopped.{stopped}
 use Rattle.steps.specs.declared.answers.HeldAnswer.the-variants as H
 use Rattle.steps.specs.Held.{stateIn}
 use Rattle.steps.specs.Answers.{heldAnswer}
@@ -33,16 +34,18 @@ byte-inside bytes at b e h = by-test (leb (length bytes) at) (leb-true (length b
     by-test true f g = let z : getD bytes at 0 ≡ 0 = List·getD-eq-default bytes 0 (f refl) in absurd (omega arith)
     by-test false f g = g refl
 
--- ---- an evaluator's answer taken apart
+-- ---- a test's answer taken apart
 
-pub condition-holds : (v : Value Bool) (n : ℕ) {b : Bool} {k : ℕ} → conditionAnswer v n ≡ C.Holds b k → (v ≡ value b) × (n ≡ k)
-unfolding conditionAnswer
-condition-holds (value a) n e = (cc, cc)
+pub condition-holds : (v : Value Bool) (n : ℕ) {b : Bool} {k : ℕ} → stopped (conditionAnswer v n) ≡ C.Holds b k → (v ≡ value b) × (b ≡ true → n ≡ k)
+unfolding conditionAnswer stopped
+condition-holds (value true) n e = (cc, λ y. cc)
+condition-holds (value false) n e = (cc, λ y. let z : _≡_ {A = ℕ} 0 1 = cc in absurd (omega arith))
 condition-holds (trouble t) n e = let z : _≡_ {A = ℕ} 0 1 = cc in absurd (omega arith)
 
-pub condition-troubles : (v : Value Bool) (n : ℕ) {t : ℕ} → conditionAnswer v n ≡ C.Trouble t → v ≡ trouble t
-unfolding conditionAnswer
-condition-troubles (value a) n e = let z : _≡_ {A = ℕ} 0 1 = cc in absurd (omega arith)
+pub condition-troubles : (v : Value Bool) (n : ℕ) {t : ℕ} → stopped (conditionAnswer v n) ≡ C.Trouble t → v ≡ trouble t
+unfolding conditionAnswer stopped
+condition-troubles (value true) n e = let z : _≡_ {A = ℕ} 0 1 = cc in absurd (omega arith)
+condition-troubles (value false) n e = let z : _≡_ {A = ℕ} 0 1 = cc in absurd (omega arith)
 condition-troubles (trouble t) n e = cc
 
 pub holds-within : (l : ℕ) {r : ConditionValue} {b : Bool} {k : ℕ} → r ≡ C.Holds b k → ConditionWithin l r → k ≤ l
@@ -82,7 +85,7 @@ module _ (bytes state : List ℕ) where
 
     module _ (byte : getD bytes next 0 ≡ 0x08) (r : ConditionValue) (says : ConditionSays bytes (next + 1) state r) where
       said : {l : List Condition} {end : ℕ} (t : Left l next end) (f : First 0x08 (ConditionAt (modelOf bytes .variables) (modelOf bytes .tables) bytes) bytes next (t .rest) end)
-          → r ≡ conditionAnswer (conditionValue rangeEnd (modelOf bytes .tables) (f .first) (stateIn bytes state)) (f .part .used)
+          → r ≡ stopped (conditionAnswer (conditionValue rangeEnd (modelOf bytes .tables) (f .first) (stateIn bytes state)) (f .part .used))
       said t f = says (f .first) (f .part .used) (f .part .reads)
 
       pub trying-more : {b : Bool} {k : ℕ} → r ≡ C.Holds b k → b ≡ true → Trying at (next + 1 + k)
@@ -91,7 +94,7 @@ module _ (bytes state : List ℕ) where
           let t = tried l n h in
           let f = first-of _ _ _ (t .listed) byte in
           let p = condition-holds _ (f .part .used) (sym (said t f) ∙ e) in
-          let q : f .next ≡ next + 1 + k = omega (arith, f .part .ends, p .1) in
+          let q : f .next ≡ next + 1 + k = omega (arith, f .part .ends, p .1 y) in
           record { rest = f .others; listed = rw q at (f .behind); same = t .same ∙ ap allIn (f .whole) ∙ rw (p .0, y) }
 
       pub trying-fails : {b : Bool} {k : ℕ} → r ≡ C.Holds b k → b ≡ false → HeldSays bytes at state H.Fails

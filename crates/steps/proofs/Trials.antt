@@ -18,6 +18,7 @@ use Rattle.evaluator.specs.declared.answers.NumberValue.{NumberValue}
 use Rattle.evaluator.specs.declared.answers.NumberValue.the-variants as N
 use Rattle.evaluator.specs.Answers.{numberAnswer, conditionAnswer}
 use Rattle.evaluator.specs.Bounds.{NumberWithin}
+use Rattle.conjunctions.specs.Stopped.{stopped}
 use Rattle.steps.specs.declared.answers.HeldAnswer.{HeldAnswer}
 use Rattle.steps.specs.declared.answers.HeldAnswer.the-variants as H
 use Rattle.steps.specs.declared.answers.StatusAnswer.the-variants as S
@@ -122,7 +123,7 @@ module _ (bytes words : List ℕ) (o : Outlined bytes words) (state : List ℕ) 
     meeting-last h = rw (passed, drop-of-length-le (modelOf bytes .constraints) h)
 
     module _ (h : k < length (modelOf bytes .constraints)) (at : ℕ) (place : at ≡ getD words (constraintsFrom + k) 0) (r : ConditionValue) (says : ConditionSays bytes at state r) where
-      constraint-at : (n : Nth (modelOf bytes .constraints) k) → conditionAnswer (conditionValue rangeEnd (modelOf bytes .tables) (n .nth) (stateIn bytes state)) (o .outlines .constraints k (n .nth) (n .found) .used) ≡ r
+      constraint-at : (n : Nth (modelOf bytes .constraints) k) → stopped (conditionAnswer (conditionValue rangeEnd (modelOf bytes .tables) (n .nth) (stateIn bytes state)) (o .outlines .constraints k (n .nth) (n .found) .used)) ≡ r
       constraint-at n = let i = o .outlines .constraints k (n .nth) (n .found) in sym (says (n .nth) (i .used) (rw place (i .reads)))
 
       pub meeting-more : {b : Bool} {i : ℕ} → r ≡ C.Holds b i → b ≡ true → Meeting bytes state (k + 1)

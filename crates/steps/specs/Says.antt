@@ -21,6 +21,7 @@ use Rattle.evaluator.specs.declared.answers.ConditionValue.{ConditionValue}
 use Rattle.evaluator.specs.declared.answers.ElementValue.{ElementValue}
 use Rattle.evaluator.specs.declared.answers.SetValue.{SetValue}
 use Rattle.evaluator.specs.Answers.{numberAnswer, conditionAnswer}
+use Rattle.conjunctions.specs.Stopped.{stopped}
 use Rattle.outline.specs.Outline.{modelOf}
 use Rattle.steps.specs.declared.answers.HeldAnswer.{HeldAnswer}
 use Rattle.steps.specs.declared.answers.CostAnswer.{CostAnswer}
@@ -78,7 +79,7 @@ module _ (bytes : List ℕ) where
   module _ (at : ℕ) (state : List ℕ) where
     abbrev pub ConditionSays : ConditionValue → Type 0
     ConditionSays r = (x : Condition) (n : ℕ) → reading.condition variablesIn tablesIn mostNesting (drop at bytes) ≡ read x n
-        → r ≡ conditionAnswer (conditionValue rangeEnd tablesIn x (stateIn bytes state)) n
+        → r ≡ stopped (conditionAnswer (conditionValue rangeEnd tablesIn x (stateIn bytes state)) n)
 
     abbrev pub NumberSays : NumberValue → Type 0
     NumberSays r = (x : Number) (n : ℕ) → reading.number variablesIn tablesIn mostNesting (drop at bytes) ≡ read x n

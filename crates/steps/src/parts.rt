@@ -8,14 +8,14 @@ ghost use Rattle.steps.specs.Held.{Outlined};
 ghost use Rattle.steps.specs.Says.{ConditionSays, NumberSays, ElementSays, SetSays};
 use crate::layout::FULL_SETS;
 use crate::layout::TABLES;
+use conjunctions::test;
 use evaluator::answers::ConditionValue;
 use evaluator::answers::ElementValue;
 use evaluator::answers::NumberValue;
 use evaluator::answers::SetValue;
-use evaluator::numbers::condition;
-use evaluator::numbers::number;
 use evaluator::sets::element;
 use evaluator::sets::set;
+use numbers::number;
 
 // The byte at a place, or 0 where there is none.
 pub fn byte_at(bytes: &[u8], at: usize) -> u8
@@ -24,12 +24,12 @@ pub fn byte_at(bytes: &[u8], at: usize) -> u8
     if at < bytes.len() { bytes[at] } else { 0 }
 }
 
-// The value of the condition at a place.
+// Whether the condition at a place holds, and its bytes where it does.
 pub fn condition_at(model: &[u8], at: usize, outline: &[u64], state: &[u64]) -> ConditionValue
     requires { ⌜ Outlined (now model) (now outline) × (at ≤ length (now model)) ⌝ }
     ensures { λ r. ⌜ ConditionSays (now (model .entry)) at (now (state .entry)) r × ConditionWithin (length (now (model .entry)) - at) r ⌝ }
 {
-    condition(
+    test(
         &model[at..],
         model,
         state,

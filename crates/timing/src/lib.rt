@@ -19,7 +19,7 @@ pub extern "C" fn repgypsum_number_value(
 ) -> i64
     ensures { λ r. ⌜ r ≡ numberCode (runNumber 32 (place (now (model .entry)) (now (state .entry)) (now (full .entry)) (now (tables .entry))) (now (e .entry))) ⌝ }
 {
-    match evaluator::numbers::number(e, model, state, full, tables, 32) {
+    match numbers::number(e, model, state, full, tables, 32) {
         NumberValue::Value(z, _) => z,
         NumberValue::Trouble(_) => -9223372036854775808,
     }
@@ -36,7 +36,7 @@ pub extern "C" fn repgypsum_condition_value(
 ) -> u8
     ensures { λ r. ⌜ r ≡ conditionCode (runCondition 32 (place (now (model .entry)) (now (state .entry)) (now (full .entry)) (now (tables .entry))) (now (e .entry))) ⌝ }
 {
-    match evaluator::numbers::condition(e, model, state, full, tables, 32) {
+    match numbers::condition(e, model, state, full, tables, 32) {
         ConditionValue::Holds(b, _) => if b { 1 } else { 0 },
         ConditionValue::Trouble(_) => 2,
     }

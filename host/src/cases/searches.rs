@@ -1,6 +1,6 @@
 //! Searches: settings, verdicts, marks, bounds, trouble and its path, by hand and at random.
 
-use super::{Call, Case, Cases, Outcome, FILL};
+use super::{Call, Case, Cases, Outcome, Search, FILL};
 use crate::build::*;
 use crate::generate::{graph as random_graph, model, settings, Random};
 use crate::models::{sop, three_designs, tsptw, Designs};
@@ -77,14 +77,14 @@ fn proved(cases: &mut Cases) {
 /// A search with plan bytes and words as given.
 fn search_lent(model: Bytes, settings: (u64, u64, u64), plan_bytes: usize, words: u64) -> Call {
     let (width, length, budget) = settings;
-    Call::Search {
+    Call::Search(Search {
         model,
         width,
         length,
         budget,
         buffer: vec![FILL; plan_bytes],
         words,
-    }
+    })
 }
 
 fn refused(number: u8) -> String {

@@ -1,6 +1,6 @@
 //! The cases as source text of vector modules.
 
-use super::{groups, Call, Case, Outcome};
+use super::{groups, Call, Case, Outcome, Search};
 use crate::line::{answer_line, fields, LONGEST_MODEL};
 use crate::reference::{plan_check, refusal};
 use crate::slip::Slip;
@@ -28,25 +28,19 @@ fn case_text(case: &Case) -> String {
         (Call::Check { model, plan }, Outcome::Check(answer, cost)) => {
             format!("checked {} {} {answer} {cost}", hex(model), hex(plan))
         }
-        (
-            Call::Search {
-                model,
-                width,
-                length,
-                budget,
-                buffer,
-                words,
-            },
-            outcome,
-        ) => {
+        (Call::Search(search), outcome) => {
             let fields: Vec<String> = outcome.fields().iter().map(u64::to_string).collect();
             let Outcome::Search(_, after) = outcome else {
                 unreachable!("a search has a search's outcome")
             };
             format!(
-                "searched {} {width} {length} {budget} {} {words} ({} ∷ []) {}",
-                hex(model),
-                hex(buffer),
+                "searched {} {} {} {} {} {} ({} ∷ []) {}",
+                hex(&search.model),
+                search.width,
+                search.length,
+                search.budget,
+                hex(&search.buffer),
+                search.words,
                 fields.join(" ∷ "),
                 hex(&after)
             )
@@ -169,28 +163,16 @@ impl SearchCases {
         file
     }
 
-    fn add(&mut self, name: &str, call: &Call) {
-        let Call::Search {
-            model,
-            width,
-            length,
-            budget,
-            buffer,
-            words,
-        } = call
-        else {
-            return;
-        };
-        let Outcome::Search(answer, after) = call.run(Slip::Nothing) else {
-            unreachable!("a search has a search's outcome")
-        };
-        let file = self.file(name, model);
-        let plan_bytes = buffer.len().min(MOST_PLAN_BYTES);
-        let words = (*words).min(MOST_WORDS);
+    fn add(&mut self, name: &str, search: &Search) {
+        let (answer, after) = search.run(Slip::Nothing);
+        let file = self.file(name, &search.model);
+        let plan_bytes = search.buffer.len().min(MOST_PLAN_BYTES);
+        let words = search.words.min(MOST_WORDS);
+        let settings = [search.width, search.length, search.budget];
         for word in [name, &file] {
             writeln!(self.arguments, "{word}").unwrap();
         }
-        for number in [*width, *length, *budget, plan_bytes as u64, words] {
+        for number in settings.into_iter().chain([plan_bytes as u64, words]) {
             writeln!(self.arguments, "{number}").unwrap();
         }
         let line = answer_line(&answer, &after);
@@ -207,11 +189,11 @@ pub fn search_cases() -> SearchCases {
     let mut all = SearchCases::default();
     for case in super::searches::cases() {
         let Some(note) = &case.note else { continue };
-        let Call::Search { model, .. } = &case.call else {
+        let Call::Search(search) = &case.call else {
             continue;
         };
-        if model.len() <= LONGEST_MODEL {
-            all.add(&slug(note), &case.call);
+        if search.model.len() <= LONGEST_MODEL {
+            all.add(&slug(note), search);
         }
     }
     // the lengths at which 1 is told, which the program makes itself

@@ -164,25 +164,18 @@ fn stored_searches() {
     let mut searches = 0;
     for (_, cases) in groups() {
         for case in cases {
-            let Call::Search {
-                model,
-                width,
-                length,
-                budget,
-                ..
-            } = &case.call
-            else {
+            let Call::Search(search) = case.call else {
                 continue;
             };
             let settings = [
-                ("--width", width),
-                ("--length", length),
-                ("--budget", budget),
+                ("--width", search.width),
+                ("--length", search.length),
+                ("--budget", search.budget),
             ];
             let settings = settings.map(|(name, value)| format!("{name}={value}"));
             let mut arguments = vec!["explain"];
             arguments.extend(settings.iter().map(String::as_str));
-            let left = run_with(&arguments, model);
+            let left = run_with(&arguments, &search.model);
             let refused = left.text().contains("\nRefused ");
             assert_eq!(
                 (left.status, left.errors.as_str()),

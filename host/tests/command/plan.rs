@@ -1,7 +1,7 @@
 //! `repgypsum plan`: the line, the fields, settings at the edges, what is lent.
 
 use super::{designs_with, example, file, run, run_with, EXAMPLES};
-use repgypsum_host::cases::{groups, Call, Outcome};
+use repgypsum_host::cases::{groups, Call};
 use repgypsum_host::line::answer_line;
 use repgypsum_host::models::three_designs;
 use repgypsum_host::slip::Slip;
@@ -129,22 +129,12 @@ fn stored_searches() {
     let mut searches = 0;
     for (_, cases) in groups() {
         for case in cases {
-            let Call::Search {
-                model,
-                width,
-                length,
-                budget,
-                buffer,
-                words,
-            } = &case.call
-            else {
+            let Call::Search(search) = case.call else {
                 continue;
             };
-            let Outcome::Search(answer, after) = case.call.run(Slip::Nothing) else {
-                unreachable!("a search has a search's outcome");
-            };
-            let words = (*words).min(400_000).to_string();
-            let numbers = [width, length, budget].map(u64::to_string);
+            let (answer, after) = search.run(Slip::Nothing);
+            let words = search.words.min(400_000).to_string();
+            let numbers = [search.width, search.length, search.budget].map(|n| n.to_string());
             let arguments = [
                 "plan",
                 "--width",
@@ -154,12 +144,12 @@ fn stored_searches() {
                 "--budget",
                 &numbers[2],
                 "--plan-bytes",
-                &buffer.len().to_string(),
+                &search.buffer.len().to_string(),
                 "--words",
                 &words,
             ];
             let due = format!("{}\n", answer_line(&answer, &after));
-            run_with(&arguments, model).is(i32::from(answer.refused), &due);
+            run_with(&arguments, &search.model).is(i32::from(answer.refused), &due);
             searches += 1;
         }
     }

@@ -2,7 +2,7 @@
 
 use super::{example_texts, round_trip};
 use repgypsum_host::build::*;
-use repgypsum_host::cases::{groups, Call};
+use repgypsum_host::cases::groups;
 use repgypsum_host::generate::{damaged, model, Random};
 use repgypsum_host::line::line;
 use repgypsum_host::models::{sop, three_designs, tsptw, Designs};
@@ -31,8 +31,7 @@ fn stored_cases() {
     let (mut accepted, mut refused) = (0, 0);
     for (_, cases) in groups() {
         for case in cases {
-            let (Call::Check { model, .. } | Call::Search { model, .. }) = &case.call;
-            *if round_trip(model) {
+            *if round_trip(case.call.model()) {
                 &mut accepted
             } else {
                 &mut refused

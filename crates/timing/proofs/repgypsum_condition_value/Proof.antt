@@ -4,7 +4,7 @@ use Rattle.timing.proofs.repgypsum_condition_value.Statement.{statement
 use Rattle.timing.proofs.repgypsum_condition_value.Tie as tie
 use Rattle.timing.proofs.repgypsum_condition_value.Reads as reads
 use Rattle.timing.proofs.repgypsum_condition_value.Lts as lts
-use Rattle.evaluator.proofs.numbers.condition.Reads as condition-reads
+use Rattle.numbers.proofs.condition.Reads as condition-reads
 
 condition-requires : tie.Need-condition-requires
 condition-requires c κs = search needs

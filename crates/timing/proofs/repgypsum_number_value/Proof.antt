@@ -7,7 +7,7 @@ use Rattle.timing.proofs.repgypsum_number_value.Statement.{statement}
 use Rattle.timing.proofs.repgypsum_number_value.Tie as tie
 use Rattle.timing.proofs.repgypsum_number_value.Reads as reads
 use Rattle.timing.proofs.repgypsum_number_value.Lts as lts
-use Rattle.evaluator.proofs.numbers.number.Reads as number-reads
+use Rattle.numbers.proofs.number.Reads as number-reads
 
 number-requires : tie.Need-number-requires
 number-requires c κs = search needs

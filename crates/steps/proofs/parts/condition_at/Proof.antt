@@ -4,51 +4,51 @@ use borrow.Author.Needs.{needs}
 use Rattle.steps.proofs.parts.condition_at.Statement.{statement}
 use Rattle.steps.proofs.parts.condition_at.Tie as tie
 
-sub-condition : tie.Need-sub-condition
-sub-condition c = search needs
+sub-test : tie.Need-sub-test
+sub-test c = search needs
 
-part-condition-start : tie.Need-part-condition-start
-part-condition-start c = search needs
+part-test-start : tie.Need-part-test-start
+part-test-start c = search needs
 
-part-condition-end : tie.Need-part-condition-end
-part-condition-end c = search needs
+part-test-end : tie.Need-part-test-end
+part-test-end c = search needs
 
-sub-condition-2 : tie.Need-sub-condition-2
-sub-condition-2 c = search needs
+sub-test-2 : tie.Need-sub-test-2
+sub-test-2 c = search needs
 
-part-condition-start-2 : tie.Need-part-condition-start-2
-part-condition-start-2 c = search needs
+part-test-start-2 : tie.Need-part-test-start-2
+part-test-start-2 c = search needs
 
-part-condition-end-2 : tie.Need-part-condition-end-2
-part-condition-end-2 c = search needs
+part-test-end-2 : tie.Need-part-test-end-2
+part-test-end-2 c = search needs
 
-sub-condition-3 : tie.Need-sub-condition-3
-sub-condition-3 c = search needs
+sub-test-3 : tie.Need-sub-test-3
+sub-test-3 c = search needs
 
-part-condition-start-3 : tie.Need-part-condition-start-3
-part-condition-start-3 c = search needs
+part-test-start-3 : tie.Need-part-test-start-3
+part-test-start-3 c = search needs
 
-part-condition-end-3 : tie.Need-part-condition-end-3
-part-condition-end-3 c = search needs
+part-test-end-3 : tie.Need-part-test-end-3
+part-test-end-3 c = search needs
 
-condition-requires : tie.Need-condition-requires
-condition-requires c κs = search needs
+test-requires : tie.Need-test-requires
+test-requires c κs = search needs
 
 returns : tie.Need-returns
-returns c = condition-promised _ _ (c .before .before .before .before .before .before .before .pre .0) _ _ _ (c .condition .ensures .0)
+returns c = condition-promised _ _ (c .before .before .before .before .before .before .before .pre .0) _ _ _ (c .test .ensures)
 
 pub condition-at-spec : {M : Type 1} → statement M
 condition-at-spec =
     tie.close
     (tie.spec
-    sub-condition
-    part-condition-start
-    part-condition-end
-    sub-condition-2
-    part-condition-start-2
-    part-condition-end-2
-    sub-condition-3
-    part-condition-start-3
-    part-condition-end-3
-    condition-requires
+    sub-test
+    part-test-start
+    part-test-end
+    sub-test-2
+    part-test-start-2
+    part-test-end-2
+    sub-test-3
+    part-test-start-3
+    part-test-end-3
+    test-requires
     returns)

@@ -1,9 +1,9 @@
--- `evaluator::numbers::number` meets its contract.
+-- `numbers::number` meets its contract.
 use borrow.Author.Needs.{needs}
 use Rattle.evaluator.specs.Runs.{place}
 use Rattle.evaluator.proofs.Promises.{number-kept}
-use Rattle.evaluator.proofs.numbers.number.Statement.{statement}
-use Rattle.evaluator.proofs.numbers.number.Tie as tie
+use Rattle.numbers.proofs.number.Statement.{statement}
+use Rattle.numbers.proofs.number.Tie as tie
 
 number-from-requires : tie.Need-number-from-requires
 number-from-requires c κs = search needs

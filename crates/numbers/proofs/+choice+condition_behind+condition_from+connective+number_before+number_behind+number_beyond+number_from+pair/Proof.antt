@@ -8,60 +8,60 @@ use mir.Syntax.{w64}
 use borrow.Author.Needs.{needs}
 use borrow.Fn.Kinds.{In}
 use borrow.Fn.PlainCycle.{Measures, is, falls, and}
 use Rattle.evaluator.specs.Runs.{place, runNumber, runCondition, numberAt, conditionAt, numberBehind, conditionBehind, runPair, chosen, skipAt}
 use Rattle.evaluator.proofs.Within.{number-within, condition-within, condition-known, number-past, condition-past, number-room, condition-room, variable-room, literal-room, member-room, pair-in-range, pair-run-within, number-at-within, condition-at-within}
 use Rattle.evaluator.proofs.Opening.{number-no-depth, number-no-byte, number-open, variable-open, literal-open, condition-no-depth, condition-no-byte, condition-open, member-open, pair-values, pair-second, pair-first, choice-first, choice-second, choice-trouble, connective-decided, connective-open, connective-trouble, before-value, before-trouble}
 use Rattle.evaluator.proofs.Spans.{span-within}
 use Rattle.words.proofs.Integers.{back}
 use Rattle.evaluator.proofs.Slices.{behind, first-at, none-behind, some-behind}
-use Rattle.evaluator.proofs.numbers.choice.Reads as choice
-use Rattle.evaluator.proofs.numbers.choice.Kinds as choice-kinds
-use Rattle.evaluator.proofs.numbers.+choice+condition_behind+condition_from+connective+number_before+number_behind+number_beyond+number_from+pair.Lts-choice as choice-lts
-use Rattle.evaluator.proofs.numbers.condition_behind.Reads as condition-behind
-use Rattle.evaluator.proofs.numbers.condition_behind.Kinds as condition-behind-kinds
-use Rattle.evaluator.proofs.numbers.+choice+condition_behind+condition_from+connective+number_before+number_behind+number_beyond+number_from+pair.Lts-condition_behind as condition-behind-lts
-use Rattle.evaluator.proofs.numbers.condition_from.Reads as condition-from
-use Rattle.evaluator.proofs.numbers.condition_from.Kinds as condition-from-kinds
-use Rattle.evaluator.proofs.numbers.+choice+condition_behind+condition_from+connective+number_before+number_behind+number_beyond+number_from+pair.Lts-condition_from as condition-from-lts
-use Rattle.evaluator.proofs.numbers.connective.Reads as connective
-use Rattle.evaluator.proofs.numbers.connective.Kinds as connective-kinds
-use Rattle.evaluator.proofs.numbers.+choice+condition_behind+condition_from+connective+number_before+number_behind+number_beyond+number_from+pair.Lts-connective as connective-lts
-use Rattle.evaluator.proofs.numbers.number_before.Reads as number-before
-use Rattle.evaluator.proofs.numbers.number_before.Kinds as number-before-kinds
-use Rattle.evaluator.proofs.numbers.+choice+condition_behind+condition_from+connective+number_before+number_behind+number_beyond+number_from+pair.Lts-number_before as number-before-lts
-use Rattle.evaluator.proofs.numbers.number_behind.Reads as number-behind
-use Rattle.evaluator.proofs.numbers.number_behind.Kinds as number-behind-kinds
-use Rattle.evaluator.proofs.numbers.+choice+condition_behind+condition_from+connective+number_before+number_behind+number_beyond+number_from+pair.Lts-number_behind as number-behind-lts
-use Rattle.evaluator.proofs.numbers.number_beyond.Reads as number-beyond
-use Rattle.evaluator.proofs.numbers.number_beyond.Kinds as number-beyond-kinds
-use Rattle.evaluator.proofs.numbers.+choice+condition_behind+condition_from+connective+number_before+number_behind+number_beyond+number_from+pair.Lts-number_beyond as number-beyond-lts
-use Rattle.evaluator.proofs.numbers.number_from.Reads as number-from
-use Rattle.evaluator.proofs.numbers.number_from.Kinds as number-from-kinds
-use Rattle.evaluator.proofs.numbers.+choice+condition_behind+condition_from+connective+number_before+number_behind+number_beyond+number_from+pair.Lts-number_from as number-from-lts
-use Rattle.evaluator.proofs.numbers.pair.Reads as pair
-use Rattle.evaluator.proofs.numbers.pair.Kinds as pair-kinds
-use Rattle.evaluator.proofs.numbers.+choice+condition_behind+condition_from+connective+number_before+number_behind+number_beyond+number_from+pair.Lts-pair as pair-lts
+use Rattle.numbers.proofs.choice.Reads as choice
+use Rattle.numbers.proofs.choice.Kinds as choice-kinds
+use Rattle.numbers.proofs.+choice+condition_behind+condition_from+connective+number_before+number_behind+number_beyond+number_from+pair.Lts-choice as choice-lts
+use Rattle.numbers.proofs.condition_behind.Reads as condition-behind
+use Rattle.numbers.proofs.condition_behind.Kinds as condition-behind-kinds
+use Rattle.numbers.proofs.+choice+condition_behind+condition_from+connective+number_before+number_behind+number_beyond+number_from+pair.Lts-condition_behind as condition-behind-lts
+use Rattle.numbers.proofs.condition_from.Reads as condition-from
+use Rattle.numbers.proofs.condition_from.Kinds as condition-from-kinds
+use Rattle.numbers.proofs.+choice+condition_behind+condition_from+connective+number_before+number_behind+number_beyond+number_from+pair.Lts-condition_from as condition-from-lts
+use Rattle.numbers.proofs.connective.Reads as connective
+use Rattle.numbers.proofs.connective.Kinds as connective-kinds
+use Rattle.numbers.proofs.+choice+condition_behind+condition_from+connective+number_before+number_behind+number_beyond+number_from+pair.Lts-connective as connective-lts
+use Rattle.numbers.proofs.number_before.Reads as number-before
+use Rattle.numbers.proofs.number_before.Kinds as number-before-kinds
+use Rattle.numbers.proofs.+choice+condition_behind+condition_from+connective+number_before+number_behind+number_beyond+number_from+pair.Lts-number_before as number-before-lts
+use Rattle.numbers.proofs.number_behind.Reads as number-behind
+use Rattle.numbers.proofs.number_behind.Kinds as number-behind-kinds
+use Rattle.numbers.proofs.+choice+condition_behind+condition_from+connective+number_before+number_behind+number_beyond+number_from+pair.Lts-number_behind as number-behind-lts
+use Rattle.numbers.proofs.number_beyond.Reads as number-beyond
+use Rattle.numbers.proofs.number_beyond.Kinds as number-beyond-kinds
+use Rattle.numbers.proofs.+choice+condition_behind+condition_from+connective+number_before+number_behind+number_beyond+number_from+pair.Lts-number_beyond as number-beyond-lts
+use Rattle.numbers.proofs.number_from.Reads as number-from
+use Rattle.numbers.proofs.number_from.Kinds as number-from-kinds
+use Rattle.numbers.proofs.+choice+condition_behind+condition_from+connective+number_before+number_behind+number_beyond+number_from+pair.Lts-number_from as number-from-lts
+use Rattle.numbers.proofs.pair.Reads as pair
+use Rattle.numbers.proofs.pair.Kinds as pair-kinds
+use Rattle.numbers.proofs.+choice+condition_behind+condition_from+connective+number_before+number_behind+number_beyond+number_from+pair.Lts-pair as pair-lts
 use Rattle.evaluator.proofs.answers.condition_past.Reads as condition-past-reads
 use Rattle.evaluator.proofs.answers.number_past.Reads as number-past-reads
 use Rattle.evaluator.proofs.bytes.after.Reads as after-reads
 use Rattle.evaluator.proofs.bytes.skip.Reads as skip-reads
 use Rattle.evaluator.proofs.forms.condition_form.Reads as condition-form-reads
 use Rattle.evaluator.proofs.forms.number_form.Reads as number-form-reads
 use Rattle.evaluator.proofs.leaves.agree.Reads as agree-reads
 use Rattle.evaluator.proofs.leaves.arithmetic.Reads as arithmetic-reads
 use Rattle.evaluator.proofs.leaves.comparison.Reads as comparison-reads
 use Rattle.evaluator.proofs.leaves.empty_set.Reads as empty-set-reads
 use Rattle.evaluator.proofs.leaves.entry_number.Reads as entry-number-reads
 use Rattle.evaluator.proofs.leaves.literal_number.Reads as literal-number-reads
 use Rattle.evaluator.proofs.leaves.member_of.Reads as member-of-reads
 use Rattle.evaluator.proofs.leaves.negation.Reads as negation-reads
 use Rattle.evaluator.proofs.leaves.number_variable.Reads as number-variable-reads
 use Rattle.evaluator.proofs.leaves.same_elements.Reads as same-elements-reads
 use Rattle.evaluator.proofs.leaves.size_number.Reads as size-number-reads
 use Rattle.evaluator.proofs.leaves.subset_of.Reads as subset-of-reads
 use Rattle.evaluator.proofs.leaves.total_number.Reads as total-number-reads
-use Rattle.evaluator.proofs.numbers.+choice+condition_behind+condition_from+connective+number_before+number_behind+number_beyond+number_from+pair.{statement}
-use Rattle.evaluator.proofs.numbers.+choice+condition_behind+condition_from+connective+number_before+number_behind+number_beyond+number_from+pair.Tie.{close}
+use Rattle.numbers.proofs.+choice+condition_behind+condition_from+connective+number_before+number_behind+number_beyond+number_from+pair.{statement}
+use Rattle.numbers.proofs.+choice+condition_behind+condition_from+connective+number_before+number_behind+number_beyond+number_from+pair.Tie.{close}
 
 abbrev μ-choice : Measures 5 choice-kinds.ps ℕ
 μ-choice κs a = 4 * a .1 .1 .1 .1 .1 .1 .0 + 2

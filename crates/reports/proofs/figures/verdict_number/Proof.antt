@@ -1,11 +1,11 @@
--- `reports::numbers::verdict_number` gives each verdict its number.
+-- `reports::figures::verdict_number` gives each verdict its number.
 use Rattle.search.specs.Answer.{verdictNumber}
 use Rattle.visits.specs.Work.{verdictOf}
 use borrow.Author.Needs.{needs}
-use Rattle.reports.proofs.numbers.verdict_number.Statement.{statement}
-use Rattle.reports.proofs.numbers.verdict_number.Tie as tie
-use Rattle.reports.proofs.numbers.verdict_number.Reads as reads
-use Rattle.reports.proofs.numbers.verdict_number.Lts as lts
+use Rattle.reports.proofs.figures.verdict_number.Statement.{statement}
+use Rattle.reports.proofs.figures.verdict_number.Tie as tie
+use Rattle.reports.proofs.figures.verdict_number.Reads as reads
+use Rattle.reports.proofs.figures.verdict_number.Lts as lts
 
 enum-told : tie.Need-enum-told
 enum-told c = search needs

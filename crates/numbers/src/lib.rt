@@ -4,22 +4,22 @@ ghost use mathlib.Core.Path.{_≡_};
 ghost use Prim.Native.Nat.{_≤_};
 ghost use mathlib.Core.Bool.{false};
 ghost use lib.ListN.{length, drop};
 ghost use Rattle.evaluator.specs.Runs as runs;
 ghost use Rattle.evaluator.specs.Runs.{place, runNumber, runCondition};
 ghost use Rattle.evaluator.specs.Promise.{NumberPromise, ConditionPromise};
-use crate::answers::ConditionValue;
-use crate::answers::NOTHING;
-use crate::answers::NumberValue;
-use crate::answers::PairValue;
-use crate::answers::condition_past;
-use crate::answers::number_past;
-use crate::bytes::after;
-use crate::bytes::skip;
-use crate::forms::ConditionForm;
-use crate::forms::NumberForm;
-use crate::forms::condition_form;
-use crate::forms::number_form;
-use crate::leaves;
+use evaluator::answers::ConditionValue;
+use evaluator::answers::NOTHING;
+use evaluator::answers::NumberValue;
+use evaluator::answers::PairValue;
+use evaluator::answers::condition_past;
+use evaluator::answers::number_past;
+use evaluator::bytes::after;
+use evaluator::bytes::skip;
+use evaluator::forms::ConditionForm;
+use evaluator::forms::NumberForm;
+use evaluator::forms::condition_form;
+use evaluator::forms::number_form;
+use evaluator::leaves;
 
 // Two numbers, one behind the other.
 fn pair(
@@ -254,7 +254,7 @@ fn number_from(
 }
 
 // Whether the condition that begins at a place holds; the commonest form first.
-fn condition_from(
+pub fn condition_from(
     e: &[u8],
     at: usize,
     model: &[u8],

@@ -1,12 +1,12 @@
--- `reports::numbers::outcome_number` gives each outcome its number.
+-- `reports::figures::outcome_number` gives each outcome its number.
 use Rattle.search.specs.Answer.{outcomeNumber}
 use Rattle.reports.specs.Answers.{outcomeOf}
 use borrow.Author.Needs.{needs}
-use Rattle.reports.proofs.numbers.outcome_number.Statement.{statement}
-use Rattle.reports.proofs.numbers.outcome_number.Tie as tie
-use Rattle.reports.proofs.numbers.outcome_number.Reads as reads
-use Rattle.reports.proofs.numbers.outcome_number.Lts as lts
-use Rattle.reports.proofs.numbers.verdict_number.Reads as verdict-number-reads
+use Rattle.reports.proofs.figures.outcome_number.Statement.{statement}
+use Rattle.reports.proofs.figures.outcome_number.Tie as tie
+use Rattle.reports.proofs.figures.outcome_number.Reads as reads
+use Rattle.reports.proofs.figures.outcome_number.Lts as lts
+use Rattle.reports.proofs.figures.verdict_number.Reads as verdict-number-reads
 
 enum-known-outcome : tie.Need-enum-known-outcome
 enum-known-outcome c = search needs

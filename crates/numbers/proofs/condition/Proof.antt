@@ -1,9 +1,9 @@
--- `evaluator::numbers::condition` meets its contract.
+-- `numbers::condition` meets its contract.
 use borrow.Author.Needs.{needs}
 use Rattle.evaluator.specs.Runs.{place}
 use Rattle.evaluator.proofs.Promises.{condition-kept}
-use Rattle.evaluator.proofs.numbers.condition.Statement.{statement}
-use Rattle.evaluator.proofs.numbers.condition.Tie as tie
+use Rattle.numbers.proofs.condition.Statement.{statement}
+use Rattle.numbers.proofs.condition.Tie as tie
 
 condition-from-requires : tie.Need-condition-from-requires
 condition-from-requires c κs = search needs

@@ -1,11 +1,11 @@
--- `reports::numbers::refused_number` tells a refusal.
+-- `reports::figures::refused_number` tells a refusal.
 use Rattle.search.specs.Answer.{isRefusal}
 use Rattle.reports.specs.Answers.{outcomeOf}
 use borrow.Author.Needs.{needs}
-use Rattle.reports.proofs.numbers.refused_number.Statement.{statement}
-use Rattle.reports.proofs.numbers.refused_number.Tie as tie
-use Rattle.reports.proofs.numbers.refused_number.Reads as reads
-use Rattle.reports.proofs.numbers.refused_number.Lts as lts
+use Rattle.reports.proofs.figures.refused_number.Statement.{statement}
+use Rattle.reports.proofs.figures.refused_number.Tie as tie
+use Rattle.reports.proofs.figures.refused_number.Reads as reads
+use Rattle.reports.proofs.figures.refused_number.Lts as lts
 
 enum-told : tie.Need-enum-told
 enum-told c = search needs

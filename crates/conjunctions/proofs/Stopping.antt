@@ -1,0 +1,28 @@
+-- Stopped answers: behind more bytes, and no more bytes than there are.
+use Prim.Native.Nat.{ℕ, _+_, _^_, _<_}
+use mathlib.Core.Path.{_≡_, refl}
+use mathlib.Core.Bool.{true, false}
+use native.Mathlib.Omega.{arith}
+use Rattle.evaluator.specs.declared.answers.ConditionValue.{ConditionValue}
+use Rattle.evaluator.specs.declared.answers.ConditionValue.the-variants as C
+use Rattle.evaluator.specs.Answers.{conditionPast}
+use Rattle.evaluator.specs.Bounds.{ConditionWithin, ConditionRoom}
+use Rattle.evaluator.proofs.Within.{condition-room}
+use Rattle.conjunctions.specs.Stopped.{stopped}
+
+-- a part may be stopped where the whole is
+pub stopped-past : (k : ℕ) (v : ConditionValue) → stopped (conditionPast k (stopped v)) ≡ stopped (conditionPast k v)
+unfolding stopped conditionPast
+stopped-past k (C.Holds true n) = refl
+stopped-past k (C.Holds false n) = refl
+stopped-past k (C.Trouble t) = refl
+
+pub stopped-within : (l : ℕ) (v : ConditionValue) → ConditionWithin l v → ConditionWithin l (stopped v)
+unfolding stopped
+stopped-within l (C.Holds true n) h = h
+stopped-within l (C.Holds false n) h = omega arith
+stopped-within l (C.Trouble t) h = tt
+
+-- k bytes more can be counted
+pub stopped-room : (k l : ℕ) (v : ConditionValue) → ConditionWithin l v → k + l < 2 ^ 64 → ConditionRoom k (stopped v)
+stopped-room k l v w h = condition-room k l (stopped v) (stopped-within l v w) h

@@ -1,0 +1,2 @@
+-- What a test of a condition tells.
+pub mod Stopped

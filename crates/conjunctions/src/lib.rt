@@ -1,0 +1,107 @@
+// Conditions tested no further than their truth needs: the parts of a conjunction behind one that does not hold are not visited.
+
+ghost use mathlib.Core.Path.{_≡_};
+ghost use mathlib.Core.Bool.{false};
+ghost use lib.ListN.{drop};
+ghost use Rattle.evaluator.specs.Answers.{conditionPast};
+ghost use Rattle.evaluator.specs.Bounds.{ConditionRoom};
+ghost use Rattle.evaluator.specs.Runs.{place, runCondition, runConnective};
+ghost use Rattle.conjunctions.specs.Stopped.{stopped};
+use evaluator::answers::ConditionValue;
+use evaluator::answers::NOTHING;
+use numbers::condition_from;
+
+// The answer without its bytes where it does not hold.
+fn stop(v: ConditionValue) -> ConditionValue
+    ensures { λ r. ⌜ r ≡ stopped v ⌝ }
+{
+    match v {
+        ConditionValue::Holds(b, n) => {
+            if b {
+                ConditionValue::Holds(true, n)
+            } else {
+                ConditionValue::Holds(false, 0)
+            }
+        }
+        ConditionValue::Trouble(t) => ConditionValue::Trouble(t),
+    }
+}
+
+// The same behind k bytes.
+fn past(k: usize, v: ConditionValue) -> ConditionValue
+    requires { ⌜ ConditionRoom k v ⌝ }
+    ensures { λ r. ⌜ r ≡ stopped (conditionPast k v) ⌝ }
+{
+    match v {
+        ConditionValue::Holds(b, n) => {
+            if b {
+                ConditionValue::Holds(true, k + n)
+            } else {
+                ConditionValue::Holds(false, 0)
+            }
+        }
+        ConditionValue::Trouble(t) => ConditionValue::Trouble(t),
+    }
+}
+
+// 58, behind its byte: the second part is tested only where the first holds.
+fn both(
+    e: &[u8],
+    at: usize,
+    model: &[u8],
+    state: &[u64],
+    full: &[u64],
+    tables: &[u64],
+    depth: usize,
+) -> ConditionValue
+    ensures { λ r. ⌜ r ≡ stopped (runConnective false (λ f. runCondition depth (place (now (model .entry)) (now (state .entry)) (now (full .entry)) (now (tables .entry))) f) (drop at (now (e .entry)))) ⌝ }
+{
+    match test_from(e, at, model, state, full, tables, depth) {
+        ConditionValue::Holds(holds, n) => {
+            if holds {
+                past(n, test_from(e, at + n, model, state, full, tables, depth))
+            } else {
+                ConditionValue::Holds(false, 0)
+            }
+        }
+        ConditionValue::Trouble(t) => ConditionValue::Trouble(t),
+    }
+}
+
+// Whether the condition that begins at a place holds, tested no further than it must.
+fn test_from(
+    e: &[u8],
+    at: usize,
+    model: &[u8],
+    state: &[u64],
+    full: &[u64],
+    tables: &[u64],
+    depth: usize,
+) -> ConditionValue
+    ensures { λ r. ⌜ r ≡ stopped (runCondition depth (place (now (model .entry)) (now (state .entry)) (now (full .entry)) (now (tables .entry))) (drop at (now (e .entry)))) ⌝ }
+{
+    if depth == 0 {
+        return ConditionValue::Trouble(NOTHING);
+    }
+    if e.len() <= at {
+        return ConditionValue::Trouble(NOTHING);
+    }
+    if e[at] == 0x58 {
+        return past(1, both(e, at + 1, model, state, full, tables, depth - 1));
+    }
+    stop(condition_from(e, at, model, state, full, tables, depth))
+}
+
+// Whether the condition at the front holds, tested no further than it must.
+pub fn test(
+    e: &[u8],
+    model: &[u8],
+    state: &[u64],
+    full: &[u64],
+    tables: &[u64],
+    depth: usize,
+) -> ConditionValue
+    ensures { λ r. ⌜ r ≡ stopped (runCondition depth (place (now (model .entry)) (now (state .entry)) (now (full .entry)) (now (tables .entry))) (now (e .entry))) ⌝ }
+{
+    test_from(e, 0, model, state, full, tables, depth)
+}
