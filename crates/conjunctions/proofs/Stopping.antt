@@ -1,14 +1,17 @@
--- Stopped answers: behind more bytes, and no more bytes than there are.
+-- Stopped answers: behind more bytes, no more bytes than there are, and what is promised of them.
 use Prim.Native.Nat.{ℕ, _+_, _^_, _<_}
-use mathlib.Core.Path.{_≡_, refl}
+use mathlib.Core.Path.{_≡_, refl, ap, _∙_}
 use mathlib.Core.Bool.{true, false}
+use mathlib.Core.List.{List}
 use native.Mathlib.Omega.{arith}
 use Rattle.evaluator.specs.declared.answers.ConditionValue.{ConditionValue}
 use Rattle.evaluator.specs.declared.answers.ConditionValue.the-variants as C
 use Rattle.evaluator.specs.Answers.{conditionPast}
 use Rattle.evaluator.specs.Bounds.{ConditionWithin, ConditionRoom}
+use Rattle.evaluator.specs.Runs.{Place, runCondition}
 use Rattle.evaluator.proofs.Within.{condition-room}
-use Rattle.conjunctions.specs.Stopped.{stopped}
+use Rattle.evaluator.proofs.Promises.{run-condition}
+use Rattle.conjunctions.specs.Stopped.{stopped, TestPromise}
 
 -- a part may be stopped where the whole is
 pub stopped-past : (k : ℕ) (v : ConditionValue) → stopped (conditionPast k (stopped v)) ≡ stopped (conditionPast k v)
@@ -26,3 +29,7 @@ stopped-within l (C.Trouble t) h = tt
 -- k bytes more can be counted
 pub stopped-room : (k l : ℕ) (v : ConditionValue) → ConditionWithin l v → k + l < 2 ^ 64 → ConditionRoom k (stopped v)
 stopped-room k l v w h = condition-room k l (stopped v) (stopped-within l v w) h
+
+-- an answer that is the stopped run keeps the promise
+pub test-kept : (d : ℕ) (p : Place) (e : List ℕ) {r : ConditionValue} → r ≡ stopped (runCondition d p e) → (r ≡ stopped (runCondition d p e)) × TestPromise d p e r
+test-kept d p e q = (q, λ vs ts x n k h. q ∙ ap stopped (run-condition d p e vs ts x n k h))

@@ -6,7 +6,7 @@ ghost use lib.ListN.{drop};
 ghost use Rattle.evaluator.specs.Answers.{conditionPast};
 ghost use Rattle.evaluator.specs.Bounds.{ConditionRoom};
 ghost use Rattle.evaluator.specs.Runs.{place, runCondition, runConnective};
-ghost use Rattle.conjunctions.specs.Stopped.{stopped};
+ghost use Rattle.conjunctions.specs.Stopped.{stopped, TestPromise};
 use evaluator::answers::ConditionValue;
 use evaluator::answers::NOTHING;
 use numbers::condition_from;
@@ -101,7 +101,8 @@ pub fn test(
     tables: &[u64],
     depth: usize,
 ) -> ConditionValue
-    ensures { λ r. ⌜ r ≡ stopped (runCondition depth (place (now (model .entry)) (now (state .entry)) (now (full .entry)) (now (tables .entry))) (now (e .entry))) ⌝ }
+    ensures run { λ r. ⌜ r ≡ stopped (runCondition depth (place (now (model .entry)) (now (state .entry)) (now (full .entry)) (now (tables .entry))) (now (e .entry))) ⌝ }
+    ensures promise { λ r. ⌜ TestPromise depth (place (now (model .entry)) (now (state .entry)) (now (full .entry)) (now (tables .entry))) (now (e .entry)) r ⌝ }
 {
     test_from(e, 0, model, state, full, tables, depth)
 }

@@ -3,7 +3,6 @@ use Prim.Native.Nat.{ℕ}
 use mathlib.Core.Path.{_≡_, _∙_}
 use mathlib.Core.List.{List}
 use Rattle.evaluator.specs.declared.answers.NumberValue.{NumberValue}
-use Rattle.evaluator.specs.declared.answers.ConditionValue.{ConditionValue}
 use Rattle.evaluator.specs.declared.answers.ElementValue.{ElementValue}
 use Rattle.evaluator.specs.declared.answers.SetValue.{SetValue}
 use Rattle.evaluator.specs.Runs.{Place, runElement, runSet, runNumber, runCondition}
@@ -32,6 +31,3 @@ set-kept d ws fs e q = (q, λ vs ts x n f h. q ∙ run-set d ws fs e vs ts x n f
 
 pub number-kept : (d : ℕ) (p : Place) (e : List ℕ) {r : NumberValue} → r ≡ runNumber d p e → (r ≡ runNumber d p e) × NumberPromise d p e r
 number-kept d p e q = (q, λ vs ts x n k h. q ∙ run-number d p e vs ts x n k h)
-
-pub condition-kept : (d : ℕ) (p : Place) (e : List ℕ) {r : ConditionValue} → r ≡ runCondition d p e → (r ≡ runCondition d p e) × ConditionPromise d p e r
-condition-kept d p e q = (q, λ vs ts x n k h. q ∙ run-condition d p e vs ts x n k h)

@@ -6,7 +6,7 @@ ghost use mathlib.Core.Bool.{false};
 ghost use lib.ListN.{length, drop};
 ghost use Rattle.evaluator.specs.Runs as runs;
 ghost use Rattle.evaluator.specs.Runs.{place, runNumber, runCondition};
-ghost use Rattle.evaluator.specs.Promise.{NumberPromise, ConditionPromise};
+ghost use Rattle.evaluator.specs.Promise.{NumberPromise};
 use evaluator::answers::ConditionValue;
 use evaluator::answers::NOTHING;
 use evaluator::answers::NumberValue;
@@ -304,19 +304,4 @@ pub fn number(
     ensures promise { λ r. ⌜ NumberPromise depth (place (now (model .entry)) (now (state .entry)) (now (full .entry)) (now (tables .entry))) (now (e .entry)) r ⌝ }
 {
     number_from(e, 0, model, state, full, tables, depth)
-}
-
-// Whether the condition at the front holds.
-pub fn condition(
-    e: &[u8],
-    model: &[u8],
-    state: &[u64],
-    full: &[u64],
-    tables: &[u64],
-    depth: usize,
-) -> ConditionValue
-    ensures run { λ r. ⌜ r ≡ runCondition depth (place (now (model .entry)) (now (state .entry)) (now (full .entry)) (now (tables .entry))) (now (e .entry)) ⌝ }
-    ensures promise { λ r. ⌜ ConditionPromise depth (place (now (model .entry)) (now (state .entry)) (now (full .entry)) (now (tables .entry))) (now (e .entry)) r ⌝ }
-{
-    condition_from(e, 0, model, state, full, tables, depth)
 }

@@ -36,7 +36,7 @@ pub extern "C" fn repgypsum_condition_value(
 ) -> u8
     ensures { λ r. ⌜ r ≡ conditionCode (runCondition 32 (place (now (model .entry)) (now (state .entry)) (now (full .entry)) (now (tables .entry))) (now (e .entry))) ⌝ }
 {
-    match numbers::condition(e, model, state, full, tables, 32) {
+    match conjunctions::test(e, model, state, full, tables, 32) {
         ConditionValue::Holds(b, _) => if b { 1 } else { 0 },
         ConditionValue::Trouble(_) => 2,
     }

@@ -35,7 +35,7 @@ test-requires : tie.Need-test-requires
 test-requires c κs = search needs
 
 returns : tie.Need-returns
-returns c = condition-promised _ _ (c .before .before .before .before .before .before .before .pre .0) _ _ _ (c .test .ensures)
+returns c = condition-promised _ _ (c .before .before .before .before .before .before .before .pre .0) _ _ _ (c .test .ensures .0)
 
 pub condition-at-spec : {M : Type 1} → statement M
 condition-at-spec =
