@@ -6,9 +6,9 @@ use mathlib.Core.List.{List, _∷_}
 use mathlib.Core.Option.{Option, none, some}
 use lib.Dec.{ltb}
 use Rattle.model.specs.Meaning.{State}
-use Rattle.search.specs.Search.{Node, Route, Round, refused, Result, on, over, offer}
+use Rattle.search.specs.Search.{Node, Route, Round, refused, Result, on, over, offer, bounded, tried, expand}
 use Rattle.outline.specs.Outline.{modelOf}
-use Rattle.steps.specs.Held.{systemIn}
+use Rattle.steps.specs.Held.{stateIn, systemIn}
 use Rattle.steps.specs.Follow.{costsIn}
 use Rattle.beam.specs.Nodes.{nodeOf, nodeAt}
 use Rattle.beam.specs.Held.{nodesOf, Held, roundWith}
@@ -37,6 +37,17 @@ abbrev pub Numbered : Trial → Type 0
 Numbered T.On = Unit {0}
 Numbered (T.Before e) = Unit {0}
 Numbered (T.At e c t) = t < 256
+
+-- rule 4 in the model that stands in the bytes: h of the child by transition t at cost c, whose state the words hold; transition t; all
+-- transitions in number order
+abbrev pub boundedIn : (bytes child : List ℕ) (w t c : ℕ) → Node State ℕ → Round State ℕ → Result (Round State ℕ) ℕ
+boundedIn bytes child w t c m = bounded (costsIn bytes) (systemIn bytes) w m t c (stateIn bytes child) (systemIn bytes .bound (stateIn bytes child))
+
+abbrev pub triedIn : (bytes : List ℕ) (w t : ℕ) → Node State ℕ → Round State ℕ → Result (Round State ℕ) ℕ
+triedIn bytes w t m = tried (costsIn bytes) (systemIn bytes) w m t (systemIn bytes .move (m .state) t)
+
+abbrev pub expandIn : (bytes : List ℕ) (w : ℕ) → Node State ℕ → Round State ℕ → Result (Round State ℕ) ℕ
+expandIn bytes w = expand (costsIn bytes) (systemIn bytes) w (systemIn bytes .transitions) 0
 
 -- rule 4's end: a round whose kept nodes are those of the layer before goes on with those of the layer after
 pub record Offered (bytes outline : List ℕ) (w n : ℕ) (has : Bool) (best : ℕ) (child layer layer′ : List ℕ) (x : Inserted) : Type 0 where

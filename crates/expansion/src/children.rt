@@ -5,12 +5,10 @@ ghost use Prim.Native.Nat.{_<_, _^_};
 ghost use mathlib.Core.Bool.{_||_};
 ghost use lib.ListN.{length, getD};
 ghost use Rattle.model.specs.Numbers.{rangeEnd};
-ghost use Rattle.search.specs.Search as definition;
 ghost use Rattle.order.specs.Slots.{slotWords, gAt};
-ghost use Rattle.steps.specs.Held.{Outlined, stateIn, systemIn};
-ghost use Rattle.steps.specs.Follow.{costsIn};
+ghost use Rattle.steps.specs.Held.{Outlined};
 ghost use Rattle.beam.specs.Held.{Held};
-ghost use Rattle.expansion.specs.Expansion.{belowCost, Offered, Grows};
+ghost use Rattle.expansion.specs.Expansion.{belowCost, boundedIn, triedIn, expandIn, Offered, Grows};
 use crate::trials::Expanded;
 use crate::trials::Trial;
 use beam::layer::Inserted;
@@ -74,7 +72,7 @@ fn bounded(
     child: &mut [u64],
 ) -> Expanded
     requires { ⌜ Held (now outline) w n (now layer) × (Outlined (now model) (now outline) × ((length (now node) ≡ slotWords) × ((getD (now node) gAt 0 < 2 ^ 63) × ((i < 2 ^ 32) × ((t < 256) × ((c < rangeEnd) × (length (now child) ≡ slotWords))))))) ⌝ }
-    ensures { λ r. ⌜ Grows (now (model .entry)) (now (outline .entry)) w n i found best (now (node .entry)) (now (layer .entry)) (now (layer .exit)) r (λ m q. definition.bounded (costsIn (now (model .entry))) (systemIn (now (model .entry))) w m t c (stateIn (now (model .entry)) (now (child .entry))) (systemIn (now (model .entry)) .bound (stateIn (now (model .entry)) (now (child .entry)))) q) ⌝ }
+    ensures { λ r. ⌜ Grows (now (model .entry)) (now (outline .entry)) w n i found best (now (node .entry)) (now (layer .entry)) (now (layer .exit)) r (boundedIn (now (model .entry)) (now (child .entry)) w t c) ⌝ }
 {
     let g = combine(model, outline, node[G_AT], c);
     match bound(model, outline, child) {
@@ -112,7 +110,7 @@ fn try_transition(
     t: usize,
 ) -> Expanded
     requires { ⌜ Held (now outline) w n (now layer) × (Outlined (now model) (now outline) × ((length (now node) ≡ slotWords) × ((getD (now node) gAt 0 < 2 ^ 63) × ((i < 2 ^ 32) × (t < 256))))) ⌝ }
-    ensures { λ r. ⌜ Grows (now (model .entry)) (now (outline .entry)) w n i found best (now (node .entry)) (now (layer .entry)) (now (layer .exit)) r (λ m q. definition.tried (costsIn (now (model .entry))) (systemIn (now (model .entry))) w m t (systemIn (now (model .entry)) .move (m .state) t) q) ⌝ }
+    ensures { λ r. ⌜ Grows (now (model .entry)) (now (outline .entry)) w n i found best (now (node .entry)) (now (layer .entry)) (now (layer .exit)) r (triedIn (now (model .entry)) w t) ⌝ }
 {
     let mut child = [0u64; 20];
     match step(model, outline, node, t, &mut child) {
@@ -168,7 +166,7 @@ pub fn expand(
     i: usize,
 ) -> Expanded
     requires { ⌜ Held (now outline) w n (now layer) × (Outlined (now model) (now outline) × ((length (now node) ≡ slotWords) × ((getD (now node) gAt 0 < 2 ^ 63) × (i < 2 ^ 32)))) ⌝ }
-    ensures { λ r. ⌜ Grows (now (model .entry)) (now (outline .entry)) w n i found best (now (node .entry)) (now (layer .entry)) (now (layer .exit)) r (λ m q. definition.expand (costsIn (now (model .entry))) (systemIn (now (model .entry))) w (systemIn (now (model .entry)) .transitions) 0 m q) ⌝ }
+    ensures { λ r. ⌜ Grows (now (model .entry)) (now (outline .entry)) w n i found best (now (node .entry)) (now (layer .entry)) (now (layer .exit)) r (expandIn (now (model .entry)) w) ⌝ }
 {
     let transitions = word_at(outline, TRANSITION_COUNT) as usize;
     let mut count = n;

@@ -12,8 +12,11 @@ use Rattle.search.specs.Answer as A
 use Rattle.search.specs.Search.{Node, Route, Result, on, over, decided, refused}
 use Rattle.search.specs.Search as S
 use Rattle.outline.specs.Outline.{modelOf}
-use Rattle.steps.specs.Held.{Outlined}
+use Rattle.steps.specs.Held.{Outlined, systemIn}
+use Rattle.steps.specs.Follow.{costsIn}
+use Rattle.beam.specs.Nodes.{nodeAt}
 use Rattle.beam.specs.Held.{nodesOf, Held}
+use Rattle.expansion.specs.Expansion.{expandIn}
 use Rattle.routes.specs.Routes.{pathBy, nextOf, currentOf}
 use Rattle.visits.specs.declared.work.Verdict.{Verdict}
 use Rattle.visits.specs.declared.work.Verdict.the-variants as W
@@ -61,6 +64,24 @@ roundBegun p = (p .tally .rounds, p .tally .width)
 -- the round that the working words and the code's record stand for, in layer k of a round of width w
 abbrev pub roundIn : (bytes words plan : List ℕ) (w k : ℕ) → Round → S.Round State ℕ
 roundIn bytes words plan w k x = roundOf (nodesOf w (nextOf w words) (modelOf bytes .variables) (pathBy words w k) (x .count)) plan x
+
+-- the node with these words, in slot i of layer k
+abbrev pub nodeIn : (bytes words : List ℕ) (w k i : ℕ) (node : List ℕ) → Node State ℕ
+nodeIn bytes words w k i node = nodeAt (modelOf bytes .variables) (pathBy words w k) i node
+
+-- rules 2 to 4 in the model that stands in the bytes, `left` being the steps left to the limit: an expansion, which counts from its
+-- start; an unfinished state; any state; the nodes of a layer
+abbrev pub countedIn : (bytes : List ℕ) (w : ℕ) → Node State ℕ → S.Round State ℕ → Result (S.Round State ℕ) ℕ
+countedIn bytes w n r = expandIn bytes w n (S.counted (costsIn bytes) (systemIn bytes) r)
+
+abbrev pub advanceIn : (bytes : List ℕ) (budget w left : ℕ) → Node State ℕ → S.Round State ℕ → Result (S.Round State ℕ) ℕ
+advanceIn bytes budget w left = S.advance (costsIn bytes) (systemIn bytes) budget w left
+
+abbrev pub visitIn : (bytes : List ℕ) (budget w left : ℕ) → Node State ℕ → S.Round State ℕ → Result (S.Round State ℕ) ℕ
+visitIn bytes budget w left n = S.visit (costsIn bytes) (systemIn bytes) budget w left (systemIn bytes .status (n .state)) n
+
+abbrev pub layerIn : (bytes : List ℕ) (budget w left : ℕ) → List (Node State ℕ) → S.Round State ℕ → Result (S.Round State ℕ) ℕ
+layerIn bytes budget w left = S.layer (costsIn bytes) (systemIn bytes) budget w left
 
 -- g of the node: each of k steps has added less than the end of the numbers' range
 abbrev pub Within : (k : ℕ) → Node State ℕ → Type 0

@@ -1,11 +1,8 @@
 // A layer: its nodes in order.
 
 ghost use Prim.Native.Nat.{_-_};
-ghost use Rattle.search.specs.Search as definition;
-ghost use Rattle.steps.specs.Held.{systemIn};
-ghost use Rattle.steps.specs.Follow.{costsIn};
 ghost use Rattle.routes.specs.Routes.{currentOf};
-ghost use Rattle.visits.specs.Work.{Ready, Leaves};
+ghost use Rattle.visits.specs.Work.{layerIn, Ready, Leaves};
 use crate::visits::visit;
 use crate::work::Next;
 use crate::work::Round;
@@ -25,7 +22,7 @@ pub fn layer(
     round: Round,
 ) -> Visited
     requires { ⌜ Ready (now model) (now outline) (now words) (now plan) w limit k n round ⌝ }
-    ensures { λ r. ⌜ Leaves (now (model .entry)) (now (outline .entry)) (now (words .entry)) (now (words .exit)) (now (plan .entry)) (now (plan .exit)) w limit k round r (definition.layer (costsIn (now (model .entry))) (systemIn (now (model .entry))) budget w (limit - k) (currentOf (now (model .entry)) (now (words .entry)) w k n)) ⌝ }
+    ensures { λ r. ⌜ Leaves (now (model .entry)) (now (outline .entry)) (now (words .entry)) (now (words .exit)) (now (plan .entry)) (now (plan .exit)) w limit k round r (layerIn (now (model .entry)) budget w (limit - k) (currentOf (now (model .entry)) (now (words .entry)) w k n)) ⌝ }
 {
     let mut now = round;
     let mut i: usize = 0;

@@ -2,14 +2,8 @@
 
 ghost use Prim.Native.Nat.{_+_, _-_, _≤_, _<_, _^_};
 ghost use lib.ListN.{length};
-ghost use Rattle.search.specs.Search as definition;
 ghost use Rattle.order.specs.Slots.{wordsIn};
-ghost use Rattle.outline.specs.Outline.{modelOf};
-ghost use Rattle.steps.specs.Held.{systemIn};
-ghost use Rattle.steps.specs.Follow.{costsIn};
-ghost use Rattle.beam.specs.Nodes.{nodeAt};
-ghost use Rattle.routes.specs.Routes.{pathBy};
-ghost use Rattle.visits.specs.Work.{Ready, Leaves};
+ghost use Rattle.visits.specs.Work.{nodeIn, countedIn, advanceIn, visitIn, Ready, Leaves};
 ghost use Rattle.visits.specs.Visits.{NewBest, Reached, Limited, Counted, Told, Met, Keeps};
 use crate::work::Best;
 use crate::work::Ending;
@@ -183,7 +177,7 @@ fn expand_node(
     round: Round,
 ) -> Visited
     requires { ⌜ Met (now model) (now outline) (now words) (now node) w limit k i round × ((k < limit) × (round .progress .tally .expansions + 1 < 2 ^ 64)) ⌝ }
-    ensures { λ r. ⌜ Keeps (now (model .entry)) (now (outline .entry)) (now (words .entry)) (now (words .exit)) w limit k round r (λ q. definition.expand (costsIn (now (model .entry))) (systemIn (now (model .entry))) w (systemIn (now (model .entry)) .transitions) 0 (nodeAt (modelOf (now (model .entry)) .variables) (pathBy (now (words .entry)) w k) i (now (node .entry))) (definition.counted (costsIn (now (model .entry))) (systemIn (now (model .entry))) q)) ⌝ }
+    ensures { λ r. ⌜ Keeps (now (model .entry)) (now (outline .entry)) (now (words .entry)) (now (words .exit)) w limit k round r (countedIn (now (model .entry)) w (nodeIn (now (model .entry)) (now (words .entry)) w k i (now (node .entry)))) ⌝ }
 {
     let n = round.count;
     let best = round.progress.best;
@@ -210,7 +204,7 @@ fn advance(
     round: Round,
 ) -> Visited
     requires { ⌜ Met (now model) (now outline) (now words) (now node) w limit k i round ⌝ }
-    ensures { λ r. ⌜ Keeps (now (model .entry)) (now (outline .entry)) (now (words .entry)) (now (words .exit)) w limit k round r (definition.advance (costsIn (now (model .entry))) (systemIn (now (model .entry))) budget w (limit - k) (nodeAt (modelOf (now (model .entry)) .variables) (pathBy (now (words .entry)) w k) i (now (node .entry)))) ⌝ }
+    ensures { λ r. ⌜ Keeps (now (model .entry)) (now (outline .entry)) (now (words .entry)) (now (words .exit)) w limit k round r (advanceIn (now (model .entry)) budget w (limit - k) (nodeIn (now (model .entry)) (now (words .entry)) w k i (now (node .entry)))) ⌝ }
 {
     if k == limit {
         return Visited {
@@ -242,7 +236,7 @@ fn visit_node(
     round: Round,
 ) -> Visited
     requires { ⌜ Met (now model) (now outline) (now words) (now node) w limit k i round × (limit ≤ length (now plan)) ⌝ }
-    ensures { λ r. ⌜ Leaves (now (model .entry)) (now (outline .entry)) (now (words .entry)) (now (words .exit)) (now (plan .entry)) (now (plan .exit)) w limit k round r (definition.visit (costsIn (now (model .entry))) (systemIn (now (model .entry))) budget w (limit - k) (systemIn (now (model .entry)) .status (nodeAt (modelOf (now (model .entry)) .variables) (pathBy (now (words .entry)) w k) i (now (node .entry)) .state)) (nodeAt (modelOf (now (model .entry)) .variables) (pathBy (now (words .entry)) w k) i (now (node .entry)))) ⌝ }
+    ensures { λ r. ⌜ Leaves (now (model .entry)) (now (outline .entry)) (now (words .entry)) (now (words .exit)) (now (plan .entry)) (now (plan .exit)) w limit k round r (visitIn (now (model .entry)) budget w (limit - k) (nodeIn (now (model .entry)) (now (words .entry)) w k i (now (node .entry)))) ⌝ }
 {
     let g = node[G_AT];
     match status(model, outline, &node[..16]) {
@@ -272,7 +266,7 @@ pub fn visit(
     round: Round,
 ) -> Visited
     requires { ⌜ Ready (now model) (now outline) (now words) (now plan) w limit k n round × (i < n) ⌝ }
-    ensures { λ r. ⌜ Leaves (now (model .entry)) (now (outline .entry)) (now (words .entry)) (now (words .exit)) (now (plan .entry)) (now (plan .exit)) w limit k round r (definition.visit (costsIn (now (model .entry))) (systemIn (now (model .entry))) budget w (limit - k) (systemIn (now (model .entry)) .status (nodeAt (modelOf (now (model .entry)) .variables) (pathBy (now (words .entry)) w k) i (wordsIn (now (words .entry)) i) .state)) (nodeAt (modelOf (now (model .entry)) .variables) (pathBy (now (words .entry)) w k) i (wordsIn (now (words .entry)) i))) ⌝ }
+    ensures { λ r. ⌜ Leaves (now (model .entry)) (now (outline .entry)) (now (words .entry)) (now (words .exit)) (now (plan .entry)) (now (plan .exit)) w limit k round r (visitIn (now (model .entry)) budget w (limit - k) (nodeIn (now (model .entry)) (now (words .entry)) w k i (wordsIn (now (words .entry)) i))) ⌝ }
 {
     let mut node = [0u64; 20];
     copy_node(words, i, &mut node);
