@@ -82,6 +82,14 @@ module _ {A B : Type 0} (c : ℕ) (head : ℕ → List B → Reader A) (body : A
       let p : at ≡ at + u = omega (arith, g .1) in
       record { items = []; whole = sym (g .0); listed = rw (← p) (stop h) }
 
+  two-drops : (at n k : ℕ) → drop k (drop n (drop at bytes)) ≡ drop (at + (n + k)) bytes
+  two-drops at n k = drop-drop k n (drop at bytes) ∙ drop-drop (n + k) at bytes
+
+  -- the item at `at`, n bytes of its head and k of its body behind its byte, then the rest
+  first-item : (b : ℕ) (done : List B) (at : ℕ) (l : List B) (u : ℕ) (a : A) (n : ℕ) (x : B) (k left : ℕ) → getD bytes at 0 ≡ c → head b done (drop (at + 1) bytes) ≡ read a n → body a (drop n (drop (at + 1) bytes)) ≡ read x k
+      → at + 1 + (n + k) + left ≡ at + u → Rest (x ∷ done) (at + 1 + (n + k)) l left → Rest done at l u
+  first-item b done at l u a n x k left here p q e rest = record { items = x ∷ rest .items; whole = rest .whole; listed = item here (each b done (at + 1) a n x k p q) (rw e at (rest .listed)) }
+
   -- one turn, by its test; `again` is what the turns behind it read
   turn : (room : ℕ) → ((done : List B) (at : ℕ) (l : List B) (u : ℕ) → loop room done (drop at bytes) ≡ read l u → Rest done at l u)
       → (done : List B) (at : ℕ) (l : List B) (b n m u : ℕ) (t : Bool) → eqb b c ≡ t → getD bytes at 0 ≡ b → n ≡ 0 → u ≡ n + m
@@ -96,14 +104,9 @@ module _ {A B : Type 0} (c : ℕ) (head : ℕ → List B → Reader A) (body : A
       let r1 : (head b done >>= λ a. body a >>= λ x. loop room (x ∷ done)) (drop (at + 1) bytes) ≡ read l (c1 .left) = rw e1 at (c1 .reads-next) in
       let c2 = chain (head b done (drop (at + 1) bytes)) (λ a. body a >>= λ x. loop room (x ∷ done)) (drop (at + 1) bytes) l (c1 .left) r1 in
       let c3 = chain (body (c2 .first) (drop (c2 .used) (drop (at + 1) bytes))) (λ x. loop room (x ∷ done)) (drop (c2 .used) (drop (at + 1) bytes)) l (c2 .left) (c2 .reads-next) in
-      let e3 : drop (c3 .used) (drop (c2 .used) (drop (at + 1) bytes)) ≡ drop (at + 1 + (c2 .used + c3 .used)) bytes = drop-drop (c3 .used) (c2 .used) (drop (at + 1) bytes) ∙ drop-drop (c2 .used + c3 .used) (at + 1) bytes in
-      let rest = again (c3 .first ∷ done) (at + 1 + (c2 .used + c3 .used)) l (c3 .left) (rw e3 at (c3 .reads-next)) in
       let p : at + 1 + (c2 .used + c3 .used) + c3 .left ≡ at + u = omega (arith, one-used .0, c1 .uses, c2 .uses, c3 .uses) in
-      record {
-        items = c3 .first ∷ rest .items;
-        whole = rest .whole;
-        listed = item (f ∙ eqb-true b c e) (each b done (at + 1) (c2 .first) (c2 .used) (c3 .first) (c3 .used) (c2 .reads-first) (c3 .reads-first)) (rw p at (rest .listed));
-      }
+      first-item b done at l u (c2 .first) (c2 .used) (c3 .first) (c3 .used) (c3 .left) (f ∙ eqb-true b c e) (c2 .reads-first) (c3 .reads-first) p
+      (again (c3 .first ∷ done) (at + 1 + (c2 .used + c3 .used)) l (c3 .left) (ap (loop room (c3 .first ∷ done)) (sym (two-drops (at + 1) (c2 .used) (c3 .used))) ∙ c3 .reads-next))
 
   full : (done : List B) (at : ℕ) (l : List B) (b n m u : ℕ) (t : Bool) → eqb b c ≡ t → getD bytes at 0 ≡ b → n ≡ 0 → u ≡ n + m
       → cond t (byte >> head b done >> refuse offLimits) (give (reverse done)) (drop n (drop at bytes)) ≡ read l m → Rest done at l u
@@ -214,6 +217,22 @@ module _ (vs : List Variable) (ts : List Table) (bytes : List ℕ) where
     pub cost-there : getD bytes (at + conditions-used) 0 ≡ 0x09
     pub reads-effects : effectList vs ts (drop (at + conditions-used + 1 + cost-used) bytes) ≡ read (x .effects) effects-used
 
+  -- by the bytes of the conditions, of the command 09, of the cost and of the effects
+  parts-told : (at n j k m : ℕ) (x : Transition) {a : List Condition} {y : Number} {z : List Effect} → j ≡ 1 → conditions vs ts (drop at bytes) ≡ read a n → getD (drop n (drop at bytes)) 0 0 ≡ 0x09
+      → number vs ts mostNesting (drop j (drop n (drop at bytes))) ≡ read y k → effectList vs ts (drop k (drop j (drop n (drop at bytes)))) ≡ read z m → record { conditions = a; cost = y; effects = z } ≡ x → PartsAt at x
+  parts-told at n j k m x one cs c y z e =
+      let e2 : drop j (drop n (drop at bytes)) ≡ drop (at + n + 1) bytes = rw (one, drop-drop n at bytes) (drop-drop 1 (at + n) bytes) in
+      let e3 : drop k (drop j (drop n (drop at bytes))) ≡ drop (at + n + 1 + k) bytes = ap (drop k) e2 ∙ drop-drop k (at + n + 1) bytes in
+      record {
+        conditions-used = n;
+        cost-used = k;
+        effects-used = m;
+        reads-conditions = cs ∙ ap (λ (i : Transition). read (i .conditions) n) e;
+        reads-cost = ap (number vs ts mostNesting) (sym e2) ∙ y ∙ ap (λ (i : Transition). read (i .cost) k) e;
+        cost-there = sym (front-byte bytes (at + n)) ∙ ap (λ (l : List ℕ). getD l 0 0) (sym (drop-drop n at bytes)) ∙ c;
+        reads-effects = ap (effectList vs ts) (sym e3) ∙ z ∙ ap (λ (i : Transition). read (i .effects) m) e;
+      }
+
   pub parts-at : (at : ℕ) (x : Transition) (u : ℕ) → transition vs ts (drop at bytes) ≡ read x u → PartsAt at x
   unfolding transition _>>=_ _>>_
   parts-at at x u h =
@@ -224,17 +243,7 @@ module _ (vs : List Variable) (ts : List Table) (bytes : List ℕ) where
       let c3 = chain (number vs ts mostNesting (drop (c2 .used) (drop (c1 .used) e))) _ (drop (c2 .used) (drop (c1 .used) e)) x (c2 .left) (c2 .reads-next) in
       let c4 = chain (effectList vs ts (drop (c3 .used) (drop (c2 .used) (drop (c1 .used) e)))) _ (drop (c3 .used) (drop (c2 .used) (drop (c1 .used) e))) x (c3 .left) (c3 .reads-next) in
       let g = given _ _ x (c4 .left) (c4 .reads-next) in
-      let e2 : drop (c2 .used) (drop (c1 .used) e) ≡ drop (at + c1 .used + 1) bytes = rw (w .0, drop-drop (c1 .used) at bytes) (drop-drop 1 (at + c1 .used) bytes) in
-      let e3 : drop (c3 .used) (drop (c2 .used) (drop (c1 .used) e)) ≡ drop (at + c1 .used + 1 + c3 .used) bytes = ap (drop (c3 .used)) e2 ∙ drop-drop (c3 .used) (at + c1 .used + 1) bytes in
-      record {
-        conditions-used = c1 .used;
-        cost-used = c3 .used;
-        effects-used = c4 .used;
-        reads-conditions = c1 .reads-first ∙ ap (λ (i : Transition). read (i .conditions) (c1 .used)) (g .0);
-        reads-cost = ap (number vs ts mostNesting) (sym e2) ∙ c3 .reads-first ∙ ap (λ (i : Transition). read (i .cost) (c3 .used)) (g .0);
-        cost-there = sym (front-byte bytes (at + c1 .used)) ∙ ap (λ (l : List ℕ). getD l 0 0) (sym (drop-drop (c1 .used) at bytes)) ∙ w .1;
-        reads-effects = ap (effectList vs ts) (sym e3) ∙ c4 .reads-first ∙ ap (λ (i : Transition). read (i .effects) (c4 .used)) (g .0);
-      }
+      parts-told at (c1 .used) (c2 .used) (c3 .used) (c4 .used) x (w .0) (c1 .reads-first) (w .1) (c3 .reads-first) (c4 .reads-first) (g .0)
 
 -- ---- an effect's expression, by the kind of its variable
 
