@@ -15,10 +15,10 @@ use Rattle.model.proofs.Loops.{many-more, many-end, many-full, many-early, many
 use Rattle.words.specs.Signature.{variablesOf, tablesOf}
 use Rattle.expressions.proofs.Alike.{SameVariable, neither, both, same-variable, ReadsAlike, reads-alike}
 use Rattle.commands.specs.Groups.{itemOf, VariablesDeclared, TablesDeclared}
-use Rattle.commands.specs.Transitions.{effectsBehind}
+use Rattle.transitions.specs.Transitions.{effectsBehind}
 use Rattle.commands.specs.declared.Group.{Group}
 use Rattle.commands.specs.declared.Group.the-variants as G
-use Rattle.commands.proofs.Effects.{target-cut, target-again, target-undeclared, target-good}
+use Rattle.transitions.proofs.Reading.{target-cut, target-again, target-undeclared, target-good}
 
 -- ---- loops whose heads and bodies are alike
 

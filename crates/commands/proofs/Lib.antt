@@ -1,11 +1,5 @@
--- Laws of reading commands.
-pub mod Positions
-pub mod Operands
-pub mod Entries
-pub mod Lists
-pub mod Declarations
-pub mod Items
-pub mod Effects
+-- Laws of reading groups of commands, and whole models.
+pub mod Offsets
 pub mod Outlining
 pub mod Alike
 pub mod Stages

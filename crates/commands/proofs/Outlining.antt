@@ -11,14 +11,14 @@ use Rattle.model.specs.Readers.{read, refused, command, upTo}
 use Rattle.model.specs.Syntax.{Variable, Table}
 use Rattle.model.specs.Commands.{nothingMore}
 use Rattle.outline.specs.Outline.{outlineWords}
-use Rattle.commands.specs.Places.{readAt, placeOf}
+use Rattle.declarations.specs.Places.{readAt, placeOf}
 use Rattle.commands.specs.Groups.{codeOf, mostOf, countAt, offsetsFrom, itemOf, ItemsRead, GroupRead, theEnd}
 use Rattle.commands.specs.declared.Group.{Group}
 use Rattle.commands.specs.declared.Group.the-variants as G
-use Rattle.commands.specs.declared.Place.the-variants.{At, Refused}
-use Rattle.commands.proofs.Positions.{nothing, front, reads-at, refuses-at, next-read, next-refused, command-there, command-other, command-early}
+use Rattle.declarations.specs.declared.Place.the-variants.{At, Refused}
+use Rattle.declarations.proofs.Positions.{nothing, front, reads-at, refuses-at, next-read, next-refused, command-there, command-other, command-early}
 use Rattle.laws.proofs.Lists.{found-below}
-use Rattle.commands.proofs.Lists.{withPart, part-in, part-before, part-behind, part-length}
+use Rattle.declarations.proofs.Lists.{withPart, part-in, part-before, part-behind, part-length}
 
 pub code-positive : (g : Group) → 0 < codeOf g
 code-positive G.Transitions = omega arith

@@ -11,13 +11,13 @@ use Rattle.model.specs.Syntax.{Number, Condition, Rule, Variable, Table, Transi
 use Rattle.model.specs.Expressions.{number, condition}
 use Rattle.model.specs.Commands.{conditions, transition, nothingMore}
 use Rattle.words.specs.Signature.{variablesOf, tablesOf}
-use Rattle.commands.specs.Places.{readAt, placeOf}
+use Rattle.declarations.specs.Places.{readAt, placeOf}
 use Rattle.commands.specs.Groups.{codeOf, mostOf, countAt, offsetsFrom, itemOf, Outside, GroupAt, GroupRead, GroupTold, theEnd, behindBounds, behindConstraints, behindBaseCases, behindTransitions, behindTables, VariablesDeclared, TablesDeclared, GroupsAt, GroupsRead, GroupsKeep, GroupsTold, GroupsAs}
 use Rattle.commands.specs.declared.Group.{Group}
 use Rattle.commands.specs.declared.Group.the-variants as G
-use Rattle.commands.specs.declared.Place.{Place}
-use Rattle.commands.specs.declared.Place.the-variants as P
-use Rattle.commands.proofs.Positions.{give-at, then-read, then-refused, next-read, next-refused, next-split}
+use Rattle.declarations.specs.declared.Place.{Place}
+use Rattle.declarations.specs.declared.Place.the-variants as P
+use Rattle.declarations.proofs.Positions.{give-at, then-read, then-refused, next-read, next-refused, next-split}
 use Rattle.laws.proofs.Lists.{found-below}
 use Rattle.commands.proofs.Alike.{items-alike}
 

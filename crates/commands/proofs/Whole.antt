@@ -18,16 +18,16 @@ use Rattle.model.proofs.Reading.{model-refusal}
 use Rattle.words.specs.Signature.{WellFormed}
 use Rattle.words.specs.Tables.{Tabled}
 use Rattle.outline.specs.Outline.{outlineWords, VariableAt, Items, ruleNumber, readModel, modelOf, refusalOf, Outlines}
-use Rattle.commands.specs.Places.{readAt, placeOf, Each}
-use Rattle.commands.specs.Declarations.{VariablesRead, VariablesTold, TablesRead, TablesTold}
+use Rattle.declarations.specs.Places.{readAt, placeOf, Each}
+use Rattle.declarations.specs.Declarations.{VariablesRead, VariablesTold, TablesRead, TablesTold}
 use Rattle.commands.specs.Groups.{behindTables, behindVariables, behindRule, VariablesDeclared, GroupsTold, GroupsAs, PartsTold, PartsAs, ModelRead, ModelTold, ModelAs}
-use Rattle.commands.specs.declared.Listed.{Listed}
-use Rattle.commands.specs.declared.Listed.the-variants as L
-use Rattle.commands.specs.declared.Place.{Place}
-use Rattle.commands.specs.declared.Place.the-variants as P
-use Rattle.commands.proofs.Operands.{rule-good, rule-beyond, rule-cut, rule-other, rule-none, rule-number}
-use Rattle.commands.proofs.Positions.{at-reads, place-read, place-refused, then-read, then-refused}
-use Rattle.commands.proofs.Lists.{each-map, each-all, inside-some, withPart, part-in, part-before, part-length}
+use Rattle.declarations.specs.declared.Listed.{Listed}
+use Rattle.declarations.specs.declared.Listed.the-variants as L
+use Rattle.declarations.specs.declared.Place.{Place}
+use Rattle.declarations.specs.declared.Place.the-variants as P
+use Rattle.declarations.proofs.Operands.{rule-good, rule-beyond, rule-cut, rule-other, rule-none, rule-number}
+use Rattle.declarations.proofs.Positions.{at-reads, place-read, place-refused, then-read, then-refused}
+use Rattle.declarations.proofs.Lists.{each-map, each-all, inside-some, withPart, part-in, part-before, part-length}
 
 -- ---- the tables, and what follows them
 

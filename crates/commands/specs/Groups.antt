@@ -15,11 +15,11 @@ use Rattle.words.specs.Tables.{Tabled}
 use Rattle.outline.specs.Outline.{variableCountAt, tableCountAt, transitionCountAt, baseCaseCountAt, constraintCountAt, boundCountAt, tablesFrom, transitionsFrom, baseCasesFrom, constraintsFrom, boundsFrom, VariableAt, Items}
 use Rattle.commands.specs.declared.Group.{Group}
 use Rattle.commands.specs.declared.Group.the-variants as G
-use Rattle.commands.specs.declared.Listed.{Listed}
-use Rattle.commands.specs.declared.Listed.the-variants as L
-use Rattle.commands.specs.declared.Place.{Place}
-use Rattle.commands.specs.declared.Place.the-variants as P
-use Rattle.commands.specs.Places.{readAt, Each}
+use Rattle.declarations.specs.declared.Listed.{Listed}
+use Rattle.declarations.specs.declared.Listed.the-variants as L
+use Rattle.declarations.specs.declared.Place.{Place}
+use Rattle.declarations.specs.declared.Place.the-variants as P
+use Rattle.declarations.specs.Places.{readAt, Each}
 
 -- ---- the groups
 

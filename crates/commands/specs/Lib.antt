@@ -1,5 +1,2 @@
--- Reading at positions, and what the groups of commands put into words.
-pub mod Places
-pub mod Declarations
-pub mod Transitions
+-- What the groups of commands put into words.
 pub mod Groups

@@ -7,20 +7,20 @@ ghost use Rattle.model.specs.Numbers.{mostVariables};
 ghost use Rattle.model.specs.Readers.{upTo};
 ghost use Rattle.words.specs.Signature.{variablesOf, tablesOf};
 ghost use Rattle.outline.specs.Outline.{outlineWords};
-ghost use Rattle.commands.specs.Places.{readAt, placeOf};
+ghost use Rattle.declarations.specs.Places.{readAt, placeOf};
 ghost use Rattle.commands.specs.Groups.{codeOf, mostOf, countAt, offsetsFrom, itemOf, ItemsTold, GroupAs, GroupsAs, theEnd};
 use crate::BYTES_AFTER_END;
 use crate::Group;
-use crate::Listed;
-use crate::Place;
-use crate::places::byte_at;
-use crate::transitions::condition_at;
-use crate::transitions::conditions;
-use crate::transitions::number_at;
-use crate::transitions::transition;
+use declarations::Listed;
+use declarations::Place;
+use declarations::places::byte_at;
 use expressions::ENDS_EARLY;
 use expressions::NOT_DUE;
 use expressions::OFF_LIMITS;
+use transitions::condition_at;
+use transitions::conditions;
+use transitions::number_at;
+use transitions::transition;
 
 // The command byte of a group's items.
 fn code(group: Group) -> u8

@@ -1,10 +1,6 @@
 // Reads whole models: their commands in order, the refusal where they are not right, and the outline that says where each part stands.
 
 mod groups;
-mod places;
-mod tables;
-mod transitions;
-mod variables;
 
 ghost use mathlib.Core.Path.{_≡_};
 ghost use Prim.Native.Nat.{_≤_};
@@ -14,61 +10,16 @@ ghost use Rattle.model.specs.Commands as commands;
 ghost use Rattle.outline.specs.Outline.{outlineWords, modelOf, refusalOf, Outlines};
 ghost use Rattle.commands.specs.Groups.{PartsAs, ModelAs};
 use crate::groups::groups;
-use crate::places::byte_at;
-use crate::places::cost_rule;
-use crate::tables::tables;
-use crate::variables::variables;
+use declarations::Listed;
+use declarations::Place;
+use declarations::places::byte_at;
+use declarations::places::cost_rule;
+use declarations::tables::tables;
+use declarations::variables::variables;
 use laws::wide;
 
 // Bytes after the end command: the refusal as document 01 numbers it. The others are those of `expressions`.
 const BYTES_AFTER_END: u8 = 9;
-
-// Sizes of document 01.
-const MOST_VARIABLES: usize = 16;
-
-const MOST_TABLES: usize = 32;
-
-const MOST_CONDITIONS: usize = 16;
-
-const MOST_NESTING: usize = 32;
-
-// The position behind what was read; or the number of a refusal.
-pub enum Place {
-    At(usize),
-    Refused(u8),
-}
-
-// The position behind a group of commands and how many they are; or the number of a refusal.
-pub enum Listed {
-    Items(usize, usize),
-    Refused(u8),
-}
-
-// A variable: the bytes of its operands, its kind and objects as a byte, its preference, the words of its start and its full set.
-pub struct Declaration {
-    pub used: usize,
-    pub kind: u8,
-    pub preference: u8,
-    pub start: u64,
-    pub full: u64,
-}
-
-pub enum Declared {
-    Variable(Declaration),
-    Refused(u8),
-}
-
-// A table's rows and columns; or the number of a refusal.
-pub enum Sides {
-    Good(u8, u8),
-    Refused(u8),
-}
-
-// The variable that an effect sets and the position behind it; or the number of a refusal.
-pub enum Change {
-    Of(usize, usize),
-    Refused(u8),
-}
 
 // The groups of commands behind the tables.
 pub enum Group {

@@ -4,7 +4,7 @@ use borrow.Author.Needs.{needs}
 use Rattle.words.specs.Signature.{variablesOf, tablesOf}
 use Rattle.commands.specs.declared.Group.{Group}
 use Rattle.commands.specs.Groups.{itemOf}
-use Rattle.commands.specs.Places.{readAt, placeOf}
+use Rattle.declarations.specs.Places.{readAt, placeOf}
 use Rattle.commands.proofs.groups.item.Statement.{statement}
 use Rattle.commands.proofs.groups.item.Tie as tie
 

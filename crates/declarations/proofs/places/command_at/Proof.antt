@@ -1,0 +1,25 @@
+-- `declarations::places::command_at` meets its contract. A command's byte: there, another, or none.
+use mathlib.Core.Path.{sym, ap}
+use borrow.Author.Needs.{needs}
+use Rattle.declarations.specs.Places.{placeOf}
+use Rattle.declarations.proofs.Positions.{command-there, command-other, command-early}
+use Rattle.declarations.proofs.places.command_at.Statement.{statement}
+use Rattle.declarations.proofs.places.command_at.Tie as tie
+
+shared-slice-read-if2 : tie.Need-shared-slice-read-if2
+shared-slice-read-if2 c = search needs
+
+add-t11 : tie.Need-add-t11
+add-t11 c = search needs
+
+returns : tie.Need-returns
+returns c = sym (ap placeOf (command-there (c .before .before .before .args .c) (c .before .before .before .args .at) (c .before .before .before .args .model .now) (c .before .before .if1 .taken) (c .if2 .taken)))
+
+returns-2 : tie.Need-returns-2
+returns-2 c = sym (ap placeOf (command-other (c .before .before .before .args .c) (c .before .before .before .args .at) (c .before .before .before .args .model .now) (c .before .before .if1 .taken) (c .if2 .left)))
+
+returns-3 : tie.Need-returns-3
+returns-3 c = sym (ap placeOf (command-early (c .before .args .c) (c .before .args .at) (c .before .args .model .now) (c .if1 .left)))
+
+pub command-at-spec : {M : Type 1} → statement M
+command-at-spec = tie.close (tie.spec shared-slice-read-if2 add-t11 returns returns-2 returns-3)

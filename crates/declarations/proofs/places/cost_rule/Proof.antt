@@ -1,0 +1,43 @@
+-- `declarations::places::cost_rule` meets its contract. 01 and the cost rule, by the tests of its two bytes.
+use mathlib.Core.Path.{sym, ap}
+use native.Mathlib.Omega.{arith}
+use borrow.Author.Needs.{needs}
+use Rattle.model.specs.Commands.{costRule}
+use Rattle.declarations.specs.Places.{placeOf}
+use Rattle.declarations.proofs.Operands.{rule-good, rule-beyond, rule-cut, rule-other, rule-none}
+use Rattle.declarations.proofs.Positions.{reads-at, refuses-at}
+use Rattle.declarations.proofs.places.cost_rule.Statement.{statement}
+use Rattle.declarations.proofs.places.cost_rule.Tie as tie
+
+returns : tie.Need-returns
+returns c = sym (ap placeOf (refuses-at costRule 0 (c .before .args .model .now) (rule-none (c .before .args .model .now) (c .if1 .taken))))
+
+shared-slice-read-if2 : tie.Need-shared-slice-read-if2
+shared-slice-read-if2 c = search needs
+
+returns-2 : tie.Need-returns-2
+returns-2 c = sym (ap placeOf (refuses-at costRule 0 (c .before .before .before .before .args .model .now) (rule-cut (c .before .before .before .before .args .model .now) (c .if3 .taken) (c .before .if2 .taken))))
+
+shared-slice-read-if4 : tie.Need-shared-slice-read-if4
+shared-slice-read-if4 c = search needs
+
+returns-3 : tie.Need-returns-3
+returns-3 c = sym (ap placeOf (reads-at costRule 0 (c .before .before .before .before .before .before .args .model .now) (rule-good (c .before .before .before .before .before .before .args .model .now) (omega (arith, c .before .before .before .before .before .if1 .left, c .before .before .if3 .left)) (c .before .before .before .if2 .taken) (c .if4 .taken))))
+
+returns-4 : tie.Need-returns-4
+returns-4 c = sym (ap placeOf (refuses-at costRule 0 (c .before .before .before .before .before .before .args .model .now) (rule-beyond (c .before .before .before .before .before .before .args .model .now) (omega (arith, c .before .before .before .before .before .if1 .left, c .before .before .if3 .left)) (c .before .before .before .if2 .taken) (c .if4 .left))))
+
+returns-5 : tie.Need-returns-5
+returns-5 c = sym (ap placeOf (refuses-at costRule 0 (c .before .before .before .args .model .now) (rule-other (c .before .before .before .args .model .now) (omega (arith, c .before .before .if1 .left)) (c .if2 .left))))
+
+pub cost-rule-spec : {M : Type 1} → statement M
+cost-rule-spec =
+    tie.close
+    (tie.spec
+    returns
+    shared-slice-read-if2
+    returns-2
+    shared-slice-read-if4
+    returns-3
+    returns-4
+    returns-5)

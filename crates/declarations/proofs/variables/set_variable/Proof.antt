@@ -1,0 +1,70 @@
+-- `declarations::variables::set_variable` meets its contract. 02: nine bytes of operands, and their test.
+use Prim.Native.Nat.{ℕ, _^_, _-_}
+use mathlib.Core.Path.{refl, sym, ap, _∙_}
+use native.Mathlib.Omega.{arith}
+use lib.Dec.{ltb}
+use lib.ListN.{getD, length-drop}
+use borrow.Author.Needs.{needs}
+use Rattle.words.proofs.Literal.{suffix}
+use Rattle.model.specs.Expressions.{isCount}
+use Rattle.laws.proofs.Bools.{and-both}
+use Rattle.declarations.proofs.Operands.{set-good, set-beyond, set-cut, set-declares, count-bounds}
+use Rattle.declarations.proofs.variables.set_variable.Statement.{statement}
+use Rattle.declarations.proofs.variables.set_variable.Tie as tie
+
+shared-slice-read-n : tie.Need-shared-slice-read-n
+shared-slice-read-n c = search needs
+
+sub-long : tie.Need-sub-long
+sub-long c = search needs
+
+part-long-start : tie.Need-part-long-start
+part-long-start c = search needs
+
+part-long-end : tie.Need-part-long-end
+part-long-end c = search needs
+
+long-requires : tie.Need-long-requires
+long-requires c κs = rw (suffix 1 (c .before .before .before .before .args .e .now)) (omega (arith, length-drop 1 (c .before .before .before .before .args .e .now), c .before .before .if1 .taken))
+
+members-fit-requires : tie.Need-members-fit-requires
+members-fit-requires c κs = search needs
+
+add-t14 : tie.Need-add-t14
+add-t14 c = let h = and-both (isCount (getD (c .before .before .before .before .before .before .before .args .e .now) 0 0)) (ltb (c .before .before .long .result) (2 ^ getD (c .before .before .before .before .before .before .before .args .e .now) 0 0)) (sym (c .before .members-fit .ensures) ∙ c .if2 .taken) in omega (arith, count-bounds (getD (c .before .before .before .before .before .before .before .args .e .now) 0 0) (h .0))
+
+wide-requires : tie.Need-wide-requires
+wide-requires c κs = search needs
+
+full-requires : tie.Need-full-requires
+full-requires c κs = let h = and-both (isCount (getD (c .before .before .before .before .before .before .before .before .args .e .now) 0 0)) (ltb (c .before .before .before .long .result) (2 ^ getD (c .before .before .before .before .before .before .before .before .args .e .now) 0 0)) (sym (c .before .before .members-fit .ensures) ∙ c .before .if2 .taken) in omega (arith, c .wide .ensures .0, count-bounds (getD (c .before .before .before .before .before .before .before .before .args .e .now) 0 0) (h .0))
+
+returns : tie.Need-returns
+returns c = let e = c .before .before .before .before .before .before .before .before .before .args .e .now in
+    let t = sym (c .before .before .before .members-fit .ensures) ∙ c .before .before .if2 .taken in
+    let h = and-both (isCount (getD e 0 0)) (ltb (c .before .before .before .before .long .result) (2 ^ getD e 0 0)) t in
+    set-declares _ (getD e 0 0) (c .before .before .before .before .long .result) _ (set-good e (c .before .before .before .before .before .before .before .if1 .taken) (rw (suffix 1 e) at (c .before .before .before .before .long .ensures)) t) (h .0) refl refl refl refl (c .full .ensures ∙ ap (λ (n : ℕ). 2 ^ n - 1) (c .before .wide .ensures .0))
+
+returns-2 : tie.Need-returns-2
+returns-2 c = let e = c .before .before .before .before .before .before .before .args .e .now in
+    set-beyond e (c .before .before .before .before .before .if1 .taken) (rw (suffix 1 e) at (c .before .before .long .ensures)) (sym (c .before .members-fit .ensures) ∙ c .if2 .left)
+
+returns-3 : tie.Need-returns-3
+returns-3 c = set-cut (c .before .before .args .e .now) (c .if1 .left)
+
+pub set-variable-spec : {M : Type 1} → statement M
+set-variable-spec =
+    tie.close
+    (tie.spec
+    shared-slice-read-n
+    sub-long
+    part-long-start
+    part-long-end
+    long-requires
+    members-fit-requires
+    add-t14
+    wide-requires
+    full-requires
+    returns
+    returns-2
+    returns-3)

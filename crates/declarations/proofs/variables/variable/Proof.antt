@@ -1,0 +1,34 @@
+-- `declarations::variables::variable` meets its contract. The reader that the command byte picks.
+use borrow.Author.Needs.{needs}
+use Rattle.declarations.proofs.Operands.{variable-set, variable-element, variable-number}
+use Rattle.declarations.proofs.variables.variable.Statement.{statement}
+use Rattle.declarations.proofs.variables.variable.Tie as tie
+
+set-variable-requires : tie.Need-set-variable-requires
+set-variable-requires c κs = search needs
+
+returns : tie.Need-returns
+returns c = rw (variable-set (c .before .before .before .args .b) (c .before .before .before .args .e .now) (c .before .if1 .taken)) (c .set-variable .ensures)
+
+element-variable-requires : tie.Need-element-variable-requires
+element-variable-requires c κs = search needs
+
+returns-2 : tie.Need-returns-2
+returns-2 c = rw (variable-element (c .before .before .before .before .args .b) (c .before .before .before .before .args .e .now) (c .before .if2 .taken)) (c .element-variable .ensures)
+
+number-variable-requires : tie.Need-number-variable-requires
+number-variable-requires c κs = search needs
+
+returns-3 : tie.Need-returns-3
+returns-3 c = rw (variable-number (c .before .before .before .before .args .b) (c .before .before .before .before .args .e .now) (c .before .before .if1 .left) (c .before .if2 .left)) (c .number-variable .ensures)
+
+pub variable-spec : {M : Type 1} → statement M
+variable-spec =
+    tie.close
+    (tie.spec
+    set-variable-requires
+    returns
+    element-variable-requires
+    returns-2
+    number-variable-requires
+    returns-3)

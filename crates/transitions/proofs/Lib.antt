@@ -1,0 +1,2 @@
+-- Laws of reading transitions.
+pub mod Reading

@@ -1,0 +1,21 @@
+-- `transitions::count_fits` meets its contract. The kind of a variable's byte decides how the counts have to fit.
+use borrow.Author.Tests.{le-leb, lt-leb}
+use borrow.Author.Needs.{needs}
+use Rattle.transitions.proofs.Reading.{kind-number, kind-element, kind-set, objects-element, objects-set}
+use Rattle.transitions.proofs.count_fits.Statement.{statement}
+use Rattle.transitions.proofs.count_fits.Tie as tie
+
+returns : tie.Need-returns
+returns c = rw (kind-number (c .before .args .kind) (c .if1 .taken))
+
+sub-result : tie.Need-sub-result
+sub-result c = search needs
+
+returns-2 : tie.Need-returns-2
+returns-2 c = rw (kind-element (c .before .before .args .kind) (c .before .if1 .left) (le-leb (c .before .before .args .kind) 64 (c .if2 .taken)), objects-element (c .before .before .args .kind) (le-leb (c .before .before .args .kind) 64 (c .if2 .taken)))
+
+returns-3 : tie.Need-returns-3
+returns-3 c = rw (kind-set (c .before .before .args .kind) (c .before .if1 .left) (lt-leb (c .before .before .args .kind) 64 (c .if2 .left)), objects-set (c .before .before .args .kind) (lt-leb (c .before .before .args .kind) 64 (c .if2 .left)))
+
+pub count-fits-spec : {M : Type 1} → statement M
+count-fits-spec = tie.close (tie.spec returns sub-result returns-2 returns-3)

@@ -1,0 +1,78 @@
+-- `transitions::effect` meets its contract. The tests of the target in their order, then its expression.
+use Prim.Native.Nat.{_+_}
+use mathlib.Core.Path.{sym, _∙_}
+use native.Mathlib.Omega.{arith}
+use borrow.Author.Needs.{needs}
+use Rattle.transitions.proofs.Reading.{effect-cut, effect-again, effect-undeclared, effect-too-many, effect-refused, effect-more}
+use Rattle.declarations.proofs.Positions.{byte-inside}
+use Rattle.transitions.proofs.effect.Statement.{statement}
+use Rattle.transitions.proofs.effect.Tie as tie
+
+add-if1 : tie.Need-add-if1
+add-if1 c = record { fits = omega (arith, c .before .before .before .before .before .good, byte-inside (c .before .before .before .before .before .args .model .now) (c .before .before .before .before .before .args .at) 10 (omega arith) (c .before .before .before .before .before .pre .0)) }
+
+add-v : tie.Need-add-v
+add-v c = search needs
+
+shared-slice-read-v : tie.Need-shared-slice-read-v
+shared-slice-read-v c = search needs
+
+cast-v : tie.Need-cast-v
+cast-v c = record { fits = omega (arith, c .shared-slice-known6 .given (c .before .before .before .before .before .before .before .args .at + 1)) }
+
+byte-at-requires : tie.Need-byte-at-requires
+byte-at-requires c κs = search needs
+
+returns : tie.Need-returns
+returns c = effect-again (c .before .before .before .before .before .before .before .before .before .args .kinds .now) (c .before .before .before .before .before .before .before .before .before .args .rows .now) (c .before .before .before .before .before .before .before .before .before .args .columns .now) (c .before .before .before .before .before .before .before .before .before .args .model .now) (c .before .before .before .before .before .before .before .before .before .args .at) (c .before .before .before .before .before .before .before .before .before .args .n) (c .before .before .before .before .before .before .before .before .before .args .marks .now) (c .before .before .before .before .before .before .before .before .before .pre .0) (c .before .before .before .if1 .taken) (c .before .byte-at .ensures) (c .if2 .taken)
+
+returns-2 : tie.Need-returns-2
+returns-2 c = effect-too-many (c .before .before .before .before .before .before .before .before .before .before .before .args .kinds .now) (c .before .before .before .before .before .before .before .before .before .before .before .args .rows .now) (c .before .before .before .before .before .before .before .before .before .before .before .args .columns .now) (c .before .before .before .before .before .before .before .before .before .before .before .args .model .now) (c .before .before .before .before .before .before .before .before .before .before .before .args .at) (c .before .before .before .before .before .before .before .before .before .before .before .args .n) (c .before .before .before .before .before .before .before .before .before .before .before .args .marks .now) (c .before .before .before .before .before .before .before .before .before .before .before .pre .0) (c .before .before .before .before .before .if1 .taken) (c .before .before .before .byte-at .ensures) (c .before .before .if2 .left) (c .before .if3 .taken) (c .if4 .taken)
+
+shared-slice-read-result-at : tie.Need-shared-slice-read-result-at
+shared-slice-read-result-at c = search needs
+
+add-result-at : tie.Need-add-result-at
+add-result-at c = search needs
+
+result-at-requires : tie.Need-result-at-requires
+result-at-requires c κs = search needs
+
+enum-known-end : tie.Need-enum-known-end
+enum-known-end c = search needs
+
+enum-known-t : tie.Need-enum-known-t
+enum-known-t c = search needs
+
+returns-3 : tie.Need-returns-3
+returns-3 c = effect-more (c .before .before .before .before .before .before .before .before .before .before .before .before .before .before .before .before .args .kinds .now) (c .before .before .before .before .before .before .before .before .before .before .before .before .before .before .before .before .args .rows .now) (c .before .before .before .before .before .before .before .before .before .before .before .before .before .before .before .before .args .columns .now) (c .before .before .before .before .before .before .before .before .before .before .before .before .before .before .before .before .args .model .now) (c .before .before .before .before .before .before .before .before .before .before .before .before .before .before .before .before .args .at) (c .before .before .before .before .before .before .before .before .before .before .before .before .before .before .before .before .args .n) (c .before .before .before .before .before .before .before .before .before .before .before .before .before .before .before .before .args .marks .now) (c .before .before .before .before .before .before .before .before .before .before .before .before .before .before .before .before .pre .0) (c .before .before .before .before .before .before .before .before .before .before .if1 .taken) (c .before .before .before .before .before .before .before .before .byte-at .ensures) (c .before .before .before .before .before .before .before .if2 .left) (c .before .before .before .before .before .before .if3 .taken) (omega (arith, c .before .before .before .before .before .before .before .before .before .before .before .before .before .before .before .before .pre .1, c .before .before .before .before .before .if4 .left)) (c .before .before .before .before .before .before .before .before .before .before .before .before .before .before .before .before .pre .2) (sym (c .before .end .given .1) ∙ c .before .before .before .result-at .ensures)
+
+returns-4 : tie.Need-returns-4
+returns-4 c = effect-refused (c .before .before .before .before .before .before .before .before .before .before .before .before .before .before .before .before .args .kinds .now) (c .before .before .before .before .before .before .before .before .before .before .before .before .before .before .before .before .args .rows .now) (c .before .before .before .before .before .before .before .before .before .before .before .before .before .before .before .before .args .columns .now) (c .before .before .before .before .before .before .before .before .before .before .before .before .before .before .before .before .args .model .now) (c .before .before .before .before .before .before .before .before .before .before .before .before .before .before .before .before .args .at) (c .before .before .before .before .before .before .before .before .before .before .before .before .before .before .before .before .args .n) (c .before .before .before .before .before .before .before .before .before .before .before .before .before .before .before .before .args .marks .now) (c .before .before .before .before .before .before .before .before .before .before .before .before .before .before .before .before .pre .0) (c .before .before .before .before .before .before .before .before .before .before .if1 .taken) (c .before .before .before .before .before .before .before .before .byte-at .ensures) (c .before .before .before .before .before .before .before .if2 .left) (c .before .before .before .before .before .before .if3 .taken) (omega (arith, c .before .before .before .before .before .before .before .before .before .before .before .before .before .before .before .before .pre .1, c .before .before .before .before .before .if4 .left)) (sym (c .before .t .given .1) ∙ c .before .before .before .result-at .ensures)
+
+returns-5 : tie.Need-returns-5
+returns-5 c = effect-undeclared (c .before .before .before .before .before .before .before .before .before .before .args .kinds .now) (c .before .before .before .before .before .before .before .before .before .before .args .rows .now) (c .before .before .before .before .before .before .before .before .before .before .args .columns .now) (c .before .before .before .before .before .before .before .before .before .before .args .model .now) (c .before .before .before .before .before .before .before .before .before .before .args .at) (c .before .before .before .before .before .before .before .before .before .before .args .n) (c .before .before .before .before .before .before .before .before .before .before .args .marks .now) (c .before .before .before .before .before .before .before .before .before .before .pre .0) (c .before .before .before .before .if1 .taken) (c .before .before .byte-at .ensures) (c .before .if2 .left) (c .if3 .left)
+
+returns-6 : tie.Need-returns-6
+returns-6 c = effect-cut (c .before .before .before .before .before .before .args .kinds .now) (c .before .before .before .before .before .before .args .rows .now) (c .before .before .before .before .before .before .args .columns .now) (c .before .before .before .before .before .before .args .model .now) (c .before .before .before .before .before .before .args .at) (c .before .before .before .before .before .before .args .n) (c .before .before .before .before .before .before .args .marks .now) (c .before .before .before .before .before .before .pre .0) (c .if1 .left)
+
+pub effect-spec : {M : Type 1} → statement M
+effect-spec =
+    tie.close
+    (tie.spec
+    add-if1
+    add-v
+    shared-slice-read-v
+    cast-v
+    byte-at-requires
+    returns
+    returns-2
+    shared-slice-read-result-at
+    add-result-at
+    result-at-requires
+    enum-known-end
+    enum-known-t
+    returns-3
+    returns-4
+    returns-5
+    returns-6)

@@ -1,0 +1,47 @@
+-- `transitions::result_at` meets its contract. The expression that is due, then the test of its count.
+use mathlib.Core.Bool.{Bool, cond}
+use mathlib.Core.Path.{sym, ap, _∙_}
+use borrow.Author.Needs.{needs}
+use Rattle.model.specs.Numbers.{mismatch}
+use Rattle.words.specs.Signature.{variableOf, variablesOf, tablesOf}
+use Rattle.declarations.specs.declared.Place.the-variants as P
+use Rattle.transitions.proofs.Reading.{result-read, result-refused}
+use Rattle.transitions.proofs.result_at.Statement.{statement}
+use Rattle.transitions.proofs.result_at.Tie as tie
+
+due-for-requires : tie.Need-due-for-requires
+due-for-requires c κs = search needs
+
+expression-at-requires : tie.Need-expression-at-requires
+expression-at-requires c κs = search needs
+
+enum-known-end : tie.Need-enum-known-end
+enum-known-end c = search needs
+
+count-fits-requires : tie.Need-count-fits-requires
+count-fits-requires c κs = search needs
+
+enum-known-t : tie.Need-enum-known-t
+enum-known-t c = search needs
+
+returns : tie.Need-returns
+returns c = sym (ap (λ (b : Bool). cond b (P.At (c .before .before .before .end .given .0 .0)) (P.Refused mismatch)) (sym (c .before .count-fits .ensures) ∙ c .if1 .taken)) ∙ result-read (variablesOf (c .before .before .before .before .before .before .before .before .before .before .before .args .kinds .now)) (tablesOf (c .before .before .before .before .before .before .before .before .before .before .before .args .rows .now) (c .before .before .before .before .before .before .before .before .before .before .before .args .columns .now)) (c .before .before .before .before .before .before .before .before .before .before .before .args .at) (c .before .before .before .before .before .before .before .before .before .before .before .args .model .now) (variableOf (c .before .before .before .before .before .before .before .before .before .before .before .args .kind) .kind) (variableOf (c .before .before .before .before .before .before .before .before .before .before .before .args .kind) .objects) (sym (c .before .before .before .end .given .1) ∙ rw (c .before .before .before .before .before .before .due-for .ensures) at (c .before .before .before .before .before .expression-at .ensures))
+
+returns-2 : tie.Need-returns-2
+returns-2 c = sym (ap (λ (b : Bool). cond b (P.At (c .before .before .before .end .given .0 .0)) (P.Refused mismatch)) (sym (c .before .count-fits .ensures) ∙ c .if1 .left)) ∙ result-read (variablesOf (c .before .before .before .before .before .before .before .before .before .before .before .args .kinds .now)) (tablesOf (c .before .before .before .before .before .before .before .before .before .before .before .args .rows .now) (c .before .before .before .before .before .before .before .before .before .before .before .args .columns .now)) (c .before .before .before .before .before .before .before .before .before .before .before .args .at) (c .before .before .before .before .before .before .before .before .before .before .before .args .model .now) (variableOf (c .before .before .before .before .before .before .before .before .before .before .before .args .kind) .kind) (variableOf (c .before .before .before .before .before .before .before .before .before .before .before .args .kind) .objects) (sym (c .before .before .before .end .given .1) ∙ rw (c .before .before .before .before .before .before .due-for .ensures) at (c .before .before .before .before .before .expression-at .ensures))
+
+returns-3 : tie.Need-returns-3
+returns-3 c = result-refused (variablesOf (c .before .before .before .before .before .before .before .before .before .args .kinds .now)) (tablesOf (c .before .before .before .before .before .before .before .before .before .args .rows .now) (c .before .before .before .before .before .before .before .before .before .args .columns .now)) (c .before .before .before .before .before .before .before .before .before .args .at) (c .before .before .before .before .before .before .before .before .before .args .model .now) (variableOf (c .before .before .before .before .before .before .before .before .before .args .kind) .kind) (variableOf (c .before .before .before .before .before .before .before .before .before .args .kind) .objects) (sym (c .before .t .given .1) ∙ rw (c .before .before .before .before .due-for .ensures) at (c .before .before .before .expression-at .ensures))
+
+pub result-at-spec : {M : Type 1} → statement M
+result-at-spec =
+    tie.close
+    (tie.spec
+    due-for-requires
+    expression-at-requires
+    enum-known-end
+    count-fits-requires
+    enum-known-t
+    returns
+    returns-2
+    returns-3)

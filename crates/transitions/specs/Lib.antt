@@ -1,0 +1,2 @@
+-- What is told of a transition that was read.
+pub mod Transitions
