@@ -6,9 +6,9 @@ ghost use Rattle.model.specs.Readers.{command};
 ghost use Rattle.model.specs.Commands.{costRule};
 ghost use Rattle.declarations.specs.Places.{readAt, placeOf};
 use crate::Place;
-use expressions::ENDS_EARLY;
-use expressions::NOT_DUE;
-use expressions::OFF_LIMITS;
+use forms::ENDS_EARLY;
+use forms::NOT_DUE;
+use forms::OFF_LIMITS;
 
 // The byte at i, or 0 where there is none.
 pub fn byte_at(s: &[u8], i: usize) -> u8

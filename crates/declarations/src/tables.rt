@@ -14,9 +14,9 @@ use crate::Place;
 use crate::Sides;
 use crate::places::byte_at;
 use crate::variables::is_count;
-use expressions::ENDS_EARLY;
-use expressions::NOT_DUE;
-use expressions::OFF_LIMITS;
+use forms::ENDS_EARLY;
+use forms::NOT_DUE;
+use forms::OFF_LIMITS;
 use laws::wide;
 
 // A table's rows and columns.

@@ -13,20 +13,20 @@ use Rattle.model.specs.Syntax.{Element, object, Set, add, remove, union, inters
 use Rattle.model.specs.Readers.{Reader, after, continue, _>>=_, _>>_, give, refuse, require, byte, word, one, two, three, integer}
 use Rattle.model.specs.Expressions.{Form, _⇒_, formOf, noDepth, objectsAndMembers, objectNumber, kindNumber, declared, variable, tableNumber, inTable, element, set, number, condition}
 use Rattle.words.specs.Signature.{variableOf, variablesOf, tableOf, tablesOf}
-use Rattle.expressions.specs.Parts.{noCount, partOf, partAt}
-use Rattle.expressions.specs.Layouts.{Row, _begins_, refusalOf, layoutIn, layouts, layoutOf}
-use Rattle.expressions.specs.Forms.{behind, twoParts, fitted, within, plusParts, choiceOf, countFor, whole, TakesAtMost, TakeAtMost, dueNumber, variableAt, part, partsAt, inTableAt, choiceAt, formAt}
-use Rattle.expressions.specs.declared.Due.{Due}
-use Rattle.expressions.specs.declared.Due.the-variants as D
-use Rattle.expressions.specs.declared.Part.{Part}
-use Rattle.expressions.specs.declared.Part.the-variants.{Good, Refused}
-use Rattle.expressions.specs.declared.Parts.{Parts}
-use Rattle.expressions.specs.declared.Parts.the-variants as P
-use Rattle.expressions.specs.declared.Fit.the-variants.{Any}
-use Rattle.expressions.specs.declared.Layout.{Layout}
+use Rattle.forms.specs.Parts.{noCount, partOf, partAt}
+use Rattle.forms.specs.Layouts.{Row, _begins_, refusalOf, layoutIn, layouts, layoutOf}
+use Rattle.forms.specs.Forms.{behind, twoParts, fitted, within, plusParts, choiceOf, countFor, whole, TakesAtMost, TakeAtMost, dueNumber, variableAt, part, partsAt, inTableAt, choiceAt, formAt}
+use Rattle.forms.specs.declared.Due.{Due}
+use Rattle.forms.specs.declared.Due.the-variants as D
+use Rattle.forms.specs.declared.Part.{Part}
+use Rattle.forms.specs.declared.Part.the-variants.{Good, Refused}
+use Rattle.forms.specs.declared.Parts.{Parts}
+use Rattle.forms.specs.declared.Parts.the-variants as P
+use Rattle.forms.specs.declared.Fit.the-variants.{Any}
+use Rattle.forms.specs.declared.Layout.{Layout}
 use Rattle.words.proofs.Literal.{word-one}
-use Rattle.expressions.proofs.Counts.{counted, oneMore, part-after, whole-counted, short-part, by-one, by-two, by-elementAndSet, by-twoSets, by-three, in-sides}
-use Rattle.expressions.proofs.Bounds.{bounded-element, bounded-set, bounded-number, bounded-condition}
+use Rattle.forms.proofs.Counts.{counted, oneMore, part-after, whole-counted, short-part, by-one, by-two, by-elementAndSet, by-twoSets, by-three, in-sides}
+use Rattle.forms.proofs.Bounds.{bounded-element, bounded-set, bounded-number, bounded-condition}
 
 -- ---- declared names
 

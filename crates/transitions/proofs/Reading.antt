@@ -17,11 +17,11 @@ use Rattle.model.specs.Expressions as X
 use Rattle.model.specs.Expressions.{declared, element, number, condition}
 use Rattle.model.specs.Commands.{conditions, effectTarget, expressionFor, effectOn, transition}
 use Rattle.words.specs.Signature.{variableOf, variablesOf, tablesOf}
-use Rattle.expressions.specs.Parts.{noCount, partOf, partAt}
-use Rattle.expressions.specs.declared.Due.{Due}
-use Rattle.expressions.specs.declared.Due.the-variants as D
-use Rattle.expressions.specs.declared.Part.{Part}
-use Rattle.expressions.specs.declared.Part.the-variants as R
+use Rattle.forms.specs.Parts.{noCount, partOf, partAt}
+use Rattle.forms.specs.declared.Due.{Due}
+use Rattle.forms.specs.declared.Due.the-variants as D
+use Rattle.forms.specs.declared.Part.{Part}
+use Rattle.forms.specs.declared.Part.the-variants as R
 use Rattle.declarations.specs.Places.{readAt, placeOf}
 use Rattle.transitions.specs.Transitions.{placeOfPart, dueFor, countFits, partFrom, costNumber, effectsBehind, Marked, Changed}
 use Rattle.declarations.specs.declared.Place.the-variants.{At, Refused}

@@ -11,11 +11,11 @@ use Rattle.model.specs.Readers.{refused, Reader, _>>_, command, many}
 use Rattle.model.specs.Syntax.{Number, elementCount, setCount, Kind, aSet, anElement, aNumber, Variable, Table, Effect}
 use Rattle.model.specs.Expressions.{element, set, number, condition}
 use Rattle.model.specs.Commands.{effectTarget, effectOn}
-use Rattle.expressions.specs.Parts.{noCount, partOf}
-use Rattle.expressions.specs.declared.Due.{Due}
-use Rattle.expressions.specs.declared.Due.the-variants as D
-use Rattle.expressions.specs.declared.Part.{Part}
-use Rattle.expressions.specs.declared.Part.the-variants as R
+use Rattle.forms.specs.Parts.{noCount, partOf}
+use Rattle.forms.specs.declared.Due.{Due}
+use Rattle.forms.specs.declared.Due.the-variants as D
+use Rattle.forms.specs.declared.Part.{Part}
+use Rattle.forms.specs.declared.Part.the-variants as R
 use Rattle.declarations.specs.declared.Place.{Place}
 use Rattle.declarations.specs.declared.Place.the-variants.{At, Refused}
 use Rattle.transitions.specs.declared.Change.{Change}

@@ -14,12 +14,12 @@ use declarations::MOST_VARIABLES;
 use declarations::Place;
 use declarations::places::byte_at;
 use declarations::places::command_at;
-use expressions::Due;
-use expressions::ENDS_EARLY;
-use expressions::MISMATCH;
-use expressions::OFF_LIMITS;
-use expressions::Part;
 use expressions::expression;
+use forms::Due;
+use forms::ENDS_EARLY;
+use forms::MISMATCH;
+use forms::OFF_LIMITS;
+use forms::Part;
 
 // Sizes of document 01.
 const MOST_CONDITIONS: usize = 16;

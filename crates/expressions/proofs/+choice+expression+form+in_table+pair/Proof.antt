@@ -7,9 +7,9 @@ use lib.ListN.{drop, length-drop}
 use borrow.Author.Needs.{needs}
 use borrow.Fn.Kinds.{In}
 use borrow.Fn.PlainCycle.{Measures, is, falls, and}
-use Rattle.expressions.specs.Forms.{part, formAt}
-use Rattle.expressions.specs.declared.Due.the-variants as D
-use Rattle.expressions.specs.Forms as forms
+use Rattle.forms.specs.Forms.{part, formAt}
+use Rattle.forms.specs.declared.Due.the-variants as D
+use Rattle.forms.specs.Forms as forms
 use Rattle.expressions.proofs.Forms.{next-fits, next-two-fit, part-empty, part-too-deep, part-opened, parts-fit, form-fits, used-within, parts-read, parts-refused, choice-read, choice-refused, table-short, table-undeclared, table-read}
 use Rattle.words.proofs.Literal.{suffix}
 use Rattle.expressions.proofs.+choice+expression+form+in_table+pair.{statement}
@@ -29,17 +29,17 @@ use Rattle.expressions.proofs.+choice+expression+form+in_table+pair.Lts
 use Rattle.expressions.proofs.pair.Reads as pair
 use Rattle.expressions.proofs.pair.Kinds as pair-kinds
 use Rattle.expressions.proofs.+choice+expression+form+in_table+pair.Lts-pair as pair-lts
-use Rattle.expressions.proofs.bytes.byte_at.Reads as byte-at-reads
-use Rattle.expressions.proofs.bytes.integer.Reads as integer-reads
-use Rattle.expressions.proofs.bytes.object.Reads as object-reads
-use Rattle.expressions.proofs.bytes.objects_and_members.Reads as objects-and-members-reads
-use Rattle.expressions.proofs.bytes.variable.Reads as variable-reads
-use Rattle.expressions.proofs.layouts.layout.Reads as layout-reads
-use Rattle.expressions.proofs.sizes.behind.Reads as behind-reads
-use Rattle.expressions.proofs.sizes.fitted.Reads as fitted-reads
-use Rattle.expressions.proofs.sizes.plus_parts.Reads as plus-parts-reads
-use Rattle.expressions.proofs.sizes.whole.Reads as whole-reads
-use Rattle.expressions.proofs.sizes.within.Reads as within-reads
+use Rattle.forms.proofs.bytes.byte_at.Reads as byte-at-reads
+use Rattle.forms.proofs.bytes.integer.Reads as integer-reads
+use Rattle.forms.proofs.bytes.object.Reads as object-reads
+use Rattle.forms.proofs.bytes.objects_and_members.Reads as objects-and-members-reads
+use Rattle.forms.proofs.bytes.variable.Reads as variable-reads
+use Rattle.forms.proofs.layouts.layout.Reads as layout-reads
+use Rattle.forms.proofs.sizes.behind.Reads as behind-reads
+use Rattle.forms.proofs.sizes.fitted.Reads as fitted-reads
+use Rattle.forms.proofs.sizes.plus_parts.Reads as plus-parts-reads
+use Rattle.forms.proofs.sizes.whole.Reads as whole-reads
+use Rattle.forms.proofs.sizes.within.Reads as within-reads
 
 -- `expression`, `form`, `in_table`, `choice` and `pair`, which call each other, meet their contracts.
 -- What falls is 4 times the depth, with 0 for `expression`, 1 for `pair`, 2 for `in_table` and `choice`, 3 for `form`.

@@ -1,4 +1,0 @@
--- Signature and Parts say what `expression` answers; Layouts and Forms say what the functions below it answer, form by form.
-pub mod Parts
-pub mod Layouts
-pub mod Forms
