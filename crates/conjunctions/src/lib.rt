@@ -92,7 +92,7 @@ fn test_from(
     stop(condition_from(e, at, model, state, full, tables, depth))
 }
 
-// Whether the condition at the front holds, tested no further than it must.
+// Whether the condition at the front holds, tested no further than it must; one that is no conjunction costs one call.
 pub fn test(
     e: &[u8],
     model: &[u8],
@@ -104,5 +104,10 @@ pub fn test(
     ensures run { λ r. ⌜ r ≡ stopped (runCondition depth (place (now (model .entry)) (now (state .entry)) (now (full .entry)) (now (tables .entry))) (now (e .entry))) ⌝ }
     ensures promise { λ r. ⌜ TestPromise depth (place (now (model .entry)) (now (state .entry)) (now (full .entry)) (now (tables .entry))) (now (e .entry)) r ⌝ }
 {
-    test_from(e, 0, model, state, full, tables, depth)
+    if 0 < e.len() {
+        if e[0] == 0x58 {
+            return test_from(e, 0, model, state, full, tables, depth);
+        }
+    }
+    stop(condition_from(e, 0, model, state, full, tables, depth))
 }
