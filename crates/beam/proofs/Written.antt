@@ -1,18 +1,14 @@
--- The words of each slot after one slot was written, and the copy of words.
+-- The words of each slot after one slot was written.
 use Prim.Native.Nat.{ℕ, _+_, _*_, _-_, _≤_, _<_}
 use mathlib.Core.Path.{_≡_, sym, ap, _∙_}
 use mathlib.Core.Logic.{_≢_}
 use mathlib.Core.List.{List, _++_}
 use native.Mathlib.Omega.{arith}
 use native.Mathlib.Decide.{decLt}
-use native.Mathlib.Numerals.{add-one}
-use lib.ListN.{length, take, drop, getD, set, length-drop, take-append-drop}
-use lib.Seq.{length-take-le, take-at, drop-at, drop-drop, take-append-le, drop-append-le, take-suc, take-suc-set}
+use lib.ListN.{length, take, drop, length-drop, take-append-drop}
+use lib.Seq.{length-take-le, take-at, drop-at, drop-drop, take-append-le, drop-append-le}
 use Rattle.order.specs.Slots.{slotWords, wordsIn}
 use Rattle.beam.specs.Parts.{written}
-
-pub copy-more : (from to : List ℕ) (i : ℕ) → i < length from → i < length to → take i to ≡ take i from → take (i + 1) (set to i (getD from i 0)) ≡ take (i + 1) from
-copy-more from to i hs hd e = rw (add-one, take-suc-set to i, take-suc from i 0, e)
 
 -- the words of a slot are as many as a slot has
 pub words-long : (slots : List ℕ) (s : ℕ) → s * slotWords + slotWords ≤ length slots → length (wordsIn slots s) ≡ slotWords

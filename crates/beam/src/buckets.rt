@@ -9,6 +9,9 @@ ghost use Rattle.order.specs.Slots.{slotWords};
 ghost use Rattle.beam.specs.Buckets.{mix as Buckets·mix, mixUnless, mixAt, bucketOf};
 ghost use Rattle.beam.specs.Parts.{bucketIn};
 use order::SLOT_WORDS;
+use outline::layout::KINDS;
+use outline::layout::PREFERENCES;
+use outline::layout::VARIABLE_COUNT;
 use outline::word_at;
 use steps::states::compared_word;
 
@@ -35,8 +38,8 @@ fn mix_at(outline: &[u64], state: &[u64], v: usize, m: u64) -> u64
     requires { ⌜ v < mostVariables ⌝ }
     ensures { λ r. ⌜ r ≡ mixAt (now (outline .entry)) (now (state .entry)) v m ⌝ }
 {
-    let kind = word_at(outline, 16 + v);
-    let preference = word_at(outline, 32 + v);
+    let kind = word_at(outline, KINDS + v);
+    let preference = word_at(outline, PREFERENCES + v);
     mix_unless(preference, m, compared_word(kind, word_at(state, v)))
 }
 
@@ -45,7 +48,7 @@ pub fn bucket(outline: &[u64], state: &[u64], size: usize) -> usize
     requires { ⌜ (getD (now outline) variableCountAt 0 ≤ mostVariables) × ((0 < size) × (size ≤ 2 ^ 32)) ⌝ }
     ensures { λ r. ⌜ (r < size) × (r ≡ bucketOf (now (outline .entry)) (now (state .entry)) size) ⌝ }
 {
-    let count = word_at(outline, 1) as usize;
+    let count = word_at(outline, VARIABLE_COUNT) as usize;
     let mut m = 1;
     let mut v = 0;
     while v < count {

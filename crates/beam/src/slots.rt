@@ -9,21 +9,10 @@ ghost use Rattle.order.specs.Slots.{slotWords};
 ghost use Rattle.links.specs.Links.{Falling, Found};
 ghost use Rattle.beam.specs.Nodes.{beats as Nodes·beats};
 ghost use Rattle.beam.specs.Parts.{written, sought as Held·sought};
+use laws::copy_words;
 use order::G_AT;
 use order::SLOT_WORDS;
 use steps::states::dominates;
-
-// Copies all words.
-pub fn copy_words(from: &[u64], to: &mut [u64])
-    requires { ⌜ length (now from) ≡ length (now to) ⌝ }
-    ensures { λ _. ⌜ now (to .exit) ≡ now (from .entry) ⌝ }
-{
-    let mut i = 0;
-    while i < from.len() {
-        to[i] = from[i];
-        i += 1;
-    }
-}
 
 // Writes a node's words into slot s.
 pub fn write_slot(slots: &mut [u64], s: usize, words: &[u64])

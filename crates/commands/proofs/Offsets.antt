@@ -1,14 +1,15 @@
 -- Laws of a loop of commands that stores the offset of each item.
-use Prim.Native.Nat.{ℕ, _+_, _-_, _<_, _≤_}
+use Prim.Native.Nat.{ℕ, _+_, _<_, _≤_}
 use mathlib.Core.Path.{_≡_, refl, _∙_}
 use mathlib.Core.List.{List}
 use native.Mathlib.Omega.{arith}
 use lib.ListN.{length, getD, drop, set, length-set}
 use lib.Seq.{getD-set-same, getD-set-other}
+use Rattle.laws.proofs.Lists.{byte-inside}
 use Rattle.model.specs.Readers.{read, Reader, upTo}
 use Rattle.declarations.specs.Places.{readAt, Each}
 use Rattle.commands.specs.Groups.{ItemIn, ItemsRead}
-use Rattle.declarations.proofs.Positions.{at-reads, byte-inside}
+use Rattle.declarations.proofs.Positions.{at-reads}
 use Rattle.declarations.proofs.Items.{ItemsSoFar, no-items, item-more, items-end}
 use Rattle.declarations.proofs.Lists.{each-none, each-more}
 

@@ -13,10 +13,18 @@ use crate::BYTES_AFTER_END;
 use crate::Group;
 use declarations::Listed;
 use declarations::Place;
-use declarations::places::byte_at;
 use forms::ENDS_EARLY;
 use forms::NOT_DUE;
 use forms::OFF_LIMITS;
+use laws::byte_at;
+use outline::layout::BASE_CASE_COUNT;
+use outline::layout::BASE_CASES;
+use outline::layout::BOUND_COUNT;
+use outline::layout::BOUNDS;
+use outline::layout::CONSTRAINT_COUNT;
+use outline::layout::CONSTRAINTS;
+use outline::layout::TRANSITION_COUNT;
+use outline::layout::TRANSITIONS;
 use transitions::condition_at;
 use transitions::conditions;
 use transitions::number_at;
@@ -51,10 +59,10 @@ fn count_at(group: Group) -> usize
     ensures { λ r. ⌜ r ≡ countAt group ⌝ }
 {
     match group {
-        Group::Transitions => 3,
-        Group::BaseCases => 4,
-        Group::Constraints => 5,
-        Group::Bounds => 6,
+        Group::Transitions => TRANSITION_COUNT,
+        Group::BaseCases => BASE_CASE_COUNT,
+        Group::Constraints => CONSTRAINT_COUNT,
+        Group::Bounds => BOUND_COUNT,
     }
 }
 
@@ -63,10 +71,10 @@ fn offsets_from(group: Group) -> usize
     ensures { λ r. ⌜ r ≡ offsetsFrom group ⌝ }
 {
     match group {
-        Group::Transitions => 112,
-        Group::BaseCases => 368,
-        Group::Constraints => 384,
-        Group::Bounds => 416,
+        Group::Transitions => TRANSITIONS,
+        Group::BaseCases => BASE_CASES,
+        Group::Constraints => CONSTRAINTS,
+        Group::Bounds => BOUNDS,
     }
 }
 

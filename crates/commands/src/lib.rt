@@ -12,11 +12,16 @@ ghost use Rattle.commands.specs.Groups.{PartsAs, ModelAs};
 use crate::groups::groups;
 use declarations::Listed;
 use declarations::Place;
-use declarations::places::byte_at;
 use declarations::places::cost_rule;
 use declarations::tables::tables;
 use declarations::variables::variables;
+use laws::byte_at;
 use laws::wide;
+use outline::layout::RULE;
+use outline::layout::TABLE_COUNT;
+use outline::layout::TABLES;
+use outline::layout::TRANSITIONS;
+use outline::layout::VARIABLE_COUNT;
 
 // Bytes after the end command: the refusal as document 01 numbers it. The others are those of `expressions`.
 const BYTES_AFTER_END: u8 = 9;
@@ -37,9 +42,15 @@ fn behind_variables(model: &[u8], start: usize, kinds: &[u8], outline: &mut [u64
 {
     let mut rows = [0u8; 32];
     let mut columns = [0u8; 32];
-    match tables(model, start, &mut rows, &mut columns, &mut outline[80..112]) {
+    match tables(
+        model,
+        start,
+        &mut rows,
+        &mut columns,
+        &mut outline[TABLES..TRANSITIONS],
+    ) {
         Listed::Items(end, n) => {
-            outline[2] = n as u64;
+            outline[TABLE_COUNT] = n as u64;
             groups(model, end, kinds, &rows[..n], &columns[..n], outline)
         }
         Listed::Refused(t) => Place::Refused(t),
@@ -53,9 +64,9 @@ fn behind_rule(model: &[u8], start: usize, outline: &mut [u64]) -> Place
     ensures told { λ r. ⌜ ModelAs (now (model .entry)) start (now (outline .exit)) r ⌝ }
 {
     let mut kinds = [0u8; 16];
-    match variables(model, start, &mut kinds, &mut outline[0..80]) {
+    match variables(model, start, &mut kinds, &mut outline[0..TABLES]) {
         Listed::Items(end, n) => {
-            outline[1] = n as u64;
+            outline[VARIABLE_COUNT] = n as u64;
             behind_variables(model, end, &kinds[..n], outline)
         }
         Listed::Refused(t) => Place::Refused(t),
@@ -72,7 +83,7 @@ pub fn read_model(model: &[u8], outline: &mut [u64]) -> u8
     match cost_rule(model) {
         Place::At(p) => match behind_rule(model, p, outline) {
             Place::At(_) => {
-                outline[0] = wide(byte_at(model, 1));
+                outline[RULE] = wide(byte_at(model, 1));
                 0
             }
             Place::Refused(t) => t,

@@ -9,6 +9,7 @@ use lib.ListN.{length, getD, drop, take, set, length-set}
 use lib.Seq.{getD-set-same, getD-set-other, take-suc-set}
 use lib.Dec.{eqb}
 use borrow.Author.Tests.{eq-eqb, ne-eqb}
+use Rattle.laws.proofs.Lists.{inside}
 use Rattle.model.specs.Numbers.{endsEarly, offLimits}
 use Rattle.model.specs.Readers.{Read, read, refused, give, one}
 use Rattle.model.specs.Syntax.{Variable, Table}
@@ -26,7 +27,7 @@ use Rattle.declarations.specs.declared.Declared.{Declared}
 use Rattle.declarations.specs.declared.Place.the-variants.{At, Refused}
 use Rattle.declarations.proofs.Operands.{cells-bound}
 use Rattle.declarations.proofs.Entries.{Sided}
-use Rattle.declarations.proofs.Positions.{inside, reads-at, refuses-at, at-reads, give-at, place-read, place-refused, then-read, then-refused, rest, turn, turn-full, turn-head-refused, turn-body-refused, turn-end, turn-early}
+use Rattle.declarations.proofs.Positions.{reads-at, refuses-at, at-reads, give-at, place-read, place-refused, then-read, then-refused, rest, turn, turn-full, turn-head-refused, turn-body-refused, turn-end, turn-early}
 use Rattle.declarations.proofs.Lists.{each-none, each-more, length-more, map-more}
 
 -- ---- variables

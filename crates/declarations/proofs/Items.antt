@@ -8,10 +8,11 @@ use native.Mathlib.Nat.{sub-zero}
 use lib.ListN.{length, getD}
 use lib.Dec.{eqb}
 use borrow.Author.Tests.{eq-eqb, ne-eqb}
+use Rattle.laws.proofs.Lists.{byte-inside}
 use Rattle.model.specs.Numbers.{endsEarly, offLimits}
 use Rattle.model.specs.Readers.{Read, read, refused, Reader, give, upTo}
 use Rattle.declarations.specs.Places.{readAt}
-use Rattle.declarations.proofs.Positions.{give-at, byte-inside, rest, turn, turn-full, turn-body-refused, turn-end, turn-early}
+use Rattle.declarations.proofs.Positions.{give-at, rest, turn, turn-full, turn-body-refused, turn-end, turn-early}
 use Rattle.declarations.proofs.Lists.{length-more}
 
 module _ {B : Type 0} (c : ℕ) (r : Reader B) (bytes : List ℕ) where

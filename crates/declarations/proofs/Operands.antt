@@ -5,7 +5,6 @@ use mathlib.Core.Bool.{Bool, true, false, _&&_}
 use mathlib.Core.List.{List, [], _∷_}
 use native.Mathlib.Omega.{arith}
 use native.Mathlib.Nat.{mul-le-mul}
-use lib.Pow.{pow-pos}
 use lib.ListN.{length, drop, getD}
 use lib.Dec.{leb, ltb}
 use lib.IntN.{ℤ, pos, _+ℤ_}
@@ -204,16 +203,6 @@ number-declares x p z d h c u j q b s = record {
 }
 
 -- ---- the tests of the readers
-
-pub members-test : (n s f : ℕ) → isCount n ≡ true → f ≡ 2 ^ n - 1 → leb s f ≡ (isCount n && ltb s (2 ^ n))
-members-test n s f h q = rw h (go (leb s f) refl)
-  where
-    go : (t : Bool) → leb s f ≡ t → t ≡ ltb s (2 ^ n)
-    go true p = sym (lt-ltb s (2 ^ n) (omega (arith, leb-true s f p, pow-pos n)))
-    go false p = sym (le-ltb s (2 ^ n) (omega (arith, leb-false s f p)))
-
-pub not-a-count : (n : ℕ) (b : Bool) → isCount n ≡ false → false ≡ (isCount n && b)
-not-a-count n b h = rw h
 
 pub variable-set : (b : ℕ) (e : List ℕ) → b ≡ 2 → variableOf b e ≡ setVariable e
 unfolding variableOf

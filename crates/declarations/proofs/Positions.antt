@@ -6,10 +6,9 @@ use mathlib.Core.List.{List, [], _∷_, _++_, reverse, reverse-append, reverse-r
 use native.Mathlib.Omega.{arith}
 use native.Mathlib.Nat.{add-zero}
 use native.Mathlib.Numerals.{add-one}
-use lib.ListN.{length, drop, getD, length-drop, List·getD-eq-default}
+use lib.ListN.{length, drop, getD, length-drop}
 use lib.Seq.{drop-cons, drop-drop}
-use lib.Dec.{leb}
-use borrow.Author.Tests.{leb-true, leb-false, eq-eqb, ne-eqb}
+use borrow.Author.Tests.{eq-eqb, ne-eqb}
 use Rattle.model.specs.Numbers.{endsEarly, notDue, offLimits}
 use Rattle.model.specs.Readers.{Read, read, refused, Reader, after, continue, _>>=_, _>>_, give, require, byte, command, many}
 use Rattle.model.proofs.Chains.{after-read}
@@ -28,17 +27,6 @@ nothing bytes at h = go (drop at bytes) (omega (arith, length-drop at bytes))
     go : (e : List ℕ) → length e ≡ 0 → e ≡ []
     go [] q = refl
     go (b ∷ e) q = let z : ⊥ = omega arith in absurd z
-
--- a byte that is not 0 stands inside
-pub inside : (bytes : List ℕ) (at : ℕ) → (getD bytes at 0 ≡ 0 → ⊥) → at < length bytes
-inside bytes at f = go (leb (length bytes) at) (leb-true (length bytes) at) (leb-false (length bytes) at)
-  where
-    go : (t : Bool) → (t ≡ true → length bytes ≤ at) → (t ≡ false → at < length bytes) → at < length bytes
-    go true p q = absurd (f (List·getD-eq-default bytes 0 (p refl)))
-    go false p q = q refl
-
-pub byte-inside : (bytes : List ℕ) (at b : ℕ) → 0 < b → getD bytes at 0 ≡ b → at < length bytes
-byte-inside bytes at b h q = inside bytes at (λ z. omega arith)
 
 -- ---- what was read, by its position
 

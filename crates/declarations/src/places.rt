@@ -1,7 +1,6 @@
 // What stands at a position of the model's bytes.
 
 ghost use mathlib.Core.Path.{_≡_};
-ghost use lib.ListN.{getD};
 ghost use Rattle.model.specs.Readers.{command};
 ghost use Rattle.model.specs.Commands.{costRule};
 ghost use Rattle.declarations.specs.Places.{readAt, placeOf};
@@ -9,13 +8,6 @@ use crate::Place;
 use forms::ENDS_EARLY;
 use forms::NOT_DUE;
 use forms::OFF_LIMITS;
-
-// The byte at i, or 0 where there is none.
-pub fn byte_at(s: &[u8], i: usize) -> u8
-    ensures { λ r. ⌜ r ≡ getD (now (s .entry)) i 0 ⌝ }
-{
-    if i < s.len() { s[i] } else { 0 }
-}
 
 // The command byte c.
 pub fn command_at(model: &[u8], at: usize, c: u8) -> Place

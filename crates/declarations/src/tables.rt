@@ -12,11 +12,11 @@ use crate::Listed;
 use crate::MOST_TABLES;
 use crate::Place;
 use crate::Sides;
-use crate::places::byte_at;
 use crate::variables::is_count;
 use forms::ENDS_EARLY;
 use forms::NOT_DUE;
 use forms::OFF_LIMITS;
+use laws::byte_at;
 use laws::wide;
 
 // A table's rows and columns.

@@ -2,7 +2,7 @@
 
 ghost use mathlib.Core.Path.{_≡_};
 ghost use mathlib.Core.Bool.{_&&_};
-ghost use Prim.Native.Nat.{_+_, _<_, _^_};
+ghost use Prim.Native.Nat.{_+_, _<_};
 ghost use lib.ListN.{length, set};
 ghost use lib.Dec.{ltb};
 ghost use Rattle.model.specs.Expressions.{among, isCount};
@@ -13,10 +13,15 @@ use crate::Declaration;
 use crate::Declared;
 use crate::Listed;
 use crate::MOST_VARIABLES;
-use crate::places::byte_at;
 use forms::ENDS_EARLY;
 use forms::OFF_LIMITS;
+use forms::bytes::members_fit;
+use laws::byte_at;
 use laws::wide;
+use outline::layout::FULL_SETS;
+use outline::layout::KINDS;
+use outline::layout::PREFERENCES;
+use outline::layout::STARTS;
 use words::arithmetic::biased;
 use words::literals::integer;
 use words::literals::long;
@@ -30,16 +35,6 @@ pub fn is_count(n: u8) -> bool
         return false;
     }
     n <= 64
-}
-
-// Whether n is an object count and every member is below it.
-fn members_fit(n: u8, members: u64) -> bool
-    ensures { λ r. ⌜ r ≡ (isCount n && ltb members (2 ^ n)) ⌝ }
-{
-    if is_count(n) {
-        return members <= full(wide(n));
-    }
-    false
 }
 
 // 02: the object count and the members at the start.
@@ -146,10 +141,10 @@ fn store(words: &mut [u64], v: usize, d: Declaration)
     requires { ⌜ (length (now words) ≡ 80) × (v < 16) ⌝ }
     ensures { λ r. ⌜ now (words .exit) ≡ set (set (set (set (now (words .entry)) (kindsFrom + v) (d .kind)) (preferencesFrom + v) (d .preference)) (startsFrom + v) (d .start)) (fullFrom + v) (d .full) ⌝ }
 {
-    words[16 + v] = wide(d.kind);
-    words[32 + v] = wide(d.preference);
-    words[48 + v] = d.start;
-    words[64 + v] = d.full;
+    words[KINDS + v] = wide(d.kind);
+    words[PREFERENCES + v] = wide(d.preference);
+    words[STARTS + v] = d.start;
+    words[FULL_SETS + v] = d.full;
 }
 
 // The variables from a position on, with their kinds as bytes and their words.

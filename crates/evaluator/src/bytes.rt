@@ -1,9 +1,10 @@
-// Bytes and words at a place, what stands behind a part, and the bytes of an expression that is passed over.
+// A name, what stands behind a part, and the bytes of an expression that is passed over.
 
 ghost use mathlib.Core.Path.{_≡_};
 ghost use Prim.Native.Nat.{_≤_};
 ghost use lib.ListN.{getD, drop};
 ghost use Rattle.evaluator.specs.Forms.{operands, parts, span};
+use laws::byte_at;
 
 // What stands behind the first n bytes; nothing where there are no more.
 pub fn after(e: &[u8], n: usize) -> &[u8]
@@ -19,20 +20,7 @@ pub fn after(e: &[u8], n: usize) -> &[u8]
 pub fn name(e: &[u8]) -> usize
     ensures { λ r. ⌜ r ≡ getD (now (e .entry)) 0 0 ⌝ }
 {
-    if 0 < e.len() {
-        return e[0] as usize;
-    }
-    0
-}
-
-// The word at a place, 0 where there is none.
-pub fn word_at(words: &[u64], at: usize) -> u64
-    ensures { λ r. ⌜ r ≡ getD (now (words .entry)) at 0 ⌝ }
-{
-    if at < words.len() {
-        return words[at];
-    }
-    0
+    byte_at(e, 0) as usize
 }
 
 // The bytes of operands behind a first byte, and the expressions behind those.

@@ -13,7 +13,6 @@ use Rattle.model.specs.System.{System, moved}
 use Rattle.model.specs.Syntax.{Rule, Variable}
 use Rattle.model.specs.Meaning.{State}
 use Rattle.model.specs.Steps.{costsOf}
-use Rattle.model.proofs.Costs.{combine-at-most-sum}
 use Rattle.model.proofs.Ranges.{step-cost-below, trouble-cost-below, bound-below}
 use Rattle.words.specs.States.{stateOf}
 use Rattle.outline.specs.Outline.{modelOf}
@@ -27,7 +26,7 @@ use Rattle.steps.specs.Held.{Outlined, stateIn, systemIn}
 use Rattle.steps.specs.Follow.{costsIn}
 use Rattle.steps.specs.Says.{MoveSays}
 use Rattle.steps.proofs.StateWords.{state-alike}
-use Rattle.steps.proofs.Following.{is-blocked, is-moved, is-before, is-after}
+use Rattle.steps.proofs.Following.{is-blocked, is-moved, is-before, is-after, combined-small}
 use Rattle.order.specs.Slots.{slotWords, gAt, fAt}
 use Rattle.beam.specs.Nodes.{nodeOf, nodeAt}
 use Rattle.beam.specs.Held.{nodesOf, Held, roundWith, InsertedInto}
@@ -123,10 +122,6 @@ child-node vs path ws g h f i t long few small =
     rw (s, g-word ws g h f (i * 256 + t) long, h-word ws g h f (i * 256 + t) long, f-word ws g h f (i * 256 + t) long, back-word ws g h f (i * 256 + t) long, step, parent)
 
 -- ---- h, then the offer
-
-combined-small : (bytes : List ℕ) (a b : ℕ) → costsIn bytes .combine a b ≤ a + b
-unfolding costsOf
-combined-small bytes a b = combine-at-most-sum (modelOf bytes .rule) a b
 
 -- g of a child and its h fit together
 pub f-fits : (bytes : List ℕ) (u : State) (a c g h : ℕ) → a < 2 ^ 63 → c < rangeEnd → g ≡ costsIn bytes .combine a c → boundAnswer (systemIn bytes .bound u) ≡ B.Value h → g + h < 2 ^ 64

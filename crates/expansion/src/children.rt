@@ -17,12 +17,12 @@ use order::BACK_AT;
 use order::F_AT;
 use order::G_AT;
 use order::H_AT;
+use outline::layout::TRANSITION_COUNT;
 use outline::word_at;
 use steps::answers::BoundAnswer;
 use steps::answers::MoveAnswer;
 use steps::bounds::bound;
 use steps::check::combine;
-use steps::layout::TRANSITION_COUNT;
 use steps::moves::step;
 
 // Whether f is below the best cost.

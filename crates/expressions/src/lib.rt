@@ -15,6 +15,7 @@ use forms::TOO_DEEP;
 use forms::bytes;
 use forms::layouts;
 use forms::sizes;
+use laws::byte_at;
 
 // The expression at the front of e, of the kind that is due, nested at most `depth` deep.
 pub fn expression(
@@ -67,7 +68,7 @@ fn in_table(first: Due, e: &[u8], kinds: &[u8], rows: &[u8], columns: &[u8], dep
     let t = e[0] as usize;
     if t < rows.len() {
         let parts = pair(first, Due::Element, &e[1..], kinds, rows, columns, depth);
-        sizes::within(parts, rows[t], bytes::byte_at(columns, t))
+        sizes::within(parts, rows[t], byte_at(columns, t))
     } else {
         Part::Refused(MISMATCH)
     }

@@ -2,8 +2,7 @@
 
 ghost use mathlib.Core.Path.{_≡_};
 ghost use mathlib.Core.Bool.{_&&_};
-ghost use Prim.Native.Nat.{suc, _≤_, _^_};
-ghost use lib.ListN.{length, getD};
+ghost use Prim.Native.Nat.{suc, _^_};
 ghost use lib.Dec.{ltb};
 ghost use Rattle.model.specs.Readers as readers;
 ghost use Rattle.model.specs.Expressions.{objectNumber, objectsAndMembers, kindNumber, isCount};
@@ -17,13 +16,6 @@ use crate::MOST_OBJECTS;
 use crate::OFF_LIMITS;
 use crate::Part;
 use words::literals::long;
-
-// The byte at i, or 0 where there is none.
-pub fn byte_at(s: &[u8], i: usize) -> u8
-    ensures { λ r. ⌜ r ≡ getD (now (s .entry)) i 0 ⌝ }
-{
-    if i < s.len() { s[i] } else { 0 }
-}
 
 // A number's four bytes.
 pub fn integer(e: &[u8]) -> Part
@@ -53,7 +45,7 @@ pub fn object(e: &[u8]) -> Part
 }
 
 // Whether n is an object count and every member is below it.
-fn members_fit(n: u8, members: u64) -> bool
+pub fn members_fit(n: u8, members: u64) -> bool
     ensures { λ r. ⌜ r ≡ (isCount n && ltb members (2 ^ n)) ⌝ }
 {
     if n == 0 {

@@ -1,3 +1,4 @@
--- Laws of truth values and lists.
+-- Laws of truth values, lists and copies.
 pub mod Bools
 pub mod Lists
+pub mod Copies

@@ -1,12 +1,14 @@
--- Laws of lists: members, selection, the list without its last, no two alike.
-use Prim.Native.Nat.{ℕ, zero, suc, _<_}
+-- Laws of lists: members, selection, the list without its last, no two alike, what stands inside.
+use Prim.Native.Nat.{ℕ, zero, suc, _<_, _≤_}
 use mathlib.Core.Path.{_≡_, refl, ap}
 use mathlib.Core.Logic.{_⊎_, inl, inr}
 use mathlib.Core.Bool.{Bool, true, false, true≢false, false≢true}
 use mathlib.Core.List.{List, [], _∷_, dropLast}
 use mathlib.Core.Option.{some}
 use native.Mathlib.Omega.{arith}
-use lib.ListN.{length, getElem?}
+use lib.ListN.{length, getElem?, getD, List·getD-eq-default}
+use lib.Dec.{leb}
+use borrow.Author.Tests.{leb-true, leb-false}
 use Rattle.laws.specs.Lists.{any, filter, isEmpty, All, Different}
 use Rattle.laws.proofs.Bools.{by-cond, or-either, or-neither}
 
@@ -127,3 +129,14 @@ pub found-below : {A : Type 0} (l : List A) (k : ℕ) {x : A} → getElem? l k �
 found-below [] k e = let z : _≡_ {A = ℕ} 0 1 = cc in absurd (omega arith)
 found-below (x ∷ xs) zero e = omega arith
 found-below (x ∷ xs) (suc k) e = omega (arith, found-below xs k e)
+
+-- a byte that is not 0 stands inside
+pub inside : (bytes : List ℕ) (at : ℕ) → (getD bytes at 0 ≡ 0 → ⊥) → at < length bytes
+inside bytes at f = go (leb (length bytes) at) (leb-true (length bytes) at) (leb-false (length bytes) at)
+  where
+    go : (t : Bool) → (t ≡ true → length bytes ≤ at) → (t ≡ false → at < length bytes) → at < length bytes
+    go true p q = absurd (f (List·getD-eq-default bytes 0 (p refl)))
+    go false p q = q refl
+
+pub byte-inside : (bytes : List ℕ) (at b : ℕ) → 0 < b → getD bytes at 0 ≡ b → at < length bytes
+byte-inside bytes at b h q = inside bytes at (λ z. omega arith)

@@ -1,6 +1,5 @@
 // The index of a layer: which slots are used in which bucket. Each chain falls in slot number, so a walk ends at 0.
 
-ghost use mathlib.Core.Path.{_≡_};
 ghost use Prim.Native.Nat.{_+_, _≤_, _<_};
 ghost use lib.ListN.{length};
 ghost use Rattle.links.specs.Links.{Falling, LowLink, Added, Removed, Cleared};

@@ -1,12 +1,11 @@
--- What a report comes to: bytes copied, the answer's fields and the plan buffer by the ending, and the fields in numbers.
+-- What a report comes to: the answer's fields and the plan buffer by the ending, and the fields in numbers.
 use Prim.Native.Nat.{ℕ, suc, _+_, _≤_, _<_}
 use mathlib.Core.Path.{_≡_, refl, sym, ap, _∙_, subst}
 use mathlib.Core.Bool.{Bool, true, false, cond}
 use mathlib.Core.List.{List, [], _∷_, _++_, reverse, reverse-cons, reverse-reverse}
-use native.Mathlib.Numerals.{add-one}
 use native.Mathlib.Omega.{arith}
 use lib.ListN.{length, take, drop, getD, set, length-reverse}
-use lib.Seq.{take-suc, drop-cons, set-at, length-take-le, append-snoc}
+use lib.Seq.{drop-cons, set-at, length-take-le, append-snoc}
 use Rattle.search.specs.Answer as A
 use Rattle.search.specs.Answer.{verdict, bufferAfter, outcomeNumber, isRefusal}
 use Rattle.search.specs.Search.{boundAt, bestCost, bestSteps, hasPlan, tallyOf, answerOf}
@@ -27,16 +26,6 @@ use Rattle.reports.specs.declared.answers.Answer.{Answer}
 use Rattle.runs.specs.declared.Stop.{Stop}
 
 -- ---- bytes
-
-pub copied-more : (from to₀ to : List ℕ) (i : ℕ) → i < length from → i < length to₀ → to ≡ take i from ++ drop i to₀ → set to i (getD from i 0) ≡ take (i + 1) from ++ drop (i + 1) to₀
-copied-more from to₀ to i hs hd e =
-    let front : length (take i from) ≡ i = length-take-le i from (omega arith) in
-    ap (λ (l : List ℕ). set l i (getD from i 0)) (e ∙ ap (λ (l : List ℕ). take i from ++ l) (drop-cons to₀ i 0 hd))
-    ∙ set-at (take i from) (getD to₀ i 0) (drop (suc i) to₀) (getD from i 0) i front
-    ∙ rw (add-one, take-suc from i 0, append-snoc)
-
-pub copied-whole : (from to₀ to : List ℕ) (n i : ℕ) → i ≤ n → n ≤ i → to ≡ take i from ++ drop i to₀ → to ≡ take n from ++ drop n to₀
-copied-whole from to₀ to n i lo hi e = let same : i ≡ n = omega arith in e ∙ ap (λ (k : ℕ). take k from ++ drop k to₀) same
 
 -- a path is written first step first, in front of what stays of the buffer
 pub path-front : (plan path : List ℕ) (k : ℕ) → length path ≡ k → reverse path ++ drop k plan ≡ reverse path ++ drop (length (reverse path)) plan

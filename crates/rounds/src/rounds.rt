@@ -4,7 +4,6 @@ ghost use Prim.Native.Nat.{_+_, _≤_};
 ghost use lib.ListN.{length};
 ghost use Rattle.steps.specs.Held.{Outlined};
 ghost use Rattle.rounds.specs.Rounds.{RoomFor, RoundEnds};
-use crate::ends::Turned;
 use crate::ends::turn;
 use routes::current::start_round;
 use visits::work::Marks;

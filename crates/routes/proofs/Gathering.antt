@@ -7,7 +7,7 @@ use native.Mathlib.Omega.{arith}
 use native.Mathlib.Nat.{mod-lt, mod-eq-of-lt}
 use native.Mathlib.Numerals.{add-one}
 use lib.ListN.{length, take, drop, getD, set, length-take, length-append, length-drop, length-set}
-use lib.Seq.{ext-getD, take-at, take-all, take-nil, drop-nil, take-take, getD-take, getD-drop, drop-length, length-take-le, getD-set-same, getD-set-other}
+use lib.Seq.{ext-getD, take-at, take-all, take-nil, drop-nil, take-take, getD-take, getD-drop, drop-length, getD-set-same, getD-set-other}
 use Rattle.model.specs.Syntax.{Variable}
 use Rattle.model.specs.Meaning.{State}
 use Rattle.model.specs.Numbers.{mostVariables}
@@ -23,6 +23,7 @@ use Rattle.order.specs.Slots.{slotWords, gAt, hAt, fAt, backAt, wordsIn}
 use Rattle.order.proofs.Arrays.{word-in}
 use Rattle.beam.specs.Nodes.{nodeOf, nodeIn, nodeAt}
 use Rattle.beam.specs.Held.{part, nodesOf, Held, Layer, Emptied}
+use Rattle.beam.proofs.Written.{words-long}
 use Rattle.beam.proofs.Whole.{put, part-length, part-at, put-length, put-in, put-first, put-behind}
 use Rattle.beam.proofs.Moves.{few-in, place-below}
 use Rattle.beam.proofs.Nodes.{nodes-length, nodes-from}
@@ -128,10 +129,6 @@ module _ (words ys : List ℕ) (w : ℕ) (room : 46 * w ≤ length words) (same 
 
 -- ---- one node more
 
-slot-full : (words : List ℕ) (s : ℕ) → s * slotWords + slotWords ≤ length words → length (wordsIn words s) ≡ slotWords
-unfolding wordsIn
-slot-full words s h = length-take-le slotWords (drop (s * slotWords) words) (omega (arith, length-drop (s * slotWords) words))
-
 -- the first i nodes of the layer in the making stand in the current layer, which becomes layer k; all else that is read is as it was
 pub record Gathered (words₀ words : List ℕ) (w k i : ℕ) : Type 0 where
   pub long : length words ≡ length words₀
@@ -162,7 +159,7 @@ module _ (words node ys : List ℕ) (w k i : ℕ) (hi : i < w) (inside : getD wo
   slot-room = omega arith
 
   slot-fits : length ys ≡ length (part a b words)
-  slot-fits = ap length (f ∙ e) ∙ slot-full words (w + getD words (40 * w + i) 0) (omega arith) ∙ sym (part-length a b words slot-low slot-room ∙ omega arith)
+  slot-fits = ap length (f ∙ e) ∙ words-long words (w + getD words (40 * w + i) 0) (omega arith) ∙ sym (part-length a b words slot-low slot-room ∙ omega arith)
 
   abbrev base : List ℕ
   base = put a b words ys
@@ -222,8 +219,8 @@ module _ (w : ℕ) (words : List ℕ) where
   next-slot : (s : ℕ) → s < w → 46 * w ≤ length words → wordsIn (nextOf w words) s ≡ wordsIn words (w + s)
   next-slot s h long =
       let z : length (nextOf w words) ≡ 46 * w - 20 * w = part-length (20 * w) (46 * w) words (omega arith) long in
-      let l : length (wordsIn (nextOf w words) s) ≡ slotWords = slot-full (nextOf w words) s (omega arith) in
-      ext-getD 0 (wordsIn (nextOf w words) s) (wordsIn words (w + s)) (l ∙ sym (slot-full words (w + s) (omega arith))) (λ x k. at x (omega arith))
+      let l : length (wordsIn (nextOf w words) s) ≡ slotWords = words-long (nextOf w words) s (omega arith) in
+      ext-getD 0 (wordsIn (nextOf w words) s) (wordsIn words (w + s)) (l ∙ sym (words-long words (w + s) (omega arith))) (λ x k. at x (omega arith))
     where
       at : (x : ℕ) → x < slotWords → getD (wordsIn (nextOf w words) s) x 0 ≡ getD (wordsIn words (w + s)) x 0
       at x k =

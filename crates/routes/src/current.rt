@@ -12,7 +12,7 @@ use crate::NEXT_AT;
 use crate::NEXT_END;
 use crate::NEXT_ORDER_AT;
 use beam::layer::empty;
-use beam::slots::copy_words;
+use laws::copy_words;
 use order::BACK_AT;
 use order::F_AT;
 use order::G_AT;

@@ -4,12 +4,11 @@ use mathlib.Core.List.{List, [], _∷_}
 use mathlib.Core.Bool.{Bool}
 use lib.ListN.{length}
 use lib.IntN.{ℤ}
-use Rattle.model.specs.Numbers.{mostNesting, rangeEnd, mostModelBytes}
-use Rattle.model.specs.Values.{Value, trouble}
-use Rattle.model.specs.Readers.{Read, read, refused}
-use Rattle.model.specs.Syntax.{Number}
+use Rattle.model.specs.Numbers.{mostNesting, mostModelBytes}
+use Rattle.model.specs.Values.{Value}
 use Rattle.model.specs.Meaning.{numberValue}
 use Rattle.model.specs.Check.{check, answerNumber, answerCost}
+use Rattle.model.proofs.Opened.{valueRead}
 use Rattle.search.specs.Answer.{Answer, isRefusal, bufferAfter}
 use Rattle.search.specs.Run.{run, fields}
 use Rattle.laws.specs.Lists as ofLists
@@ -29,10 +28,6 @@ use Rattle.model.specs.Check as ofCheck
 use Rattle.search.specs.Answer as ofAnswer
 use Rattle.search.specs.Search as ofSearch
 use Rattle.search.specs.Run as ofRun
-
-unfoldable pub valueRead : Read Number → Value ℤ
-valueRead (read x n) = numberValue rangeEnd [] x []
-valueRead (refused t) = trouble t
 
 pub data Asked : Type 0 where
   -- a run: model, W, L, budget, plan buffer, working words

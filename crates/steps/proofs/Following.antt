@@ -16,6 +16,7 @@ use Rattle.model.specs.Syntax.{Rule, sum, largest}
 use Rattle.model.specs.Meaning.{State}
 use Rattle.model.specs.Steps.{target, combine, costsOf, systemOf, move, moveBy}
 use Rattle.model.specs.Check.{final, afterMove, afterStatus, follow, answerNumber, answerCost}
+use Rattle.model.proofs.Costs.{combine-at-most-sum}
 use Rattle.model.proofs.Ranges.{step-cost-below}
 use Rattle.outline.specs.Outline.{modelOf, ruleNumber}
 use Rattle.steps.specs.declared.answers.StatusAnswer.the-variants as S
@@ -32,19 +33,19 @@ use Rattle.steps.proofs.Items.{none-beyond}
 
 -- ---- answers taken apart
 
-is-base : (x : Status) → statusAnswer x ≡ S.Base → x ≡ base
+pub is-base : (x : Status) → statusAnswer x ≡ S.Base → x ≡ base
 unfolding statusAnswer
 is-base base e = refl
 is-base unfinished e = let z : _≡_ {A = ℕ} 0 1 = cc in absurd (omega arith)
 is-base (noStatus t) e = let z : _≡_ {A = ℕ} 0 1 = cc in absurd (omega arith)
 
-is-unfinished : (x : Status) → statusAnswer x ≡ S.Unfinished → x ≡ unfinished
+pub is-unfinished : (x : Status) → statusAnswer x ≡ S.Unfinished → x ≡ unfinished
 unfolding statusAnswer
 is-unfinished base e = let z : _≡_ {A = ℕ} 0 1 = cc in absurd (omega arith)
 is-unfinished unfinished e = refl
 is-unfinished (noStatus t) e = let z : _≡_ {A = ℕ} 0 1 = cc in absurd (omega arith)
 
-no-status : (x : Status) {t : ℕ} → statusAnswer x ≡ S.Trouble t → x ≡ noStatus t
+pub no-status : (x : Status) {t : ℕ} → statusAnswer x ≡ S.Trouble t → x ≡ noStatus t
 unfolding statusAnswer
 no-status base e = let z : _≡_ {A = ℕ} 0 1 = cc in absurd (omega arith)
 no-status unfinished e = let z : _≡_ {A = ℕ} 0 1 = cc in absurd (omega arith)
@@ -90,11 +91,6 @@ unfolding ruleNumber combine
 largest-rule sum g c e = absurd (e refl)
 largest-rule largest g c e = refl
 
-combine-small : (r : Rule) (g c : ℕ) → combine r g c ≤ g + c
-unfolding combine
-combine-small sum g c = omega arith
-combine-small largest g c = omega arith
-
 module _ (bytes words : List ℕ) (o : Outlined bytes words) (g c w : ℕ) (k : w ≡ getD words 0 0) where
   pub combine-sum : w ≡ 0 → g + c ≡ costsIn bytes .combine g c
   unfolding costsOf
@@ -108,9 +104,9 @@ module _ (bytes words : List ℕ) (o : Outlined bytes words) (g c w : ℕ) (k : 
   unfolding costsOf
   combine-first e l = let m : max g c ≡ g = omega arith in sym m ∙ largest-rule (modelOf bytes .rule) g c (λ i. e (k ∙ (o .outlines .rule ∙ i)))
 
-combined-small : (bytes : List ℕ) (g c : ℕ) → costsIn bytes .combine g c ≤ g + c
+pub combined-small : (bytes : List ℕ) (g c : ℕ) → costsIn bytes .combine g c ≤ g + c
 unfolding costsOf
-combined-small bytes g c = combine-small (modelOf bytes .rule) g c
+combined-small bytes g c = combine-at-most-sum (modelOf bytes .rule) g c
 
 -- ---- one transition
 

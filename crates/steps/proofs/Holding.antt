@@ -4,9 +4,8 @@ use mathlib.Core.Path.{_≡_, refl, sym, ap, _∙_}
 use mathlib.Core.Bool.{Bool, true, false}
 use mathlib.Core.List.{List}
 use native.Mathlib.Omega.{arith}
-use lib.ListN.{length, getD, drop, List·getD-eq-default}
-use lib.Dec.{leb}
-use borrow.Author.Tests.{leb-true, leb-false}
+use lib.ListN.{length, getD, drop}
+use Rattle.laws.proofs.Lists.{byte-inside}
 use Rattle.model.specs.Numbers.{rangeEnd}
 use Rattle.model.specs.Values.{Value, value, trouble, _>>=_}
 use Rattle.model.specs.Readers.{read}
@@ -24,15 +23,6 @@ use Rattle.steps.specs.Held.{stateIn}
 use Rattle.steps.specs.Answers.{heldAnswer}
 use Rattle.steps.specs.Says.{ConditionSays, HeldSays}
 use Rattle.steps.proofs.Readings.{Listed, ConditionAt, conditions-listed, First, first-of, none-of}
-
--- ---- a place with a byte is inside
-
-pub byte-inside : (bytes : List ℕ) (at b : ℕ) → getD bytes at 0 ≡ b → 0 < b → at < length bytes
-byte-inside bytes at b e h = by-test (leb (length bytes) at) (leb-true (length bytes) at) (leb-false (length bytes) at)
-  where
-    by-test : (t : Bool) → (t ≡ true → length bytes ≤ at) → (t ≡ false → at < length bytes) → at < length bytes
-    by-test true f g = let z : getD bytes at 0 ≡ 0 = List·getD-eq-default bytes 0 (f refl) in absurd (omega arith)
-    by-test false f g = g refl
 
 -- ---- a test's answer taken apart
 
@@ -53,7 +43,7 @@ holds-within l e w = rw e at w
 
 -- a place behind a byte, and the bytes used from there on
 pub inside : (bytes : List ℕ) (next k : ℕ) {b : ℕ} → getD bytes next 0 ≡ b → 0 < b → k ≤ length bytes - (next + 1) → next + 1 + k ≤ length bytes
-inside bytes next k e h l = omega (arith, byte-inside bytes next _ e h)
+inside bytes next k e h l = omega (arith, byte-inside bytes next _ h e)
 
 -- ---- the conditions 08 from `at` on, those before `next` passed
 

@@ -6,6 +6,7 @@ use mathlib.Core.List.{List}
 use native.Mathlib.Omega.{arith}
 use lib.ListN.{length, getD}
 use lib.IntN.{ℤ}
+use Rattle.laws.proofs.Lists.{byte-inside}
 use Rattle.model.specs.Numbers.{rangeEnd}
 use Rattle.model.specs.Values.{Value, value, trouble, _>>=_}
 use Rattle.model.specs.System.{blocked, moved, troubleBefore}
@@ -28,7 +29,6 @@ use Rattle.steps.specs.Answers.{heldAnswer, costAnswer, effectsAnswer, a
 use Rattle.steps.specs.Says.{HeldSays, CostSays, EffectsRead, EffectsSays, AttemptSay, TakenSays, TakenRead, TransitionRead, AttemptSays, Tried, MoveSays}
 use Rattle.steps.proofs.Items.{nth-of, none-beyond}
 use Rattle.steps.proofs.Readings.{PartsAt, parts-at}
-use Rattle.steps.proofs.Holding.{byte-inside}
 use Rattle.steps.proofs.Trials.{constraintsIn, all-held, one-fails, one-troubles}
 
 -- ---- answers taken apart
@@ -158,7 +158,7 @@ module _ (bytes : List ℕ) (at : ℕ) (state : List ℕ) (q : HeldAnswer) (says
           cost = r .item .cost;
           cost-used = p .cost-used;
           reads-cost = rw (f .1) at (p .reads-cost);
-          inside = omega (arith, byte-inside bytes next 9 (rw (f .1) at (p .cost-there)) (omega arith));
+          inside = omega (arith, byte-inside bytes next 9 (omega arith) (rw (f .1) at (p .cost-there)));
           effects-read = record { item = r .item .effects; used = p .effects-used; reads = rw (f .1) at (p .reads-effects) };
         }
 

@@ -1,12 +1,11 @@
--- A state's words: what a word written, the front copied, and the outline's start words come to.
-use Prim.Native.Nat.{ℕ, zero, suc, _+_, _≤_, _<_}
-use mathlib.Core.Path.{_≡_, refl, sym, ap, _∙_}
-use mathlib.Core.List.{List, [], _∷_, _++_, map}
+-- A state's words: what a word written and the outline's start words come to.
+use Prim.Native.Nat.{ℕ, zero, suc, _+_, _<_}
+use mathlib.Core.Path.{_≡_, refl, ap, _∙_}
+use mathlib.Core.List.{List, [], _∷_, map}
 use mathlib.Core.Option.{some}
 use native.Mathlib.Omega.{arith}
-use native.Mathlib.Numerals.{add-one}
-use lib.ListN.{length, getD, getElem?, set, take, drop, length-set}
-use lib.Seq.{getD-drop, length-take-le, take-suc, drop-cons, append-snoc, set-at}
+use lib.ListN.{length, getD, getElem?, set, drop}
+use lib.Seq.{getD-drop}
 use lib.IntN.{pos}
 use Rattle.model.specs.Syntax.{Variable}
 use Rattle.model.specs.Meaning.{State}
@@ -14,33 +13,6 @@ use Rattle.words.specs.States.{valueOf, stateOf}
 
 one-add : (v : ℕ) → 1 + v ≡ suc v
 one-add v = omega arith
-
--- one word more copied
-copy-more : (s d : List ℕ) (i : ℕ) → i < length s → i < length d → set (take i s ++ drop i d) i (getD s i 0) ≡ take (i + 1) s ++ drop (i + 1) d
-copy-more s d i hs hd =
-    let l : length (take i s) ≡ i = length-take-le i s (omega arith) in
-    rw (add-one, drop-cons d i 0 hd, take-suc s i 0 hs) (set-at (take i s) (getD d i 0) (drop (suc i) d) (getD s i 0) i l ∙ sym (append-snoc (take i s) (getD s i 0) (drop (suc i) d)))
-
--- the copy so far: i words are those of s, the others those of d
-pub record Copied (s d l : List ℕ) (i : ℕ) : Type 0 where
-  pub within : i ≤ 16
-  pub long : length l ≡ length d
-  pub so-far : l ≡ take i s ++ drop i d
-
-pub copied-more : (s d l : List ℕ) (i : ℕ) → 16 ≤ length s → 16 ≤ length d → i < 16 → Copied s d l i → Copied s d (set l i (getD s i 0)) (i + 1)
-copied-more s d l i hs hd hi c = record {
-  within = omega arith;
-  long = length-set l i (getD s i 0) ∙ c .long;
-  so-far = ap (λ (k : List ℕ). set k i (getD s i 0)) (c .so-far) ∙ copy-more s d i (omega arith) (omega arith);
-}
-
-pub copied-all : (s d l : List ℕ) (i : ℕ) → 16 ≤ i → Copied s d l i → l ≡ take 16 s ++ drop 16 d
-copied-all s d l i h c = let e : i ≡ 16 = omega (arith, c .within) in rw e at (c .so-far)
-
-pub state-length : (vs : List Variable) (ws : List ℕ) → length (stateOf vs ws) ≡ length vs
-unfolding stateOf
-state-length [] ws = refl
-state-length (x ∷ xs) ws = ap suc (state-length xs (drop 1 ws))
 
 -- the value of a declared variable
 pub state-at : (vs : List Variable) (ws : List ℕ) (v : ℕ) {x : Variable} → getElem? vs v ≡ some x → getD (stateOf vs ws) v (pos 0) ≡ valueOf (x .kind) (getD ws v 0)

@@ -6,10 +6,10 @@ ghost use Rattle.model.specs.Steps as steps;
 ghost use Rattle.steps.specs.Held.{Outlined, stateIn, systemIn};
 ghost use Rattle.steps.specs.Answers.{boundAnswer};
 use crate::answers::BoundAnswer;
-use crate::layout::BOUND_COUNT;
-use crate::layout::BOUNDS;
 use crate::parts::number_at;
 use evaluator::answers::NumberValue;
+use outline::layout::BOUND_COUNT;
+use outline::layout::BOUNDS;
 use outline::word_at;
 
 // The greater of h and a bound's number.

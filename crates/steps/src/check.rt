@@ -14,9 +14,9 @@ use crate::answers::NOT_A_PLAN;
 use crate::answers::StatusAnswer;
 use crate::answers::TurnAnswer;
 use crate::conditions::status;
-use crate::layout::RULE;
 use crate::moves::step;
 use crate::states::start;
+use outline::layout::RULE;
 use outline::word_at;
 
 // The cost of a path and of a step behind it, by the cost rule.

@@ -9,13 +9,13 @@ ghost use Rattle.steps.specs.Answers.{heldAnswer, statusAnswer};
 ghost use Rattle.steps.specs.Says.{HeldSays};
 use crate::answers::HeldAnswer;
 use crate::answers::StatusAnswer;
-use crate::layout::BASE_CASE_COUNT;
-use crate::layout::BASE_CASES;
-use crate::layout::CONSTRAINT_COUNT;
-use crate::layout::CONSTRAINTS;
-use crate::parts::byte_at;
 use crate::parts::condition_at;
 use evaluator::answers::ConditionValue;
+use laws::byte_at;
+use outline::layout::BASE_CASE_COUNT;
+use outline::layout::BASE_CASES;
+use outline::layout::CONSTRAINT_COUNT;
+use outline::layout::CONSTRAINTS;
 use outline::word_at;
 
 // Tries the conditions 08 from a place on.

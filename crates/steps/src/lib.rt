@@ -4,7 +4,6 @@ pub mod answers;
 pub mod bounds;
 pub mod check;
 pub mod conditions;
-pub mod layout;
 pub mod moves;
 pub mod parts;
 pub mod states;

@@ -1,13 +1,10 @@
 // Expressions where they stand in the model's bytes.
 
-ghost use mathlib.Core.Path.{_≡_};
 ghost use Prim.Native.Nat.{_≤_, _<_, _-_};
-ghost use lib.ListN.{length, getD};
+ghost use lib.ListN.{length};
 ghost use Rattle.evaluator.specs.Bounds.{NumberWithin, ConditionWithin};
 ghost use Rattle.steps.specs.Held.{Outlined};
 ghost use Rattle.steps.specs.Says.{ConditionSays, NumberSays, ElementSays, SetSays};
-use crate::layout::FULL_SETS;
-use crate::layout::TABLES;
 use conjunctions::test;
 use evaluator::answers::ConditionValue;
 use evaluator::answers::ElementValue;
@@ -16,13 +13,8 @@ use evaluator::answers::SetValue;
 use evaluator::sets::element;
 use evaluator::sets::set;
 use numbers::number;
-
-// The byte at a place, or 0 where there is none.
-pub fn byte_at(bytes: &[u8], at: usize) -> u8
-    ensures { λ r. ⌜ r ≡ getD (now (bytes .entry)) at 0 ⌝ }
-{
-    if at < bytes.len() { bytes[at] } else { 0 }
-}
+use outline::layout::FULL_SETS;
+use outline::layout::TABLES;
 
 // Whether the condition at a place holds, and its bytes where it does.
 pub fn condition_at(model: &[u8], at: usize, outline: &[u64], state: &[u64]) -> ConditionValue

@@ -8,10 +8,12 @@ ghost use Rattle.model.specs.Steps.{target};
 ghost use Rattle.outline.specs.Outline.{modelOf};
 ghost use Rattle.steps.specs.Held.{Outlined, Held, stateIn, systemIn};
 ghost use Rattle.steps.specs.Order.{comparedWord, noWorseBy, noWorseAt};
-use crate::layout::KINDS;
-use crate::layout::PREFERENCES;
-use crate::layout::STARTS;
-use crate::layout::VARIABLE_COUNT;
+use laws::copy_words;
+use outline::layout::KINDS;
+use outline::layout::PREFERENCES;
+use outline::layout::STARTS;
+use outline::layout::STATE_WORDS;
+use outline::layout::VARIABLE_COUNT;
 use outline::word_at;
 
 // Copies the words of a state.
@@ -19,11 +21,7 @@ pub fn copy_state(from: &[u64], to: &mut [u64])
     requires { ⌜ Held (now from) × Held (now to) ⌝ }
     ensures { λ r. ⌜ now (to .exit) ≡ take 16 (now (from .entry)) ++ drop 16 (now (to .entry)) ⌝ }
 {
-    let mut i: usize = 0;
-    while i < 16 {
-        to[i] = from[i];
-        i += 1;
-    }
+    copy_words(&from[..STATE_WORDS], &mut to[..STATE_WORDS]);
 }
 
 // Writes the target's words.

@@ -9,6 +9,7 @@ use lib.ListN.{length, getD, getElem?, drop, set, length-drop, replicate}
 use lib.Seq.{getD-set-same, getD-set-other}
 use lib.Dec.{eqb, leb}
 use borrow.Author.Tests.{eq-eqb, ne-eqb, eqb-true, eqb-false}
+use Rattle.laws.proofs.Lists.{byte-inside}
 use Rattle.laws.specs.Lists.{any}
 use Rattle.model.specs.Numbers.{endsEarly, mismatch, offLimits, mostVariables, mostNesting}
 use Rattle.model.specs.Readers.{Read, read, refused, Reader, after, continue, _>>=_, _>>_, give, refuse, require, one, word, byte, command}
@@ -26,7 +27,7 @@ use Rattle.declarations.specs.Places.{readAt, placeOf}
 use Rattle.transitions.specs.Transitions.{placeOfPart, dueFor, countFits, partFrom, costNumber, effectsBehind, Marked, Changed}
 use Rattle.declarations.specs.declared.Place.the-variants.{At, Refused}
 use Rattle.words.proofs.Literal.{word-one}
-use Rattle.declarations.proofs.Positions.{front, byte-inside, reads-at, refuses-at, give-at, given-at, place-read, place-refused, then-read, then-refused, next-read, next-refused, next-split, reverse-more, turn, turn-full, turn-head-refused, turn-body-refused, turn-end, turn-early}
+use Rattle.declarations.proofs.Positions.{front, reads-at, refuses-at, give-at, given-at, place-read, place-refused, then-read, then-refused, next-read, next-refused, next-split, reverse-more, turn, turn-full, turn-head-refused, turn-body-refused, turn-end, turn-early}
 
 -- ---- an expression at a position
 

@@ -12,7 +12,6 @@ ghost use Rattle.declarations.specs.Places.{readAt, placeOf};
 ghost use Rattle.transitions.specs.Transitions.{placeOfPart, dueFor, countFits, partFrom, costNumber, effectsBehind, ChangedAs};
 use declarations::MOST_VARIABLES;
 use declarations::Place;
-use declarations::places::byte_at;
 use declarations::places::command_at;
 use expressions::expression;
 use forms::Due;
@@ -20,6 +19,7 @@ use forms::ENDS_EARLY;
 use forms::MISMATCH;
 use forms::OFF_LIMITS;
 use forms::Part;
+use laws::byte_at;
 
 // Sizes of document 01.
 const MOST_CONDITIONS: usize = 16;

@@ -12,7 +12,7 @@ use lib.ListN.{length, take, drop, getD, length-reverse, length-drop, length-tak
 use lib.Seq.{length-take-le, take-at}
 use Rattle.laws.specs.Lists.{All}
 use Rattle.model.specs.Numbers.{rangeEnd}
-use Rattle.model.specs.System.{System, Status, base, unfinished, noStatus}
+use Rattle.model.specs.System.{System}
 use Rattle.model.specs.Syntax.{Rule, Variable}
 use Rattle.model.specs.Meaning.{State}
 use Rattle.model.specs.Steps.{costsOf}
@@ -24,6 +24,7 @@ use Rattle.steps.specs.declared.answers.StatusAnswer.the-variants as A
 use Rattle.steps.specs.Answers.{statusAnswer}
 use Rattle.steps.specs.Held.{systemIn, stateIn}
 use Rattle.steps.specs.Follow.{costsIn}
+use Rattle.steps.proofs.Following.{is-base, is-unfinished, no-status}
 use Rattle.beam.specs.Nodes.{nodeAt}
 use Rattle.beam.specs.Held.{nodesOf, Held, roundWith}
 use Rattle.beam.proofs.Mapped.{not-at-most}
@@ -146,26 +147,6 @@ module _ (words plan : List ℕ) (w k i g : ℕ) (x : Round) where
 -- a held layer in the making has its room
 pub room : {outline : List ℕ} {w n : ℕ} (words : List ℕ) → Held outline w n (nextOf w words) → 46 * w ≤ length words
 room {outline} {w} {n} words h = omega (arith, h .long, width-positive h, length-take (46 * w - 20 * w) (drop (20 * w) words), length-drop (20 * w) words)
-
--- ---- a status by its answer
-
-is-base : (x : Status) → statusAnswer x ≡ A.Base → x ≡ base
-unfolding statusAnswer
-is-base base e = refl
-is-base unfinished e = let z : _≡_ {A = ℕ} 0 1 = cc in absurd (omega arith)
-is-base (noStatus t) e = let z : _≡_ {A = ℕ} 0 1 = cc in absurd (omega arith)
-
-is-unfinished : (x : Status) → statusAnswer x ≡ A.Unfinished → x ≡ unfinished
-unfolding statusAnswer
-is-unfinished base e = let z : _≡_ {A = ℕ} 0 1 = cc in absurd (omega arith)
-is-unfinished unfinished e = refl
-is-unfinished (noStatus t) e = let z : _≡_ {A = ℕ} 0 1 = cc in absurd (omega arith)
-
-no-status : (x : Status) {t : ℕ} → statusAnswer x ≡ A.Trouble t → x ≡ noStatus t
-unfolding statusAnswer
-no-status base e = let z : _≡_ {A = ℕ} 0 1 = cc in absurd (omega arith)
-no-status unfinished e = let z : _≡_ {A = ℕ} 0 1 = cc in absurd (omega arith)
-no-status (noStatus t) e = cc
 
 -- ---- what is left of the working words and the round, by each way of a visit
 

@@ -5,12 +5,6 @@ use lib.ListN.{length}
 use borrow.Author.Needs.{needs}
 use Rattle.cases.proofs.main.Statement.{statement}
 use Rattle.cases.proofs.main.Tie as tie
-use Rattle.cases.proofs.main.Reads as reads
-use Rattle.cases.proofs.main.Lts as lts
-use Rattle.cases.proofs.least.Reads as least-reads
-use Rattle.cases.proofs.run_case.Reads as run-case-reads
-use Rattle.cases.proofs.write_longest.Reads as write-longest-reads
-use Rattle.os.proofs.arg_count.Reads as arg-count-reads
 
 abbrev Inv-loop : tie.InvT-loop
 Inv-loop words₀ count i₀ words i = (count ≤ 65536) × (i ≤ 65543) × (300000 ≡ length words)

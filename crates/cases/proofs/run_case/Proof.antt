@@ -4,12 +4,6 @@ use lib.Seq.{length-take-le}
 use borrow.Author.Needs.{needs}
 use Rattle.cases.proofs.run_case.Statement.{statement}
 use Rattle.cases.proofs.run_case.Tie as tie
-use Rattle.cases.proofs.run_case.Reads as reads
-use Rattle.cases.proofs.run_case.Lts as lts
-use Rattle.cases.proofs.read_file.Reads as read-file-reads
-use Rattle.cases.proofs.write_case.Reads as write-case-reads
-use Rattle.cases.proofs.write_name.Reads as write-name-reads
-use Rattle.io.proofs.large_buffer.Reads as large-buffer-reads
 
 -- src/main.rt:109:21
 large-buffer-requires : tie.Need-large-buffer-requires

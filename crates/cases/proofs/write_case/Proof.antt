@@ -4,11 +4,6 @@ use lib.Seq.{length-take-le}
 use borrow.Author.Needs.{needs}
 use Rattle.cases.proofs.write_case.Statement.{statement}
 use Rattle.cases.proofs.write_case.Tie as tie
-use Rattle.cases.proofs.write_case.Reads as reads
-use Rattle.cases.proofs.write_case.Lts as lts
-use Rattle.cases.proofs.argument.Reads as argument-reads
-use Rattle.cases.proofs.least.Reads as least-reads
-use Rattle.cases.proofs.write_search.Reads as write-search-reads
 
 -- src/main.rt:93:32
 add-argument : tie.Need-add-argument

@@ -7,10 +7,6 @@ use Rattle.checker.proofs.Tests.{check-long-model, check-long-plan, che
 use borrow.Author.Needs.{needs}
 use Rattle.checker.proofs.check.Statement.{statement}
 use Rattle.checker.proofs.check.Tie as tie
-use Rattle.checker.proofs.check.Reads as reads
-use Rattle.checker.proofs.check.Lts as lts
-use Rattle.commands.proofs.read_model.Reads as read-model-reads
-use Rattle.steps.proofs.check.follow.Reads as follow-reads
 
 returns : tie.Need-returns
 returns c = told-trouble _ (check-long-model _ _ (c .if1 .taken)) refl refl

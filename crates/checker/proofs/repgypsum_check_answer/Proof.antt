@@ -4,9 +4,6 @@ use Rattle.model.proofs.PlanCheck.{answer-zero-exact}
 use borrow.Author.Needs.{needs}
 use Rattle.checker.proofs.repgypsum_check_answer.Statement.{statement}
 use Rattle.checker.proofs.repgypsum_check_answer.Tie as tie
-use Rattle.checker.proofs.repgypsum_check_answer.Reads as reads
-use Rattle.checker.proofs.repgypsum_check_answer.Lts as lts
-use Rattle.checker.proofs.check.Reads as check-reads
 
 check-requires : tie.Need-check-requires
 check-requires c κs = search needs

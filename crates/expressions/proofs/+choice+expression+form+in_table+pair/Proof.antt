@@ -29,7 +29,7 @@ use Rattle.expressions.proofs.+choice+expression+form+in_table+pair.Lts
 use Rattle.expressions.proofs.pair.Reads as pair
 use Rattle.expressions.proofs.pair.Kinds as pair-kinds
 use Rattle.expressions.proofs.+choice+expression+form+in_table+pair.Lts-pair as pair-lts
-use Rattle.forms.proofs.bytes.byte_at.Reads as byte-at-reads
+use Rattle.laws.proofs.byte_at.Reads as byte-at-reads
 use Rattle.forms.proofs.bytes.integer.Reads as integer-reads
 use Rattle.forms.proofs.bytes.object.Reads as object-reads
 use Rattle.forms.proofs.bytes.objects_and_members.Reads as objects-and-members-reads

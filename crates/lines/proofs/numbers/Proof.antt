@@ -3,10 +3,6 @@ use Rattle.lines.proofs.Lined.{in-line}
 use borrow.Author.Needs.{needs}
 use Rattle.lines.proofs.numbers.Statement.{statement}
 use Rattle.lines.proofs.numbers.Tie as tie
-use Rattle.lines.proofs.numbers.Reads as reads
-use Rattle.lines.proofs.numbers.Lts as lts
-use Rattle.reports.proofs.figures.flag_number.Reads as flag-number-reads
-use Rattle.reports.proofs.figures.outcome_number.Reads as outcome-number-reads
 
 outcome-number-requires : tie.Need-outcome-number-requires
 outcome-number-requires c κs = search needs

@@ -4,10 +4,6 @@ use lib.ListN.{length}
 use borrow.Author.Needs.{needs}
 use Rattle.lines.proofs.write_numbers.Statement.{statement}
 use Rattle.lines.proofs.write_numbers.Tie as tie
-use Rattle.lines.proofs.write_numbers.Reads as reads
-use Rattle.lines.proofs.write_numbers.Lts as lts
-use Rattle.io.proofs.print_decimal.Reads as print-decimal-reads
-use Rattle.io.proofs.write_all.Reads as write-all-reads
 
 abbrev Inv-loop : tie.InvT-loop
 Inv-loop numbers i₀ t3 i = i ≤ length numbers

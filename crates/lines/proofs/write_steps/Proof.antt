@@ -4,11 +4,6 @@ use lib.ListN.{length}
 use borrow.Author.Needs.{needs}
 use Rattle.lines.proofs.write_steps.Statement.{statement}
 use Rattle.lines.proofs.write_steps.Tie as tie
-use Rattle.lines.proofs.write_steps.Reads as reads
-use Rattle.lines.proofs.write_steps.Lts as lts
-use Rattle.io.proofs.print_decimal.Reads as print-decimal-reads
-use Rattle.io.proofs.write_all.Reads as write-all-reads
-use Rattle.laws.proofs.wide.Reads as wide-reads
 
 abbrev Inv-loop : tie.InvT-loop
 Inv-loop steps i₀ t3 i = i ≤ length steps

@@ -1,5 +1,4 @@
 -- `order::earlier_at` meets its contract. By the order of the two f.
-use Prim.Native.Nat.{_-_}
 use borrow.Author.Needs.{needs}
 use Rattle.order.proofs.Arrays.{earlier-less, earlier-more, earlier-even}
 use Rattle.order.proofs.earlier_at.Statement.{statement}

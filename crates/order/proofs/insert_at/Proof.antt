@@ -1,5 +1,5 @@
 -- `order::insert_at` meets its contract. The invariant: putting x in at p, with j for n, comes to the same.
-use Prim.Native.Nat.{_-_, _≤_}
+use Prim.Native.Nat.{_≤_}
 use mathlib.Core.Path.{_≡_, refl, _∙_}
 use native.Mathlib.Omega.{arith}
 use borrow.Author.Needs.{needs}

@@ -5,9 +5,6 @@ use lib.ListN.{length}
 use borrow.Author.Needs.{needs}
 use Rattle.planner.proofs.read_input.Statement.{statement}
 use Rattle.planner.proofs.read_input.Tie as tie
-use Rattle.planner.proofs.read_input.Reads as reads
-use Rattle.planner.proofs.read_input.Lts as lts
-use Rattle.planner.proofs.read_some.Reads as read-some-reads
 
 abbrev Inv-loop : tie.InvT-loop
 Inv-loop buffer₀ at₀ buffer at = (at ≤ length buffer) × (length buffer ≡ length buffer₀)

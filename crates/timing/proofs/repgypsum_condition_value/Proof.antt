@@ -9,9 +9,6 @@ use Rattle.conjunctions.specs.Stopped.{stopped}
 use Rattle.timing.specs.Timed.{conditionCode}
 use Rattle.timing.proofs.repgypsum_condition_value.Statement.{statement}
 use Rattle.timing.proofs.repgypsum_condition_value.Tie as tie
-use Rattle.timing.proofs.repgypsum_condition_value.Reads as reads
-use Rattle.timing.proofs.repgypsum_condition_value.Lts as lts
-use Rattle.conjunctions.proofs.test.Reads as test-reads
 
 code-stopped : (v : ConditionValue) → conditionCode (stopped v) ≡ conditionCode v
 unfolding stopped

@@ -5,9 +5,6 @@ use mir.Syntax.{w64}
 use borrow.Author.Needs.{needs}
 use Rattle.timing.proofs.repgypsum_number_value.Statement.{statement}
 use Rattle.timing.proofs.repgypsum_number_value.Tie as tie
-use Rattle.timing.proofs.repgypsum_number_value.Reads as reads
-use Rattle.timing.proofs.repgypsum_number_value.Lts as lts
-use Rattle.numbers.proofs.number.Reads as number-reads
 
 number-requires : tie.Need-number-requires
 number-requires c κs = search needs

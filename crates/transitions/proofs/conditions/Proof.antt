@@ -3,13 +3,14 @@ use Prim.Native.Nat.{_-_}
 use mathlib.Core.Path.{sym, ap, _∙_}
 use native.Mathlib.Omega.{arith}
 use borrow.Author.Needs.{needs}
+use Rattle.laws.proofs.Lists.{byte-inside}
 use Rattle.model.specs.Commands.{conditions}
 use Rattle.model.specs.Expressions.{condition}
 use Rattle.model.specs.Numbers.{mostNesting}
 use Rattle.words.specs.Signature.{variablesOf, tablesOf}
 use Rattle.declarations.specs.Places.{readAt, placeOf}
 use Rattle.declarations.proofs.Items.{ItemsSoFar, no-items, item-more, item-too-many, item-refused, items-end, items-early}
-use Rattle.declarations.proofs.Positions.{byte-inside, place-read, place-refused}
+use Rattle.declarations.proofs.Positions.{place-read, place-refused}
 use Rattle.transitions.proofs.conditions.Statement.{statement}
 use Rattle.transitions.proofs.conditions.Tie as tie
 

@@ -3,8 +3,8 @@ use Prim.Native.Nat.{_+_}
 use mathlib.Core.Path.{sym, _∙_}
 use native.Mathlib.Omega.{arith}
 use borrow.Author.Needs.{needs}
+use Rattle.laws.proofs.Lists.{byte-inside}
 use Rattle.transitions.proofs.Reading.{effect-cut, effect-again, effect-undeclared, effect-too-many, effect-refused, effect-more}
-use Rattle.declarations.proofs.Positions.{byte-inside}
 use Rattle.transitions.proofs.effect.Statement.{statement}
 use Rattle.transitions.proofs.effect.Tie as tie
 

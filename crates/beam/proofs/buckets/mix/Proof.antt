@@ -1,5 +1,4 @@
 -- `beam::buckets::mix` meets its contract.
-use Prim.Native.Nat.{_-_}
 use borrow.Author.Needs.{needs}
 use Rattle.beam.specs.Buckets.{mix}
 use Rattle.beam.proofs.buckets.mix.Statement.{statement}

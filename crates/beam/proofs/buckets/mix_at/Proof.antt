@@ -1,5 +1,4 @@
 -- `beam::buckets::mix_at` meets its contract.
-use Prim.Native.Nat.{_-_}
 use borrow.Author.Needs.{needs}
 use Rattle.beam.specs.Buckets.{mixAt}
 use Rattle.beam.proofs.buckets.mix_at.Statement.{statement}

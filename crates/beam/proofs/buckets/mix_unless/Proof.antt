@@ -1,5 +1,5 @@
 -- `beam::buckets::mix_unless` meets its contract.
-use Prim.Native.Nat.{ℕ, _/_, _-_}
+use Prim.Native.Nat.{ℕ, _/_}
 use mathlib.Core.Path.{ap, _∙_}
 use borrow.Author.Needs.{needs}
 use Rattle.beam.specs.Buckets.{mix}

@@ -1,5 +1,4 @@
 -- `beam::slots::beats` meets its contract.
-use Prim.Native.Nat.{_-_}
 use mathlib.Core.Path.{sym}
 use native.Mathlib.Omega.{arith}
 use borrow.Author.Needs.{needs}

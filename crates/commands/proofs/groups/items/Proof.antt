@@ -4,13 +4,14 @@ use mathlib.Core.Path.{sym, _∙_}
 use native.Mathlib.Omega.{arith}
 use lib.ListN.{length}
 use borrow.Author.Needs.{needs}
+use Rattle.laws.proofs.Lists.{byte-inside}
 use Rattle.words.specs.Signature.{variablesOf, tablesOf}
 use Rattle.commands.specs.Groups.{codeOf, itemOf}
 use Rattle.declarations.specs.Places.{readAt}
 use Rattle.commands.proofs.Outlining.{code-positive}
 use Rattle.declarations.proofs.Items.{item-too-many, item-refused, items-early}
 use Rattle.commands.proofs.Offsets.{OffsetsSoFar, no-offsets, offset-more, offsets-end}
-use Rattle.declarations.proofs.Positions.{byte-inside, place-read, place-refused}
+use Rattle.declarations.proofs.Positions.{place-read, place-refused}
 use Rattle.commands.proofs.groups.items.Statement.{statement}
 use Rattle.commands.proofs.groups.items.Tie as tie
 

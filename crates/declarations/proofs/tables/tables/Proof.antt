@@ -4,13 +4,13 @@ use mathlib.Core.Path.{sym, ap, _∙_}
 use native.Mathlib.Omega.{arith}
 use lib.ListN.{drop}
 use borrow.Author.Needs.{needs}
+use Rattle.laws.proofs.Lists.{byte-inside}
 use Rattle.words.proofs.Literal.{suffix}
 use Rattle.model.specs.Commands.{entries}
 use Rattle.declarations.specs.Places.{readAt, placeOf}
 use Rattle.declarations.proofs.Declarations.{TablesSoFar, no-tables, table-head-refused, table-too-many, table-body-refused, table-more, tables-end, tables-early}
 use Rattle.declarations.proofs.Entries.{sides-told, sides-refused}
 use Rattle.declarations.proofs.Operands.{cells-bound}
-use Rattle.declarations.proofs.Positions.{byte-inside}
 use Rattle.declarations.proofs.tables.tables.Statement.{statement}
 use Rattle.declarations.proofs.tables.tables.Tie as tie
 

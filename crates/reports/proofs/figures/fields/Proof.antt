@@ -3,11 +3,6 @@ use Rattle.reports.proofs.Reporting.{in-numbers}
 use borrow.Author.Needs.{needs}
 use Rattle.reports.proofs.figures.fields.Statement.{statement}
 use Rattle.reports.proofs.figures.fields.Tie as tie
-use Rattle.reports.proofs.figures.fields.Reads as reads
-use Rattle.reports.proofs.figures.fields.Lts as lts
-use Rattle.reports.proofs.figures.flag_number.Reads as flag-number-reads
-use Rattle.reports.proofs.figures.outcome_number.Reads as outcome-number-reads
-use Rattle.reports.proofs.figures.refused_number.Reads as refused-number-reads
 
 refused-number-requires : tie.Need-refused-number-requires
 refused-number-requires c κs = search needs

@@ -4,9 +4,6 @@ use Rattle.reports.specs.Answers.{outcomeOf}
 use borrow.Author.Needs.{needs}
 use Rattle.reports.proofs.figures.outcome_number.Statement.{statement}
 use Rattle.reports.proofs.figures.outcome_number.Tie as tie
-use Rattle.reports.proofs.figures.outcome_number.Reads as reads
-use Rattle.reports.proofs.figures.outcome_number.Lts as lts
-use Rattle.reports.proofs.figures.verdict_number.Reads as verdict-number-reads
 
 enum-known-outcome : tie.Need-enum-known-outcome
 enum-known-outcome c = search needs

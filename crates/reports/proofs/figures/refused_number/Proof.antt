@@ -4,8 +4,6 @@ use Rattle.reports.specs.Answers.{outcomeOf}
 use borrow.Author.Needs.{needs}
 use Rattle.reports.proofs.figures.refused_number.Statement.{statement}
 use Rattle.reports.proofs.figures.refused_number.Tie as tie
-use Rattle.reports.proofs.figures.refused_number.Reads as reads
-use Rattle.reports.proofs.figures.refused_number.Lts as lts
 
 enum-told : tie.Need-enum-told
 enum-told c = search needs

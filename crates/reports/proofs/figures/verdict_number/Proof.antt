@@ -4,8 +4,6 @@ use Rattle.visits.specs.Work.{verdictOf}
 use borrow.Author.Needs.{needs}
 use Rattle.reports.proofs.figures.verdict_number.Statement.{statement}
 use Rattle.reports.proofs.figures.verdict_number.Tie as tie
-use Rattle.reports.proofs.figures.verdict_number.Reads as reads
-use Rattle.reports.proofs.figures.verdict_number.Lts as lts
 
 enum-told : tie.Need-enum-told
 enum-told c = search needs

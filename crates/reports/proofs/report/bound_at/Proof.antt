@@ -3,8 +3,6 @@ use Rattle.reports.proofs.Reporting.{bound-cost, bound-without, bound-n
 use borrow.Author.Needs.{needs}
 use Rattle.reports.proofs.report.bound_at.Statement.{statement}
 use Rattle.reports.proofs.report.bound_at.Tie as tie
-use Rattle.reports.proofs.report.bound_at.Reads as reads
-use Rattle.reports.proofs.report.bound_at.Lts as lts
 
 enum-told : tie.Need-enum-told
 enum-told c = search needs

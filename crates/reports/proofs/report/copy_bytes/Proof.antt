@@ -5,11 +5,9 @@ use mathlib.Core.List.{_++_}
 use native.Mathlib.Omega.{arith}
 use borrow.Author.Needs.{needs}
 use lib.ListN.{length, take, drop}
-use Rattle.reports.proofs.Reporting.{copied-more, copied-whole}
+use Rattle.laws.proofs.Copies.{copied-more, copied-whole}
 use Rattle.reports.proofs.report.copy_bytes.Statement.{statement}
 use Rattle.reports.proofs.report.copy_bytes.Tie as tie
-use Rattle.reports.proofs.report.copy_bytes.Reads as reads
-use Rattle.reports.proofs.report.copy_bytes.Lts as lts
 
 abbrev Inv-loop : tie.InvT-loop
 Inv-loop from n to₀ i₀ to i = (i ≤ n) × ((length to ≡ length to₀) × (to ≡ take i from ++ drop i to₀))

@@ -4,10 +4,6 @@ use Rattle.reports.proofs.Reporting.{decides-found, decides-none}
 use borrow.Author.Needs.{needs}
 use Rattle.reports.proofs.report.decided.Statement.{statement}
 use Rattle.reports.proofs.report.decided.Tie as tie
-use Rattle.reports.proofs.report.decided.Reads as reads
-use Rattle.reports.proofs.report.decided.Lts as lts
-use Rattle.reports.proofs.report.bound_at.Reads as bound-at-reads
-use Rattle.reports.proofs.report.copy_bytes.Reads as copy-bytes-reads
 
 bound-at-requires : tie.Need-bound-at-requires
 bound-at-requires c κs = search needs

@@ -2,8 +2,6 @@
 use Rattle.reports.proofs.Reporting.{refuses}
 use Rattle.reports.proofs.report.refused.Statement.{statement}
 use Rattle.reports.proofs.report.refused.Tie as tie
-use Rattle.reports.proofs.report.refused.Reads as reads
-use Rattle.reports.proofs.report.refused.Lts as lts
 
 returns : tie.Need-returns
 returns c = refuses _ _ _ _

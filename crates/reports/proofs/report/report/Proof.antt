@@ -4,11 +4,6 @@ use Rattle.reports.proofs.Reporting.{inside-at, inside-beyond, reports-
 use borrow.Author.Needs.{needs}
 use Rattle.reports.proofs.report.report.Statement.{statement}
 use Rattle.reports.proofs.report.report.Tie as tie
-use Rattle.reports.proofs.report.report.Reads as reads
-use Rattle.reports.proofs.report.report.Lts as lts
-use Rattle.reports.proofs.report.decided.Reads as decided-reads
-use Rattle.reports.proofs.report.refused.Reads as refused-reads
-use Rattle.routes.proofs.trace.trace.Reads as trace-reads
 
 enum-known-ending : tie.Need-enum-known-ending
 enum-known-ending c = search needs

@@ -8,8 +8,6 @@ use Rattle.search.specs.Run.{isWidth}
 use Rattle.solver.proofs.Entering.{widths, among, width-found, width-passed, widths-passed}
 use Rattle.solver.proofs.entry.is_width.Statement.{statement}
 use Rattle.solver.proofs.entry.is_width.Tie as tie
-use Rattle.solver.proofs.entry.is_width.Reads as reads
-use Rattle.solver.proofs.entry.is_width.Lts as lts
 
 abbrev Inv-loop : tie.InvT-loop
 Inv-loop width i₀ i = (i ≤ 13) × (isWidth width ≡ among width (drop i widths))

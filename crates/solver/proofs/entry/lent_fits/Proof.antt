@@ -5,8 +5,6 @@ use Rattle.solver.proofs.Entering.{words-bound, lent-short, lent-words}
 use borrow.Author.Needs.{needs}
 use Rattle.solver.proofs.entry.lent_fits.Statement.{statement}
 use Rattle.solver.proofs.entry.lent_fits.Tie as tie
-use Rattle.solver.proofs.entry.lent_fits.Reads as reads
-use Rattle.solver.proofs.entry.lent_fits.Lts as lts
 
 returns : tie.Need-returns
 returns c = sym (lent-short (c .before .args .width) (c .before .args .length) (c .before .args .bytes) (c .before .args .words) (c .if1 .taken))

@@ -4,8 +4,6 @@ use Rattle.search.specs.Run.{refusedByInput}
 use Rattle.reports.specs.Answers.{outcomeOf}
 use Rattle.solver.proofs.entry.refusal.Statement.{statement}
 use Rattle.solver.proofs.entry.refusal.Tie as tie
-use Rattle.solver.proofs.entry.refusal.Reads as reads
-use Rattle.solver.proofs.entry.refusal.Lts as lts
 
 returns : tie.Need-returns
 unfolding refusedByInput outcomeOf

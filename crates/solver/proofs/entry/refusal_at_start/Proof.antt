@@ -4,8 +4,6 @@ use Rattle.search.specs.Search.{answerOf, tallyOf}
 use Rattle.reports.specs.Answers.{outcomeOf}
 use Rattle.solver.proofs.entry.refusal_at_start.Statement.{statement}
 use Rattle.solver.proofs.entry.refusal_at_start.Tie as tie
-use Rattle.solver.proofs.entry.refusal_at_start.Reads as reads
-use Rattle.solver.proofs.entry.refusal_at_start.Lts as lts
 
 returns : tie.Need-returns
 unfolding answerOf tallyOf outcomeOf

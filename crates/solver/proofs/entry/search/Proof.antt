@@ -3,9 +3,6 @@ use Rattle.solver.proofs.Entering.{guaranteed}
 use borrow.Author.Needs.{needs}
 use Rattle.solver.proofs.entry.search.Statement.{statement}
 use Rattle.solver.proofs.entry.search.Tie as tie
-use Rattle.solver.proofs.entry.search.Reads as reads
-use Rattle.solver.proofs.entry.search.Lts as lts
-use Rattle.solver.proofs.entry.search_up_to.Reads as search-up-to-reads
 
 search-up-to-requires : tie.Need-search-up-to-requires
 search-up-to-requires c κs = search needs

@@ -5,13 +5,6 @@ use Rattle.solver.proofs.Entering.{start-value, start-trouble, says-run
 use borrow.Author.Needs.{needs}
 use Rattle.solver.proofs.entry.search_model.Statement.{statement}
 use Rattle.solver.proofs.entry.search_model.Tie as tie
-use Rattle.solver.proofs.entry.search_model.Reads as reads
-use Rattle.solver.proofs.entry.search_model.Lts as lts
-use Rattle.solver.proofs.entry.refusal_at_start.Reads as refusal-at-start-reads
-use Rattle.reports.proofs.report.report.Reads as report-reads
-use Rattle.runs.proofs.rounds.Reads as rounds-reads
-use Rattle.steps.proofs.bounds.bound.Reads as bound-reads
-use Rattle.steps.proofs.states.start.Reads as start-reads
 
 slice-aggregate-start : tie.Need-slice-aggregate-start
 slice-aggregate-start c = search needs

@@ -11,13 +11,6 @@ use Rattle.solver.proofs.Entering.{width-fits, some-steps, narrow, lent
 use borrow.Author.Needs.{needs}
 use Rattle.solver.proofs.entry.search_up_to.Statement.{statement}
 use Rattle.solver.proofs.entry.search_up_to.Tie as tie
-use Rattle.solver.proofs.entry.search_up_to.Reads as reads
-use Rattle.solver.proofs.entry.search_up_to.Lts as lts
-use Rattle.commands.proofs.read_model.Reads as read-model-reads
-use Rattle.solver.proofs.entry.lent_fits.Reads as lent-fits-reads
-use Rattle.solver.proofs.entry.refusal.Reads as refusal-reads
-use Rattle.solver.proofs.entry.search_model.Reads as search-model-reads
-use Rattle.solver.proofs.entry.settings_fit.Reads as settings-fit-reads
 
 refusal-requires : tie.Need-refusal-requires
 refusal-requires c κs = search needs

@@ -4,9 +4,6 @@ use Rattle.solver.proofs.Entering.{fit-short, fit-long, fit-width}
 use borrow.Author.Needs.{needs}
 use Rattle.solver.proofs.entry.settings_fit.Statement.{statement}
 use Rattle.solver.proofs.entry.settings_fit.Tie as tie
-use Rattle.solver.proofs.entry.settings_fit.Reads as reads
-use Rattle.solver.proofs.entry.settings_fit.Lts as lts
-use Rattle.solver.proofs.entry.is_width.Reads as is-width-reads
 
 returns : tie.Need-returns
 returns c = sym (fit-short (c .before .args .width) (c .before .args .length) 0 (c .if1 .taken))

@@ -6,8 +6,6 @@ use Rattle.search.specs.Answer.{handedBack}
 use borrow.Author.Needs.{needs}
 use Rattle.solver.proofs.exports.plan_part.Statement.{statement}
 use Rattle.solver.proofs.exports.plan_part.Tie as tie
-use Rattle.solver.proofs.exports.plan_part.Reads as reads
-use Rattle.solver.proofs.exports.plan_part.Lts as lts
 
 slice-aggregate-result : tie.Need-slice-aggregate-result
 slice-aggregate-result c = sym (length-take-le _ _ (c .before .if1 .taken))

@@ -2,10 +2,6 @@
 use borrow.Author.Needs.{needs}
 use Rattle.solver.proofs.exports.repgypsum_search.Statement.{statement}
 use Rattle.solver.proofs.exports.repgypsum_search.Tie as tie
-use Rattle.solver.proofs.exports.repgypsum_search.Reads as reads
-use Rattle.solver.proofs.exports.repgypsum_search.Lts as lts
-use Rattle.solver.proofs.entry.search.Reads as search-reads
-use Rattle.reports.proofs.figures.fields.Reads as fields-reads
 
 search-requires : tie.Need-search-requires
 search-requires c κs = search needs

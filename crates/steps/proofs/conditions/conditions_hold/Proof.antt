@@ -1,5 +1,6 @@
 -- `steps::conditions::conditions_hold` meets its contract. The invariant: the conditions passed hold.
-use Rattle.steps.proofs.Holding.{Trying, byte-inside, holds-within, trying-first, trying-more, trying-fails, trying-troubles, trying-last, inside}
+use Rattle.laws.proofs.Lists.{byte-inside}
+use Rattle.steps.proofs.Holding.{Trying, holds-within, trying-first, trying-more, trying-fails, trying-troubles, trying-last, inside}
 use lib.ListN.{length}
 use native.Mathlib.Omega.{arith}
 use mathlib.Core.Path.{sym, _∙_}
@@ -21,22 +22,22 @@ byte-at-requires : tie.Need-byte-at-requires Inv-loop μ-loop
 byte-at-requires c κs = search needs
 
 add-condition-at : tie.Need-add-condition-at Inv-loop μ-loop
-add-condition-at c = record { fits = omega (arith, byte-inside (c .before .before .before .before .before .before .args .model .now) (c .before .before .loop .next) 8 (sym (c .before .byte-at .ensures) ∙ c .if1 .taken) (omega arith)) }
+add-condition-at c = record { fits = omega (arith, byte-inside (c .before .before .before .before .before .before .args .model .now) (c .before .before .loop .next) 8 (omega arith) (sym (c .before .byte-at .ensures) ∙ c .if1 .taken)) }
 
 condition-at-requires : tie.Need-condition-at-requires Inv-loop μ-loop
-condition-at-requires c κs = (c .before .before .before .before .before .before .pre, omega (arith, byte-inside (c .before .before .before .before .before .before .args .model .now) (c .before .before .loop .next) 8 (sym (c .before .byte-at .ensures) ∙ c .if1 .taken) (omega arith)))
+condition-at-requires c κs = (c .before .before .before .before .before .before .pre, omega (arith, byte-inside (c .before .before .before .before .before .before .args .model .now) (c .before .before .loop .next) 8 (omega arith) (sym (c .before .byte-at .ensures) ∙ c .if1 .taken)))
 
 enum-known-holds : tie.Need-enum-known-holds Inv-loop μ-loop
 enum-known-holds c = search needs
 
 add-next : tie.Need-add-next Inv-loop μ-loop
-add-next c = record { fits = omega (arith, byte-inside (c .before .before .before .before .before .before .before .before .before .before .before .args .model .now) (c .before .before .before .before .before .before .before .loop .next) 8 (sym (c .before .before .before .before .before .before .byte-at .ensures) ∙ c .before .before .before .before .before .if1 .taken) (omega arith)) }
+add-next c = record { fits = omega (arith, byte-inside (c .before .before .before .before .before .before .before .before .before .before .before .args .model .now) (c .before .before .before .before .before .before .before .loop .next) 8 (omega arith) (sym (c .before .before .before .before .before .before .byte-at .ensures) ∙ c .before .before .before .before .before .if1 .taken)) }
 
 add-next-2 : tie.Need-add-next-2 Inv-loop μ-loop
 add-next-2 c = record { fits = omega (arith, inside (c .before .before .before .before .before .before .before .before .before .before .before .args .model .now) (c .before .before .before .before .before .before .before .loop .next) (c .before .before .holds .given .0 .1 .0) (sym (c .before .before .before .before .before .before .byte-at .ensures) ∙ c .before .before .before .before .before .if1 .taken) (omega arith) (holds-within _ (c .before .before .holds .given .1) (c .before .before .before .before .condition-at .ensures .1))) }
 
 loop-less : tie.Need-loop-less Inv-loop μ-loop
-loop-less c = omega (arith, byte-inside (c .before .before .before .before .before .before .before .before .before .before .before .args .model .now) (c .before .before .before .before .before .before .before .loop .next) 8 (sym (c .before .before .before .before .before .before .byte-at .ensures) ∙ c .before .before .before .before .before .if1 .taken) (omega arith))
+loop-less c = omega (arith, byte-inside (c .before .before .before .before .before .before .before .before .before .before .before .args .model .now) (c .before .before .before .before .before .before .before .loop .next) 8 (omega arith) (sym (c .before .before .before .before .before .before .byte-at .ensures) ∙ c .before .before .before .before .before .if1 .taken))
 
 loop-again : tie.Need-loop-again Inv-loop μ-loop
 loop-again c = trying-more _ _ _ _ (c .before .before .before .before .before .before .before .loop .inv) (sym (c .before .before .before .before .before .before .byte-at .ensures) ∙ c .before .before .before .before .before .if1 .taken) _ (c .before .before .before .before .condition-at .ensures .0) (c .before .before .holds .given .1) (c .if2 .taken)

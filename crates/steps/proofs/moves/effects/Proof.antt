@@ -1,6 +1,6 @@
 -- `steps::moves::effects` meets its contract. The invariant: the child has the effects passed, each by its value in the old state.
+use Rattle.laws.proofs.Lists.{byte-inside}
 use Rattle.steps.proofs.Writing.{Writing, word-within, writing-first, next-inside, writing-more, writing-troubles, writing-last}
-use Rattle.steps.proofs.Holding.{byte-inside}
 use lib.ListN.{length}
 use native.Mathlib.Omega.{arith}
 use mathlib.Core.Path.{sym, _∙_}
@@ -22,7 +22,7 @@ byte-at-requires : tie.Need-byte-at-requires Inv-loop μ-loop
 byte-at-requires c κs = search needs
 
 add-byte-at : tie.Need-add-byte-at Inv-loop μ-loop
-add-byte-at c = record { fits = omega (arith, byte-inside (c .before .before .before .before .before .before .before .args .model .now) (c .before .before .loop .next) 10 (sym (c .before .byte-at .ensures) ∙ c .if1 .taken) (omega arith)) }
+add-byte-at c = record { fits = omega (arith, byte-inside (c .before .before .before .before .before .before .before .args .model .now) (c .before .before .loop .next) 10 (omega arith) (sym (c .before .byte-at .ensures) ∙ c .if1 .taken)) }
 
 byte-at-requires-2 : tie.Need-byte-at-requires-2 Inv-loop μ-loop
 byte-at-requires-2 c κs = search needs

@@ -5,12 +5,6 @@ use lib.ListN.{length}
 use Rattle.beam.specs.Held.{Held}
 use Rattle.timing.proofs.insertions.offer_children.Statement.{statement}
 use Rattle.timing.proofs.insertions.offer_children.Tie as tie
-use Rattle.timing.proofs.insertions.offer_children.Reads as reads
-use Rattle.timing.proofs.insertions.offer_children.Lts as lts
-use Rattle.beam.proofs.layer.empty.Reads as empty-reads
-use Rattle.beam.proofs.layer.insert.Reads as insert-reads
-use Rattle.timing.proofs.insertions.make_child.Reads as make-child-reads
-use Rattle.timing.proofs.insertions.next.Reads as next-reads
 
 abbrev Inv-loop : tie.InvT-loop
 Inv-loop layer₀ model outline w children seed count₀ x₀ left₀ layer count x left = Held outline w count layer × (length layer ≡ length layer₀)

@@ -3,10 +3,6 @@ use borrow.Author.Needs.{needs}
 use native.Mathlib.Omega.{arith}
 use Rattle.timing.proofs.insertions.repgypsum_insertions.Statement.{statement}
 use Rattle.timing.proofs.insertions.repgypsum_insertions.Tie as tie
-use Rattle.timing.proofs.insertions.repgypsum_insertions.Reads as reads
-use Rattle.timing.proofs.insertions.repgypsum_insertions.Lts as lts
-use Rattle.commands.proofs.read_model.Reads as read-model-reads
-use Rattle.timing.proofs.insertions.offer_children.Reads as offer-children-reads
 
 -- src/insertions.rt:85:9
 returns : tie.Need-returns

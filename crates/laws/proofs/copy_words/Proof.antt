@@ -1,22 +1,22 @@
--- `beam::slots::copy_words` meets its contract. The invariant: the first i words are copied.
+-- `copy_words` meets its contract. The invariant: the first i words are copied, the rest is as it was.
 use Prim.Native.Nat.{_-_, _≤_}
-use mathlib.Core.Path.{_≡_, sym, _∙_}
+use mathlib.Core.Path.{_≡_, refl}
+use mathlib.Core.List.{_++_}
 use native.Mathlib.Omega.{arith}
 use borrow.Author.Needs.{needs}
-use lib.ListN.{length, take}
-use lib.Seq.{take-all}
-use Rattle.beam.proofs.Written.{copy-more}
-use Rattle.beam.proofs.slots.copy_words.Statement.{statement}
-use Rattle.beam.proofs.slots.copy_words.Tie as tie
+use lib.ListN.{length, take, drop}
+use Rattle.laws.proofs.Copies.{copied-more, copied-all}
+use Rattle.laws.proofs.copy_words.Statement.{statement}
+use Rattle.laws.proofs.copy_words.Tie as tie
 
 abbrev Inv-loop : tie.InvT-loop
-Inv-loop from to₀ i₀ to i = (i ≤ length from) × ((length to ≡ length to₀) × (take i to ≡ take i from))
+Inv-loop from to₀ i₀ to i = (i ≤ length from) × ((length to ≡ length to₀) × (to ≡ take i from ++ drop i to₀))
 
 abbrev μ-loop : tie.MeasureT-loop
 μ-loop from to₀ i₀ to i = length from - i
 
 loop-holds : tie.Need-loop-holds Inv-loop μ-loop
-loop-holds c = search needs
+loop-holds c = (search needs, (search needs, refl))
 
 mul-to : tie.Need-mul-to Inv-loop μ-loop
 mul-to c = search needs
@@ -39,7 +39,7 @@ loop-less c = search needs
 loop-again : tie.Need-loop-again Inv-loop μ-loop
 loop-again c =
     let turn = c .before .before .loop in
-    (search needs, (search needs, copy-more (c .before .before .before .args .from .now) (turn .to) (turn .i) (omega arith) (omega arith) (turn .inv .1 .1)))
+    (search needs, (search needs, copied-more (c .before .before .before .args .from .now) (c .before .before .before .args .to .now) (turn .to) (turn .i) (omega arith) (omega arith) (turn .inv .1 .1)))
 
 same-length : tie.Need-same-length Inv-loop μ-loop
 same-length c = search needs
@@ -48,9 +48,7 @@ returns : tie.Need-returns Inv-loop μ-loop
 returns c =
     let start = c .before .before in
     let turn = c .before .loop in
-    let hs : length (start .args .from .now) ≤ turn .i = omega arith in
-    let hd : length (turn .to) ≤ turn .i = omega arith in
-    sym (take-all (turn .i) (turn .to) hd) ∙ turn .inv .1 .1 ∙ take-all (turn .i) (start .args .from .now) hs
+    copied-all (start .args .from .now) (start .args .to .now) (turn .to) (turn .i) (start .pre) (omega arith) (turn .inv .1 .1)
 
 pub copy-words-spec : {M : Type 1} → statement M
 copy-words-spec =

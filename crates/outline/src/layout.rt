@@ -1,9 +1,15 @@
-// Which word of the outline holds what, as specs/Outline of the crate `outline` has it.
+// Which word of the outline holds what, as specs/Outline has it.
 
+// The words of a state, one for each variable that there may be.
+pub const STATE_WORDS: usize = 16;
+
+// The cost rule.
 pub const RULE: usize = 0;
 
 // How many there are.
 pub const VARIABLE_COUNT: usize = 1;
+
+pub const TABLE_COUNT: usize = 2;
 
 pub const TRANSITION_COUNT: usize = 3;
 
