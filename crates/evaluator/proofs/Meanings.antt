@@ -17,18 +17,18 @@ use Rattle.model.specs.Expressions.{objectsAndMembers, objectNumber, variable, 
 use Rattle.model.specs.Meaning as Meaning
 use Rattle.model.specs.Meaning.{State, numberAt, naturalAt, elementValue, setValue, entryAt, sumOver, fit, numberValue, conditionValue}
 use Rattle.evaluator.specs.declared.answers.SetValue.{SetValue}
-use Rattle.evaluator.specs.declared.forms.Operation.{Operation}
-use Rattle.evaluator.specs.declared.forms.Operation.the-variants as Op
-use Rattle.evaluator.specs.declared.forms.NumberForm.{NumberForm}
-use Rattle.evaluator.specs.declared.forms.NumberForm.the-variants as NF
-use Rattle.evaluator.specs.declared.forms.Change.the-variants as Ch
-use Rattle.evaluator.specs.declared.forms.Combination.the-variants as Co
-use Rattle.evaluator.specs.declared.forms.SetForm.{SetForm}
-use Rattle.evaluator.specs.declared.forms.SetForm.the-variants as SF
-use Rattle.evaluator.specs.declared.forms.Relation.{Relation}
-use Rattle.evaluator.specs.declared.forms.Relation.the-variants as Re
-use Rattle.evaluator.specs.declared.forms.ConditionForm.{ConditionForm}
-use Rattle.evaluator.specs.declared.forms.ConditionForm.the-variants as CF
+use Rattle.evaluator.specs.declared.first_bytes.Operation.{Operation}
+use Rattle.evaluator.specs.declared.first_bytes.Operation.the-variants as Op
+use Rattle.evaluator.specs.declared.first_bytes.NumberForm.{NumberForm}
+use Rattle.evaluator.specs.declared.first_bytes.NumberForm.the-variants as NF
+use Rattle.evaluator.specs.declared.first_bytes.Change.the-variants as Ch
+use Rattle.evaluator.specs.declared.first_bytes.Combination.the-variants as Co
+use Rattle.evaluator.specs.declared.first_bytes.SetForm.{SetForm}
+use Rattle.evaluator.specs.declared.first_bytes.SetForm.the-variants as SF
+use Rattle.evaluator.specs.declared.first_bytes.Relation.{Relation}
+use Rattle.evaluator.specs.declared.first_bytes.Relation.the-variants as Re
+use Rattle.evaluator.specs.declared.first_bytes.ConditionForm.{ConditionForm}
+use Rattle.evaluator.specs.declared.first_bytes.ConditionForm.the-variants as CF
 use Rattle.words.specs.States.{valueOf, stateOf}
 use Rattle.evaluator.specs.Forms.{numberForm, setForm, conditionForm}
 use Rattle.evaluator.specs.Answers.{numberAnswer, conditionAnswer, setAnswer, elementAnswer, numberPast, conditionPast, setPast}

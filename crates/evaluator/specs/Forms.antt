@@ -3,16 +3,16 @@ use Prim.Native.Nat.{ℕ, zero, suc, _+_}
 use mathlib.Core.Bool.{cond, true, false}
 use mathlib.Core.List.{List, [], _∷_}
 use lib.Dec.{eqb}
-use Rattle.evaluator.specs.declared.forms.Operation.the-variants as O
-use Rattle.evaluator.specs.declared.forms.NumberForm.{NumberForm}
-use Rattle.evaluator.specs.declared.forms.NumberForm.the-variants as N
-use Rattle.evaluator.specs.declared.forms.Change.the-variants as H
-use Rattle.evaluator.specs.declared.forms.Combination.the-variants as B
-use Rattle.evaluator.specs.declared.forms.SetForm.{SetForm}
-use Rattle.evaluator.specs.declared.forms.SetForm.the-variants as S
-use Rattle.evaluator.specs.declared.forms.Relation.the-variants as R
-use Rattle.evaluator.specs.declared.forms.ConditionForm.{ConditionForm}
-use Rattle.evaluator.specs.declared.forms.ConditionForm.the-variants as C
+use Rattle.evaluator.specs.declared.first_bytes.Operation.the-variants as O
+use Rattle.evaluator.specs.declared.first_bytes.NumberForm.{NumberForm}
+use Rattle.evaluator.specs.declared.first_bytes.NumberForm.the-variants as N
+use Rattle.evaluator.specs.declared.first_bytes.Change.the-variants as H
+use Rattle.evaluator.specs.declared.first_bytes.Combination.the-variants as B
+use Rattle.evaluator.specs.declared.first_bytes.SetForm.{SetForm}
+use Rattle.evaluator.specs.declared.first_bytes.SetForm.the-variants as S
+use Rattle.evaluator.specs.declared.first_bytes.Relation.the-variants as R
+use Rattle.evaluator.specs.declared.first_bytes.ConditionForm.{ConditionForm}
+use Rattle.evaluator.specs.declared.first_bytes.ConditionForm.the-variants as C
 
 unfoldable pub numberForm : ℕ → NumberForm
 numberForm b =

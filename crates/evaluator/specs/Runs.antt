@@ -22,20 +22,20 @@ use Rattle.evaluator.specs.declared.answers.ConditionValue.the-variants 
 use Rattle.evaluator.specs.declared.answers.ElementValue.{ElementValue}
 use Rattle.evaluator.specs.declared.answers.SetValue.{SetValue}
 use Rattle.evaluator.specs.declared.answers.Parts.{Parts}
-use Rattle.evaluator.specs.declared.forms.Operation.{Operation}
-use Rattle.evaluator.specs.declared.forms.Operation.the-variants as Op
-use Rattle.evaluator.specs.declared.forms.NumberForm.{NumberForm}
-use Rattle.evaluator.specs.declared.forms.NumberForm.the-variants as NF
-use Rattle.evaluator.specs.declared.forms.Change.{Change}
-use Rattle.evaluator.specs.declared.forms.Change.the-variants as Ch
-use Rattle.evaluator.specs.declared.forms.Combination.{Combination}
-use Rattle.evaluator.specs.declared.forms.Combination.the-variants as Co
-use Rattle.evaluator.specs.declared.forms.SetForm.{SetForm}
-use Rattle.evaluator.specs.declared.forms.SetForm.the-variants as SF
-use Rattle.evaluator.specs.declared.forms.Relation.{Relation}
-use Rattle.evaluator.specs.declared.forms.Relation.the-variants as Re
-use Rattle.evaluator.specs.declared.forms.ConditionForm.{ConditionForm}
-use Rattle.evaluator.specs.declared.forms.ConditionForm.the-variants as CF
+use Rattle.evaluator.specs.declared.first_bytes.Operation.{Operation}
+use Rattle.evaluator.specs.declared.first_bytes.Operation.the-variants as Op
+use Rattle.evaluator.specs.declared.first_bytes.NumberForm.{NumberForm}
+use Rattle.evaluator.specs.declared.first_bytes.NumberForm.the-variants as NF
+use Rattle.evaluator.specs.declared.first_bytes.Change.{Change}
+use Rattle.evaluator.specs.declared.first_bytes.Change.the-variants as Ch
+use Rattle.evaluator.specs.declared.first_bytes.Combination.{Combination}
+use Rattle.evaluator.specs.declared.first_bytes.Combination.the-variants as Co
+use Rattle.evaluator.specs.declared.first_bytes.SetForm.{SetForm}
+use Rattle.evaluator.specs.declared.first_bytes.SetForm.the-variants as SF
+use Rattle.evaluator.specs.declared.first_bytes.Relation.{Relation}
+use Rattle.evaluator.specs.declared.first_bytes.Relation.the-variants as Re
+use Rattle.evaluator.specs.declared.first_bytes.ConditionForm.{ConditionForm}
+use Rattle.evaluator.specs.declared.first_bytes.ConditionForm.the-variants as CF
 use Rattle.words.specs.States.{valueOf}
 use Rattle.evaluator.specs.Answers.{numberAnswer, setAnswer, elementAnswer, noNumber, noCondition, noSet, noElement, numberPast, conditionPast, setPast, numberOfTwo, conditionOfTwo, negated}
 use Rattle.evaluator.specs.Forms.{numberForm, setForm, conditionForm, span}

@@ -3,6 +3,6 @@
 
 pub mod answers;
 pub mod bytes;
-pub mod forms;
+pub mod first_bytes;
 pub mod leaves;
 pub mod sets;

@@ -15,10 +15,10 @@ use evaluator::answers::condition_past;
 use evaluator::answers::number_past;
 use evaluator::bytes::after;
 use evaluator::bytes::skip;
-use evaluator::forms::ConditionForm;
-use evaluator::forms::NumberForm;
-use evaluator::forms::condition_form;
-use evaluator::forms::number_form;
+use evaluator::first_bytes::ConditionForm;
+use evaluator::first_bytes::NumberForm;
+use evaluator::first_bytes::condition_form;
+use evaluator::first_bytes::number_form;
 use evaluator::leaves;
 
 // Two numbers, one behind the other.

@@ -45,8 +45,8 @@ use Rattle.evaluator.proofs.answers.condition_past.Reads as condition-past-read
 use Rattle.evaluator.proofs.answers.number_past.Reads as number-past-reads
 use Rattle.evaluator.proofs.bytes.after.Reads as after-reads
 use Rattle.evaluator.proofs.bytes.skip.Reads as skip-reads
-use Rattle.evaluator.proofs.forms.condition_form.Reads as condition-form-reads
-use Rattle.evaluator.proofs.forms.number_form.Reads as number-form-reads
+use Rattle.evaluator.proofs.first_bytes.condition_form.Reads as condition-form-reads
+use Rattle.evaluator.proofs.first_bytes.number_form.Reads as number-form-reads
 use Rattle.evaluator.proofs.leaves.agree.Reads as agree-reads
 use Rattle.evaluator.proofs.leaves.arithmetic.Reads as arithmetic-reads
 use Rattle.evaluator.proofs.leaves.comparison.Reads as comparison-reads

@@ -23,7 +23,7 @@ use Rattle.evaluator.proofs.sets.two_sets.Reads as two-sets
 use Rattle.evaluator.proofs.sets.two_sets.Kinds as two-sets-kinds
 use Rattle.evaluator.proofs.sets.+element_then_set+set_behind+set_from+two_sets.Lts-two_sets as two-sets-lts
 use Rattle.evaluator.proofs.bytes.after.Reads as after-reads
-use Rattle.evaluator.proofs.forms.set_form.Reads as set-form-reads
+use Rattle.evaluator.proofs.first_bytes.set_form.Reads as set-form-reads
 use Rattle.evaluator.proofs.sets.changed.Reads as changed-reads
 use Rattle.evaluator.proofs.sets.combined.Reads as combined-reads
 use Rattle.evaluator.proofs.sets.complemented.Reads as complemented-reads

@@ -1,8 +1,8 @@
--- `evaluator::forms::number_form` meets its contract.
+-- `evaluator::first_bytes::number_form` meets its contract.
 use borrow.Author.Tests.{ne-eqb}
 use Rattle.evaluator.specs.Forms.{numberForm}
-use Rattle.evaluator.proofs.forms.number_form.Statement.{statement}
-use Rattle.evaluator.proofs.forms.number_form.Tie as tie
+use Rattle.evaluator.proofs.first_bytes.number_form.Statement.{statement}
+use Rattle.evaluator.proofs.first_bytes.number_form.Tie as tie
 
 returns : tie.Need-returns
 unfolding numberForm

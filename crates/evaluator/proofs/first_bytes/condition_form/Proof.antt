@@ -1,8 +1,8 @@
--- `evaluator::forms::condition_form` meets its contract.
+-- `evaluator::first_bytes::condition_form` meets its contract.
 use borrow.Author.Tests.{ne-eqb}
 use Rattle.evaluator.specs.Forms.{conditionForm}
-use Rattle.evaluator.proofs.forms.condition_form.Statement.{statement}
-use Rattle.evaluator.proofs.forms.condition_form.Tie as tie
+use Rattle.evaluator.proofs.first_bytes.condition_form.Statement.{statement}
+use Rattle.evaluator.proofs.first_bytes.condition_form.Tie as tie
 
 returns : tie.Need-returns
 unfolding conditionForm

@@ -1,8 +1,8 @@
--- `evaluator::forms::set_form` meets its contract.
+-- `evaluator::first_bytes::set_form` meets its contract.
 use borrow.Author.Tests.{ne-eqb}
 use Rattle.evaluator.specs.Forms.{setForm}
-use Rattle.evaluator.proofs.forms.set_form.Statement.{statement}
-use Rattle.evaluator.proofs.forms.set_form.Tie as tie
+use Rattle.evaluator.proofs.first_bytes.set_form.Statement.{statement}
+use Rattle.evaluator.proofs.first_bytes.set_form.Tie as tie
 
 returns : tie.Need-returns
 unfolding setForm
