@@ -29,28 +29,40 @@ slice-write-outline : tie.Need-slice-write-outline
 slice-write-outline c = search needs
 
 array-share-prefix-kinds : tie.Need-array-share-prefix-kinds
-array-share-prefix-kinds c = omega (arith, few-variables (c .before .before .before .before .before .before .before .before .before .before .before .args .model .now) (c .before .before .before .before .before .before .before .before .before .before .before .args .start) (c .before .before .before .before .before .before .before .before .before .before .before .args .outline .now) (c .before .before .before .before .before .before .variables .last .1 .1 .0) (c .before .before .before .before .before .before .variables .last .1 .1 .1 .0) (c .before .before .before .before .before .before .before .before .before .before .before .pre .1) (c .before .before .before .before .before .before .variables .ensures .1) (c .before .end .given .1) (c .before .before .before .before .before .before .variables .ensures .2), c .before .before .before .before .before .before .variables .ensures .0)
+array-share-prefix-kinds c =
+    let start = c .before .before .before .before .before .before .before .before .before .before .before in
+    omega (arith, few-variables (start .args .model .now) (start .args .start) (start .args .outline .now) (c .before .before .before .before .before .before .variables .last .1 .1 .0) (c .before .before .before .before .before .before .variables .last .1 .1 .1 .0) (start .pre .1) (c .before .before .before .before .before .before .variables .ensures .1) (c .before .end .given .1) (c .before .before .before .before .before .before .variables .ensures .2), c .before .before .before .before .before .before .variables .ensures .0)
 
 slice-aggregate-behind-variables : tie.Need-slice-aggregate-behind-variables
-slice-aggregate-behind-variables c = simp length-take (omega (arith, few-variables (c .before .before .before .before .before .before .before .before .before .before .before .before .args .model .now) (c .before .before .before .before .before .before .before .before .before .before .before .before .args .start) (c .before .before .before .before .before .before .before .before .before .before .before .before .args .outline .now) (c .before .before .before .before .before .before .before .variables .last .1 .1 .0) (c .before .before .before .before .before .before .before .variables .last .1 .1 .1 .0) (c .before .before .before .before .before .before .before .before .before .before .before .before .pre .1) (c .before .before .before .before .before .before .before .variables .ensures .1) (c .before .before .end .given .1) (c .before .before .before .before .before .before .before .variables .ensures .2), c .before .before .before .before .before .before .before .variables .ensures .0))
+slice-aggregate-behind-variables c =
+    let start = c .before .before .before .before .before .before .before .before .before .before .before .before in
+    simp length-take (omega (arith, few-variables (start .args .model .now) (start .args .start) (start .args .outline .now) (c .before .before .before .before .before .before .before .variables .last .1 .1 .0) (c .before .before .before .before .before .before .before .variables .last .1 .1 .1 .0) (start .pre .1) (c .before .before .before .before .before .before .before .variables .ensures .1) (c .before .before .end .given .1) (c .before .before .before .before .before .before .before .variables .ensures .2), c .before .before .before .before .before .before .before .variables .ensures .0))
 
 behind-variables-requires : tie.Need-behind-variables-requires
-behind-variables-requires c κs = (c .before .before .before .before .before .before .before .before .before .before .before .before .before .pre .0, simp length-take (omega (arith, few-variables (c .before .before .before .before .before .before .before .before .before .before .before .before .before .args .model .now) (c .before .before .before .before .before .before .before .before .before .before .before .before .before .args .start) (c .before .before .before .before .before .before .before .before .before .before .before .before .before .args .outline .now) (c .before .before .before .before .before .before .before .before .variables .last .1 .1 .0) (c .before .before .before .before .before .before .before .before .variables .last .1 .1 .1 .0) (c .before .before .before .before .before .before .before .before .before .before .before .before .before .pre .1) (c .before .before .before .before .before .before .before .before .variables .ensures .1) (c .before .before .before .end .given .1) (c .before .before .before .before .before .before .before .before .variables .ensures .2), c .before .before .before .before .before .before .before .before .variables .ensures .0)), omega (arith, varied-length (c .before .before .before .before .before .before .before .before .before .before .before .before .before .args .model .now) (c .before .before .before .before .before .before .before .before .before .before .before .before .before .args .start) (c .before .before .before .before .before .before .before .before .before .before .before .before .before .args .outline .now) (c .before .before .before .before .before .before .before .before .variables .last .1 .1 .0) (c .before .before .before .before .before .before .before .before .variables .last .1 .1 .1 .0) (c .before .before .before .before .before .before .before .before .before .before .before .before .before .pre .1) (c .before .before .before .before .before .before .before .before .variables .ensures .1) (c .before .before .before .end .given .0 .1 .0), c .before .before .before .before .before .before .before .before .before .before .before .before .before .pre .1))
+behind-variables-requires c κs =
+    let start = c .before .before .before .before .before .before .before .before .before .before .before .before .before in
+    (start .pre .0, simp length-take (omega (arith, few-variables (start .args .model .now) (start .args .start) (start .args .outline .now) (c .before .before .before .before .before .before .before .before .variables .last .1 .1 .0) (c .before .before .before .before .before .before .before .before .variables .last .1 .1 .1 .0) (start .pre .1) (c .before .before .before .before .before .before .before .before .variables .ensures .1) (c .before .before .before .end .given .1) (c .before .before .before .before .before .before .before .before .variables .ensures .2), c .before .before .before .before .before .before .before .before .variables .ensures .0)), omega (arith, varied-length (start .args .model .now) (start .args .start) (start .args .outline .now) (c .before .before .before .before .before .before .before .before .variables .last .1 .1 .0) (c .before .before .before .before .before .before .before .before .variables .last .1 .1 .1 .0) (start .pre .1) (c .before .before .before .before .before .before .before .before .variables .ensures .1) (c .before .before .before .end .given .0 .1 .0), start .pre .1))
 
 enum-known-t : tie.Need-enum-known-t
 enum-known-t c = search needs
 
 same-length : tie.Need-same-length
-same-length c = c .before .before .behind-variables .ensures .0 ∙ varied-length (c .before .before .before .before .before .before .before .before .before .before .before .before .before .before .before .before .args .model .now) (c .before .before .before .before .before .before .before .before .before .before .before .before .before .before .before .before .args .start) (c .before .before .before .before .before .before .before .before .before .before .before .before .before .before .before .before .args .outline .now) (c .before .before .before .before .before .before .before .before .before .before .before .variables .last .1 .1 .0) (c .before .before .before .before .before .before .before .before .before .before .before .variables .last .1 .1 .1 .0) (c .before .before .before .before .before .before .before .before .before .before .before .before .before .before .before .before .pre .1) (c .before .before .before .before .before .before .before .before .before .before .before .variables .ensures .1) (c .before .before .before .before .before .before .end .given .0 .1 .0)
+same-length c =
+    let start = c .before .before .before .before .before .before .before .before .before .before .before .before .before .before .before .before in
+    c .before .before .behind-variables .ensures .0 ∙ varied-length (start .args .model .now) (start .args .start) (start .args .outline .now) (c .before .before .before .before .before .before .before .before .before .before .before .variables .last .1 .1 .0) (c .before .before .before .before .before .before .before .before .before .before .before .variables .last .1 .1 .1 .0) (start .pre .1) (c .before .before .before .before .before .before .before .before .before .before .before .variables .ensures .1) (c .before .before .before .before .before .before .end .given .0 .1 .0)
 
 returns : tie.Need-returns
-returns c = (c .before .before .behind-variables .ensures .0 ∙ varied-length (c .before .before .before .before .before .before .before .before .before .before .before .before .before .before .before .before .args .model .now) (c .before .before .before .before .before .before .before .before .before .before .before .before .before .before .before .before .args .start) (c .before .before .before .before .before .before .before .before .before .before .before .before .before .before .before .before .args .outline .now) (c .before .before .before .before .before .before .before .before .before .before .before .variables .last .1 .1 .0) (c .before .before .before .before .before .before .before .before .before .before .before .variables .last .1 .1 .1 .0) (c .before .before .before .before .before .before .before .before .before .before .before .before .before .before .before .before .pre .1) (c .before .before .before .before .before .before .before .before .before .before .before .variables .ensures .1) (c .before .before .before .before .before .before .end .given .0 .1 .0), variables-go-on (c .before .before .before .before .before .before .before .before .before .before .before .before .before .before .before .before .args .model .now) (c .before .before .before .before .before .before .before .before .before .before .before .before .before .before .before .before .args .start) (c .before .before .before .before .before .before .before .before .before .before .before .before .before .before .before .before .args .outline .now) (c .before .before .before .before .before .before .before .before .before .before .before .variables .last .1 .1 .0) (c .before .before .before .before .before .before .before .before .before .before .before .variables .last .1 .1 .1 .0) (c .before .before .before .before .before .before .before .before .before .before .before .before .before .before .before .before .pre .1) (c .before .before .before .before .before .before .before .before .before .before .before .variables .ensures .1) (c .before .before .before .before .before .before .end .given .1) (c .before .before .before .before .before .before .before .before .before .before .before .variables .ensures .2) (c .before .before .behind-variables .last .1 .1 .1 .0) (c .before .before .behind-variables .result) (c .before .before .behind-variables .ensures .1))
+returns c =
+    let start = c .before .before .before .before .before .before .before .before .before .before .before .before .before .before .before .before in
+    (c .before .before .behind-variables .ensures .0 ∙ varied-length (start .args .model .now) (start .args .start) (start .args .outline .now) (c .before .before .before .before .before .before .before .before .before .before .before .variables .last .1 .1 .0) (c .before .before .before .before .before .before .before .before .before .before .before .variables .last .1 .1 .1 .0) (start .pre .1) (c .before .before .before .before .before .before .before .before .before .before .before .variables .ensures .1) (c .before .before .before .before .before .before .end .given .0 .1 .0), variables-go-on (start .args .model .now) (start .args .start) (start .args .outline .now) (c .before .before .before .before .before .before .before .before .before .before .before .variables .last .1 .1 .0) (c .before .before .before .before .before .before .before .before .before .before .before .variables .last .1 .1 .1 .0) (start .pre .1) (c .before .before .before .before .before .before .before .before .before .before .before .variables .ensures .1) (c .before .before .before .before .before .before .end .given .1) (c .before .before .before .before .before .before .before .before .before .before .before .variables .ensures .2) (c .before .before .behind-variables .last .1 .1 .1 .0) (c .before .before .behind-variables .result) (c .before .before .behind-variables .ensures .1))
 
 same-length-2 : tie.Need-same-length-2
 same-length-2 c = search needs
 
 returns-2 : tie.Need-returns-2
-returns-2 c = (variables-length (c .before .before .before .before .before .before .before .before .before .before .before .args .model .now) (c .before .before .before .before .before .before .before .before .before .before .before .args .start) (c .before .before .before .before .before .before .before .before .before .before .before .args .outline .now) (c .before .before .before .before .before .before .variables .last .1 .1 .0) (c .before .before .before .before .before .before .variables .last .1 .1 .1 .0) (c .before .before .before .before .before .before .before .before .before .before .before .pre .1) (c .before .before .before .before .before .before .variables .ensures .1), variables-stop (c .before .before .before .before .before .before .before .before .before .before .before .args .model .now) (c .before .before .before .before .before .before .before .before .before .before .before .args .start) (c .before .before .before .before .before .before .before .before .before .before .before .args .outline .now) (c .before .before .before .before .before .before .variables .last .1 .1 .0) (c .before .before .before .before .before .before .variables .last .1 .1 .1 .0) (c .before .before .before .before .before .before .before .before .before .before .before .pre .1) (c .before .before .before .before .before .before .variables .ensures .1) (c .before .t .given .1) (c .before .before .before .before .before .before .variables .ensures .2) (c .before .before .before .before .before .before .before .before .before .before .before .args .outline .now))
+returns-2 c =
+    let start = c .before .before .before .before .before .before .before .before .before .before .before in
+    (variables-length (start .args .model .now) (start .args .start) (start .args .outline .now) (c .before .before .before .before .before .before .variables .last .1 .1 .0) (c .before .before .before .before .before .before .variables .last .1 .1 .1 .0) (start .pre .1) (c .before .before .before .before .before .before .variables .ensures .1), variables-stop (start .args .model .now) (start .args .start) (start .args .outline .now) (c .before .before .before .before .before .before .variables .last .1 .1 .0) (c .before .before .before .before .before .before .variables .last .1 .1 .1 .0) (start .pre .1) (c .before .before .before .before .before .before .variables .ensures .1) (c .before .t .given .1) (c .before .before .before .before .before .before .variables .ensures .2) (start .args .outline .now))
 
 pub behind-rule-spec : {M : Type 1} → statement M
 behind-rule-spec =

@@ -23,7 +23,10 @@ loop-holds : tie.Need-loop-holds Inv-loop μ-loop
 loop-holds c = widening-first (c .before .before .before .before .before .pre .1 .0) (c .before .before .before .before .before .pre .1 .1 .0) (c .begin .ensures)
 
 judged-round-requires : tie.Need-judged-round-requires Inv-loop μ-loop
-judged-round-requires c κs = (c .before .before .before .before .before .before .before .before .before .pre .0, (room (c .before .before .before .loop .inv) (c .before .before .before .before .before .before .before .before .before .pre .1 .0), c .before .before .before .loop .inv .best-fits))
+judged-round-requires c κs =
+    let start = c .before .before .before .before .before .before .before .before .before in
+    let turn = c .before .before .before .loop in
+    (start .pre .0, (room (turn .inv) (start .pre .1 .0), turn .inv .best-fits))
 
 enum-told : tie.Need-enum-told Inv-loop μ-loop
 enum-told c = search needs
@@ -32,7 +35,9 @@ next-width-requires : tie.Need-next-width-requires Inv-loop μ-loop
 next-width-requires c κs = omega (arith, c .before .before .before .before .before .before .before .before .before .before .before .loop .inv .narrow, c .before .before .before .before .before .before .before .before .before .before .before .before .before .before .before .before .before .pre .1 .0 .narrow)
 
 begin-requires-2 : tie.Need-begin-requires-2 Inv-loop μ-loop
-begin-requires-2 c κs = omega (arith, number-same (c .before .before .before .before .before .before .before .before .before .before .before .before .loop .inv) (c .before .before .before .before .before .before .before .before .judged-round .ensures), c .before .before .before .before .before .before .before .before .before .before .before .before .loop .inv .counted, c .before .before .before .before .before .before .before .before .before .before .before .loop-test .taken, c .before .before .before .before .before .before .before .before .before .before .before .before .before .before .before .before .before .before .pre .1 .1 .1)
+begin-requires-2 c κs =
+    let turn = c .before .before .before .before .before .before .before .before .before .before .before .before .loop in
+    omega (arith, number-same (turn .inv) (c .before .before .before .before .before .before .before .before .judged-round .ensures), turn .inv .counted, c .before .before .before .before .before .before .before .before .before .before .before .loop-test .taken, c .before .before .before .before .before .before .before .before .before .before .before .before .before .before .before .before .before .before .pre .1 .1 .1)
 
 sub-most : tie.Need-sub-most Inv-loop μ-loop
 sub-most c = search needs

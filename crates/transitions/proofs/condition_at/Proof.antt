@@ -13,7 +13,9 @@ placed-requires : tie.Need-placed-requires
 placed-requires c κs = search needs
 
 returns : tie.Need-returns
-returns c = c .placed .ensures ∙ condition-place (variablesOf (c .before .before .before .before .before .before .args .kinds .now)) (tablesOf (c .before .before .before .before .before .before .args .rows .now) (c .before .before .before .before .before .before .args .columns .now)) (c .before .before .before .before .before .before .args .at) (c .before .before .before .before .before .before .args .model .now) (c .before .expression-at .ensures)
+returns c =
+    let start = c .before .before .before .before .before .before in
+    c .placed .ensures ∙ condition-place (variablesOf (start .args .kinds .now)) (tablesOf (start .args .rows .now) (start .args .columns .now)) (start .args .at) (start .args .model .now) (c .before .expression-at .ensures)
 
 pub condition-at-spec : {M : Type 1} → statement M
 condition-at-spec = tie.close (tie.spec expression-at-requires placed-requires returns)

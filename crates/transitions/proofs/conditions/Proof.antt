@@ -21,17 +21,24 @@ abbrev μ-loop : tie.MeasureT-loop
 μ-loop model start kinds rows columns at₀ n₀ at n = 16 - n
 
 loop-holds : tie.Need-loop-holds Inv-loop μ-loop
-loop-holds c = no-items 8 (condition (variablesOf (c .before .before .before .before .args .kinds .now)) (tablesOf (c .before .before .before .before .args .rows .now) (c .before .before .before .before .args .columns .now)) mostNesting) (c .before .before .before .before .args .model .now) 16 (c .before .before .before .before .args .start)
+loop-holds c =
+    let start = c .before .before .before .before in
+    no-items 8 (condition (variablesOf (start .args .kinds .now)) (tablesOf (start .args .rows .now) (start .args .columns .now)) mostNesting) (start .args .model .now) 16 (start .args .start)
 
 byte-at-requires : tie.Need-byte-at-requires Inv-loop μ-loop
 byte-at-requires c κs = search needs
 
 returns : tie.Need-returns Inv-loop μ-loop
 unfolding conditions
-returns c = sym (ap placeOf (item-too-many 8 (condition (variablesOf (c .before .before .before .before .before .before .before .before .args .kinds .now)) (tablesOf (c .before .before .before .before .before .before .before .before .args .rows .now) (c .before .before .before .before .before .before .before .before .args .columns .now)) mostNesting) (c .before .before .before .before .before .before .before .before .args .model .now) 16 (c .before .before .before .before .before .before .before .before .args .start) (c .before .before .before .loop .at) (c .before .before .before .loop .n) (c .before .before .before .loop .inv) (omega arith) (sym (c .before .before .byte-at .ensures) ∙ c .before .if1 .taken) (c .if2 .taken)))
+returns c =
+    let start = c .before .before .before .before .before .before .before .before in
+    let turn = c .before .before .before .loop in
+    sym (ap placeOf (item-too-many 8 (condition (variablesOf (start .args .kinds .now)) (tablesOf (start .args .rows .now) (start .args .columns .now)) mostNesting) (start .args .model .now) 16 (start .args .start) (turn .at) (turn .n) (turn .inv) (omega arith) (sym (c .before .before .byte-at .ensures) ∙ c .before .if1 .taken) (c .if2 .taken)))
 
 add-condition-at : tie.Need-add-condition-at Inv-loop μ-loop
-add-condition-at c = record { fits = omega (arith, c .before .before .before .before .before .before .before .before .good, byte-inside (c .before .before .before .before .before .before .before .before .args .model .now) (c .before .before .before .loop .at) 8 (omega arith) (sym (c .before .before .byte-at .ensures) ∙ c .before .if1 .taken)) }
+add-condition-at c =
+    let start = c .before .before .before .before .before .before .before .before in
+    record { fits = omega (arith, start .good, byte-inside (start .args .model .now) (c .before .before .before .loop .at) 8 (omega arith) (sym (c .before .before .byte-at .ensures) ∙ c .before .if1 .taken)) }
 
 condition-at-requires : tie.Need-condition-at-requires Inv-loop μ-loop
 condition-at-requires c κs = search needs
@@ -46,22 +53,34 @@ loop-less : tie.Need-loop-less Inv-loop μ-loop
 loop-less c = omega (arith, c .before .before .before .before .before .before .before .loop .inv .few, c .before .before .before .before .if2 .left)
 
 loop-again : tie.Need-loop-again Inv-loop μ-loop
-loop-again c = item-more 8 (condition (variablesOf (c .before .before .before .before .before .before .before .before .before .before .before .before .args .kinds .now)) (tablesOf (c .before .before .before .before .before .before .before .before .before .before .before .before .args .rows .now) (c .before .before .before .before .before .before .before .before .before .before .before .before .args .columns .now)) mostNesting) (c .before .before .before .before .before .before .before .before .before .before .before .before .args .model .now) 16 (c .before .before .before .before .before .before .before .before .before .before .before .before .args .start) (c .before .before .before .before .before .before .before .loop .at) (c .before .before .before .before .before .before .before .loop .n) (c .before .before .before .before .before .before .before .loop .inv) (omega arith) (sym (c .before .before .before .before .before .before .byte-at .ensures) ∙ c .before .before .before .before .before .if1 .taken) (omega (arith, c .before .before .before .before .before .before .before .loop .inv .few, c .before .before .before .before .if2 .left)) (place-read (readAt (condition (variablesOf (c .before .before .before .before .before .before .before .before .before .before .before .before .args .kinds .now)) (tablesOf (c .before .before .before .before .before .before .before .before .before .before .before .before .args .rows .now) (c .before .before .before .before .before .before .before .before .before .before .before .before .args .columns .now)) mostNesting) _ (c .before .before .before .before .before .before .before .before .before .before .before .before .args .model .now)) (sym (c .before .end .given .1) ∙ c .before .before .before .condition-at .ensures) .1)
+loop-again c =
+    let start = c .before .before .before .before .before .before .before .before .before .before .before .before in
+    let turn = c .before .before .before .before .before .before .before .loop in
+    item-more 8 (condition (variablesOf (start .args .kinds .now)) (tablesOf (start .args .rows .now) (start .args .columns .now)) mostNesting) (start .args .model .now) 16 (start .args .start) (turn .at) (turn .n) (turn .inv) (omega arith) (sym (c .before .before .before .before .before .before .byte-at .ensures) ∙ c .before .before .before .before .before .if1 .taken) (omega (arith, turn .inv .few, c .before .before .before .before .if2 .left)) (place-read (readAt (condition (variablesOf (start .args .kinds .now)) (tablesOf (start .args .rows .now) (start .args .columns .now)) mostNesting) _ (start .args .model .now)) (sym (c .before .end .given .1) ∙ c .before .before .before .condition-at .ensures) .1)
 
 enum-known-t : tie.Need-enum-known-t Inv-loop μ-loop
 enum-known-t c = search needs
 
 returns-2 : tie.Need-returns-2 Inv-loop μ-loop
 unfolding conditions
-returns-2 c = sym (ap placeOf (item-refused 8 (condition (variablesOf (c .before .before .before .before .before .before .before .before .before .before .before .before .args .kinds .now)) (tablesOf (c .before .before .before .before .before .before .before .before .before .before .before .before .args .rows .now) (c .before .before .before .before .before .before .before .before .before .before .before .before .args .columns .now)) mostNesting) (c .before .before .before .before .before .before .before .before .before .before .before .before .args .model .now) 16 (c .before .before .before .before .before .before .before .before .before .before .before .before .args .start) (c .before .before .before .before .before .before .before .loop .at) (c .before .before .before .before .before .before .before .loop .n) (c .before .before .before .before .before .before .before .loop .inv) (omega arith) (sym (c .before .before .before .before .before .before .byte-at .ensures) ∙ c .before .before .before .before .before .if1 .taken) (omega (arith, c .before .before .before .before .before .before .before .loop .inv .few, c .before .before .before .before .if2 .left)) (place-refused (readAt (condition (variablesOf (c .before .before .before .before .before .before .before .before .before .before .before .before .args .kinds .now)) (tablesOf (c .before .before .before .before .before .before .before .before .before .before .before .before .args .rows .now) (c .before .before .before .before .before .before .before .before .before .before .before .before .args .columns .now)) mostNesting) _ (c .before .before .before .before .before .before .before .before .before .before .before .before .args .model .now)) (sym (c .before .t .given .1) ∙ c .before .before .before .condition-at .ensures))))
+returns-2 c =
+    let start = c .before .before .before .before .before .before .before .before .before .before .before .before in
+    let turn = c .before .before .before .before .before .before .before .loop in
+    sym (ap placeOf (item-refused 8 (condition (variablesOf (start .args .kinds .now)) (tablesOf (start .args .rows .now) (start .args .columns .now)) mostNesting) (start .args .model .now) 16 (start .args .start) (turn .at) (turn .n) (turn .inv) (omega arith) (sym (c .before .before .before .before .before .before .byte-at .ensures) ∙ c .before .before .before .before .before .if1 .taken) (omega (arith, turn .inv .few, c .before .before .before .before .if2 .left)) (place-refused (readAt (condition (variablesOf (start .args .kinds .now)) (tablesOf (start .args .rows .now) (start .args .columns .now)) mostNesting) _ (start .args .model .now)) (sym (c .before .t .given .1) ∙ c .before .before .before .condition-at .ensures))))
 
 returns-3 : tie.Need-returns-3 Inv-loop μ-loop
 unfolding conditions
-returns-3 c = sym (ap placeOf (items-end 8 (condition (variablesOf (c .before .before .before .before .before .before .before .before .args .kinds .now)) (tablesOf (c .before .before .before .before .before .before .before .before .args .rows .now) (c .before .before .before .before .before .before .before .before .args .columns .now)) mostNesting) (c .before .before .before .before .before .before .before .before .args .model .now) 16 (c .before .before .before .before .before .before .before .before .args .start) (c .before .before .before .loop .at) (c .before .before .before .loop .n) (c .before .before .before .loop .inv) (c .if3 .taken) (λ q. c .before .if1 .left (c .before .before .byte-at .ensures ∙ q))))
+returns-3 c =
+    let start = c .before .before .before .before .before .before .before .before in
+    let turn = c .before .before .before .loop in
+    sym (ap placeOf (items-end 8 (condition (variablesOf (start .args .kinds .now)) (tablesOf (start .args .rows .now) (start .args .columns .now)) mostNesting) (start .args .model .now) 16 (start .args .start) (turn .at) (turn .n) (turn .inv) (c .if3 .taken) (λ q. c .before .if1 .left (c .before .before .byte-at .ensures ∙ q))))
 
 returns-4 : tie.Need-returns-4 Inv-loop μ-loop
 unfolding conditions
-returns-4 c = sym (ap placeOf (items-early 8 (condition (variablesOf (c .before .before .before .before .before .before .before .before .args .kinds .now)) (tablesOf (c .before .before .before .before .before .before .before .before .args .rows .now) (c .before .before .before .before .before .before .before .before .args .columns .now)) mostNesting) (c .before .before .before .before .before .before .before .before .args .model .now) 16 (c .before .before .before .before .before .before .before .before .args .start) (c .before .before .before .loop .at) (c .before .before .before .loop .n) (c .before .before .before .loop .inv) (c .if3 .left)))
+returns-4 c =
+    let start = c .before .before .before .before .before .before .before .before in
+    let turn = c .before .before .before .loop in
+    sym (ap placeOf (items-early 8 (condition (variablesOf (start .args .kinds .now)) (tablesOf (start .args .rows .now) (start .args .columns .now)) mostNesting) (start .args .model .now) 16 (start .args .start) (turn .at) (turn .n) (turn .inv) (c .if3 .left)))
 
 pub conditions-spec : {M : Type 1} → statement M
 conditions-spec =

@@ -12,10 +12,14 @@ sub-result : tie.Need-sub-result
 sub-result c = search needs
 
 returns-2 : tie.Need-returns-2
-returns-2 c = rw (kind-element (c .before .before .args .kind) (c .before .if1 .left) (le-leb (c .before .before .args .kind) 64 (c .if2 .taken)), objects-element (c .before .before .args .kind) (le-leb (c .before .before .args .kind) 64 (c .if2 .taken)))
+returns-2 c =
+    let start = c .before .before in
+    rw (kind-element (start .args .kind) (c .before .if1 .left) (le-leb (start .args .kind) 64 (c .if2 .taken)), objects-element (start .args .kind) (le-leb (start .args .kind) 64 (c .if2 .taken)))
 
 returns-3 : tie.Need-returns-3
-returns-3 c = rw (kind-set (c .before .before .args .kind) (c .before .if1 .left) (lt-leb (c .before .before .args .kind) 64 (c .if2 .left)), objects-set (c .before .before .args .kind) (lt-leb (c .before .before .args .kind) 64 (c .if2 .left)))
+returns-3 c =
+    let start = c .before .before in
+    rw (kind-set (start .args .kind) (c .before .if1 .left) (lt-leb (start .args .kind) 64 (c .if2 .left)), objects-set (start .args .kind) (lt-leb (start .args .kind) 64 (c .if2 .left)))
 
 pub count-fits-spec : {M : Type 1} → statement M
 count-fits-spec = tie.close (tie.spec returns sub-result returns-2 returns-3)

@@ -9,7 +9,9 @@ use Rattle.transitions.proofs.effect.Statement.{statement}
 use Rattle.transitions.proofs.effect.Tie as tie
 
 add-if1 : tie.Need-add-if1
-add-if1 c = record { fits = omega (arith, c .before .before .before .before .before .good, byte-inside (c .before .before .before .before .before .args .model .now) (c .before .before .before .before .before .args .at) 10 (omega arith) (c .before .before .before .before .before .pre .0)) }
+add-if1 c =
+    let start = c .before .before .before .before .before in
+    record { fits = omega (arith, start .good, byte-inside (start .args .model .now) (start .args .at) 10 (omega arith) (start .pre .0)) }
 
 add-v : tie.Need-add-v
 add-v c = search needs
@@ -24,10 +26,14 @@ byte-at-requires : tie.Need-byte-at-requires
 byte-at-requires c κs = search needs
 
 returns : tie.Need-returns
-returns c = effect-again (c .before .before .before .before .before .before .before .before .before .args .kinds .now) (c .before .before .before .before .before .before .before .before .before .args .rows .now) (c .before .before .before .before .before .before .before .before .before .args .columns .now) (c .before .before .before .before .before .before .before .before .before .args .model .now) (c .before .before .before .before .before .before .before .before .before .args .at) (c .before .before .before .before .before .before .before .before .before .args .n) (c .before .before .before .before .before .before .before .before .before .args .marks .now) (c .before .before .before .before .before .before .before .before .before .pre .0) (c .before .before .before .if1 .taken) (c .before .byte-at .ensures) (c .if2 .taken)
+returns c =
+    let start = c .before .before .before .before .before .before .before .before .before in
+    effect-again (start .args .kinds .now) (start .args .rows .now) (start .args .columns .now) (start .args .model .now) (start .args .at) (start .args .n) (start .args .marks .now) (start .pre .0) (c .before .before .before .if1 .taken) (c .before .byte-at .ensures) (c .if2 .taken)
 
 returns-2 : tie.Need-returns-2
-returns-2 c = effect-too-many (c .before .before .before .before .before .before .before .before .before .before .before .args .kinds .now) (c .before .before .before .before .before .before .before .before .before .before .before .args .rows .now) (c .before .before .before .before .before .before .before .before .before .before .before .args .columns .now) (c .before .before .before .before .before .before .before .before .before .before .before .args .model .now) (c .before .before .before .before .before .before .before .before .before .before .before .args .at) (c .before .before .before .before .before .before .before .before .before .before .before .args .n) (c .before .before .before .before .before .before .before .before .before .before .before .args .marks .now) (c .before .before .before .before .before .before .before .before .before .before .before .pre .0) (c .before .before .before .before .before .if1 .taken) (c .before .before .before .byte-at .ensures) (c .before .before .if2 .left) (c .before .if3 .taken) (c .if4 .taken)
+returns-2 c =
+    let start = c .before .before .before .before .before .before .before .before .before .before .before in
+    effect-too-many (start .args .kinds .now) (start .args .rows .now) (start .args .columns .now) (start .args .model .now) (start .args .at) (start .args .n) (start .args .marks .now) (start .pre .0) (c .before .before .before .before .before .if1 .taken) (c .before .before .before .byte-at .ensures) (c .before .before .if2 .left) (c .before .if3 .taken) (c .if4 .taken)
 
 shared-slice-read-result-at : tie.Need-shared-slice-read-result-at
 shared-slice-read-result-at c = search needs
@@ -45,16 +51,24 @@ enum-known-t : tie.Need-enum-known-t
 enum-known-t c = search needs
 
 returns-3 : tie.Need-returns-3
-returns-3 c = effect-more (c .before .before .before .before .before .before .before .before .before .before .before .before .before .before .before .before .args .kinds .now) (c .before .before .before .before .before .before .before .before .before .before .before .before .before .before .before .before .args .rows .now) (c .before .before .before .before .before .before .before .before .before .before .before .before .before .before .before .before .args .columns .now) (c .before .before .before .before .before .before .before .before .before .before .before .before .before .before .before .before .args .model .now) (c .before .before .before .before .before .before .before .before .before .before .before .before .before .before .before .before .args .at) (c .before .before .before .before .before .before .before .before .before .before .before .before .before .before .before .before .args .n) (c .before .before .before .before .before .before .before .before .before .before .before .before .before .before .before .before .args .marks .now) (c .before .before .before .before .before .before .before .before .before .before .before .before .before .before .before .before .pre .0) (c .before .before .before .before .before .before .before .before .before .before .if1 .taken) (c .before .before .before .before .before .before .before .before .byte-at .ensures) (c .before .before .before .before .before .before .before .if2 .left) (c .before .before .before .before .before .before .if3 .taken) (omega (arith, c .before .before .before .before .before .before .before .before .before .before .before .before .before .before .before .before .pre .1, c .before .before .before .before .before .if4 .left)) (c .before .before .before .before .before .before .before .before .before .before .before .before .before .before .before .before .pre .2) (sym (c .before .end .given .1) ∙ c .before .before .before .result-at .ensures)
+returns-3 c =
+    let start = c .before .before .before .before .before .before .before .before .before .before .before .before .before .before .before .before in
+    effect-more (start .args .kinds .now) (start .args .rows .now) (start .args .columns .now) (start .args .model .now) (start .args .at) (start .args .n) (start .args .marks .now) (start .pre .0) (c .before .before .before .before .before .before .before .before .before .before .if1 .taken) (c .before .before .before .before .before .before .before .before .byte-at .ensures) (c .before .before .before .before .before .before .before .if2 .left) (c .before .before .before .before .before .before .if3 .taken) (omega (arith, start .pre .1, c .before .before .before .before .before .if4 .left)) (start .pre .2) (sym (c .before .end .given .1) ∙ c .before .before .before .result-at .ensures)
 
 returns-4 : tie.Need-returns-4
-returns-4 c = effect-refused (c .before .before .before .before .before .before .before .before .before .before .before .before .before .before .before .before .args .kinds .now) (c .before .before .before .before .before .before .before .before .before .before .before .before .before .before .before .before .args .rows .now) (c .before .before .before .before .before .before .before .before .before .before .before .before .before .before .before .before .args .columns .now) (c .before .before .before .before .before .before .before .before .before .before .before .before .before .before .before .before .args .model .now) (c .before .before .before .before .before .before .before .before .before .before .before .before .before .before .before .before .args .at) (c .before .before .before .before .before .before .before .before .before .before .before .before .before .before .before .before .args .n) (c .before .before .before .before .before .before .before .before .before .before .before .before .before .before .before .before .args .marks .now) (c .before .before .before .before .before .before .before .before .before .before .before .before .before .before .before .before .pre .0) (c .before .before .before .before .before .before .before .before .before .before .if1 .taken) (c .before .before .before .before .before .before .before .before .byte-at .ensures) (c .before .before .before .before .before .before .before .if2 .left) (c .before .before .before .before .before .before .if3 .taken) (omega (arith, c .before .before .before .before .before .before .before .before .before .before .before .before .before .before .before .before .pre .1, c .before .before .before .before .before .if4 .left)) (sym (c .before .t .given .1) ∙ c .before .before .before .result-at .ensures)
+returns-4 c =
+    let start = c .before .before .before .before .before .before .before .before .before .before .before .before .before .before .before .before in
+    effect-refused (start .args .kinds .now) (start .args .rows .now) (start .args .columns .now) (start .args .model .now) (start .args .at) (start .args .n) (start .args .marks .now) (start .pre .0) (c .before .before .before .before .before .before .before .before .before .before .if1 .taken) (c .before .before .before .before .before .before .before .before .byte-at .ensures) (c .before .before .before .before .before .before .before .if2 .left) (c .before .before .before .before .before .before .if3 .taken) (omega (arith, start .pre .1, c .before .before .before .before .before .if4 .left)) (sym (c .before .t .given .1) ∙ c .before .before .before .result-at .ensures)
 
 returns-5 : tie.Need-returns-5
-returns-5 c = effect-undeclared (c .before .before .before .before .before .before .before .before .before .before .args .kinds .now) (c .before .before .before .before .before .before .before .before .before .before .args .rows .now) (c .before .before .before .before .before .before .before .before .before .before .args .columns .now) (c .before .before .before .before .before .before .before .before .before .before .args .model .now) (c .before .before .before .before .before .before .before .before .before .before .args .at) (c .before .before .before .before .before .before .before .before .before .before .args .n) (c .before .before .before .before .before .before .before .before .before .before .args .marks .now) (c .before .before .before .before .before .before .before .before .before .before .pre .0) (c .before .before .before .before .if1 .taken) (c .before .before .byte-at .ensures) (c .before .if2 .left) (c .if3 .left)
+returns-5 c =
+    let start = c .before .before .before .before .before .before .before .before .before .before in
+    effect-undeclared (start .args .kinds .now) (start .args .rows .now) (start .args .columns .now) (start .args .model .now) (start .args .at) (start .args .n) (start .args .marks .now) (start .pre .0) (c .before .before .before .before .if1 .taken) (c .before .before .byte-at .ensures) (c .before .if2 .left) (c .if3 .left)
 
 returns-6 : tie.Need-returns-6
-returns-6 c = effect-cut (c .before .before .before .before .before .before .args .kinds .now) (c .before .before .before .before .before .before .args .rows .now) (c .before .before .before .before .before .before .args .columns .now) (c .before .before .before .before .before .before .args .model .now) (c .before .before .before .before .before .before .args .at) (c .before .before .before .before .before .before .args .n) (c .before .before .before .before .before .before .args .marks .now) (c .before .before .before .before .before .before .pre .0) (c .if1 .left)
+returns-6 c =
+    let start = c .before .before .before .before .before .before in
+    effect-cut (start .args .kinds .now) (start .args .rows .now) (start .args .columns .now) (start .args .model .now) (start .args .at) (start .args .n) (start .args .marks .now) (start .pre .0) (c .if1 .left)
 
 pub effect-spec : {M : Type 1} → statement M
 effect-spec =

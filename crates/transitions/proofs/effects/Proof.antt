@@ -17,7 +17,9 @@ abbrev μ-loop : tie.MeasureT-loop
 μ-loop model start kinds rows columns at₀ n₀ marks₀ at n marks = 16 - n
 
 loop-holds : tie.Need-loop-holds Inv-loop μ-loop
-loop-holds c = no-effects (variablesOf (c .before .before .before .before .args .kinds .now)) (tablesOf (c .before .before .before .before .args .rows .now) (c .before .before .before .before .args .columns .now)) (c .before .before .before .before .args .model .now) (c .before .before .before .before .args .start)
+loop-holds c =
+    let start = c .before .before .before .before in
+    no-effects (variablesOf (start .args .kinds .now)) (tablesOf (start .args .rows .now) (start .args .columns .now)) (start .args .model .now) (start .args .start)
 
 byte-at-requires : tie.Need-byte-at-requires Inv-loop μ-loop
 byte-at-requires c κs = search needs
@@ -32,28 +34,46 @@ enum-known-v : tie.Need-enum-known-v Inv-loop μ-loop
 enum-known-v c = search needs
 
 array-write-marks : tie.Need-array-write-marks Inv-loop μ-loop
-array-write-marks c = let h = subst (ChangedAs (variablesOf (c .before .before .before .before .before .before .before .before .before .before .before .before .args .kinds .now)) (tablesOf (c .before .before .before .before .before .before .before .before .before .before .before .before .args .rows .now) (c .before .before .before .before .before .before .before .before .before .before .before .before .args .columns .now)) (c .before .before .before .before .before .before .before .before .before .before .before .before .args .model .now) (c .before .before .before .before .before .before .before .loop .at) (c .before .before .before .before .before .before .before .loop .n) (c .before .before .before .before .before .before .before .loop .marks)) (c .before .v .given .1) (c .before .before .before .effect .ensures) in omega (arith, h (c .before .before .before .before .before .before .before .loop .inv .items) (c .before .before .before .before .before .before .before .loop .inv .marked) .declared, c .before .before .before .before .before .before .before .loop .inv .marks-length)
+array-write-marks c =
+    let start = c .before .before .before .before .before .before .before .before .before .before .before .before in
+    let turn = c .before .before .before .before .before .before .before .loop in
+    let h = subst (ChangedAs (variablesOf (start .args .kinds .now)) (tablesOf (start .args .rows .now) (start .args .columns .now)) (start .args .model .now) (turn .at) (turn .n) (turn .marks)) (c .before .v .given .1) (c .before .before .before .effect .ensures) in omega (arith, h (turn .inv .items) (turn .inv .marked) .declared, turn .inv .marks-length)
 
 add-n : tie.Need-add-n Inv-loop μ-loop
 add-n c = omega (arith, c .before .before .before .before .before .before .before .loop .inv .few)
 
 loop-less : tie.Need-loop-less Inv-loop μ-loop
-loop-less c = let h = subst (ChangedAs (variablesOf (c .before .before .before .before .before .before .before .before .before .before .before .before .args .kinds .now)) (tablesOf (c .before .before .before .before .before .before .before .before .before .before .before .before .args .rows .now) (c .before .before .before .before .before .before .before .before .before .before .before .before .args .columns .now)) (c .before .before .before .before .before .before .before .before .before .before .before .before .args .model .now) (c .before .before .before .before .before .before .before .loop .at) (c .before .before .before .before .before .before .before .loop .n) (c .before .before .before .before .before .before .before .loop .marks)) (c .before .v .given .1) (c .before .before .before .effect .ensures) in omega (arith, h (c .before .before .before .before .before .before .before .loop .inv .items) (c .before .before .before .before .before .before .before .loop .inv .marked) .room)
+loop-less c =
+    let start = c .before .before .before .before .before .before .before .before .before .before .before .before in
+    let turn = c .before .before .before .before .before .before .before .loop in
+    let h = subst (ChangedAs (variablesOf (start .args .kinds .now)) (tablesOf (start .args .rows .now) (start .args .columns .now)) (start .args .model .now) (turn .at) (turn .n) (turn .marks)) (c .before .v .given .1) (c .before .before .before .effect .ensures) in omega (arith, h (turn .inv .items) (turn .inv .marked) .room)
 
 loop-again : tie.Need-loop-again Inv-loop μ-loop
-loop-again c = effects-more (variablesOf (c .before .before .before .before .before .before .before .before .before .before .before .before .args .kinds .now)) (tablesOf (c .before .before .before .before .before .before .before .before .before .before .before .before .args .rows .now) (c .before .before .before .before .before .before .before .before .before .before .before .before .args .columns .now)) (c .before .before .before .before .before .before .before .before .before .before .before .before .args .model .now) (c .before .before .before .before .before .before .before .before .before .before .before .before .args .start) (c .before .before .before .before .before .before .before .loop .at) (c .before .before .before .before .before .before .before .loop .n) (c .before .before .before .before .before .before .before .loop .marks) (c .before .before .before .before .before .before .before .loop .inv) (subst (ChangedAs (variablesOf (c .before .before .before .before .before .before .before .before .before .before .before .before .args .kinds .now)) (tablesOf (c .before .before .before .before .before .before .before .before .before .before .before .before .args .rows .now) (c .before .before .before .before .before .before .before .before .before .before .before .before .args .columns .now)) (c .before .before .before .before .before .before .before .before .before .before .before .before .args .model .now) (c .before .before .before .before .before .before .before .loop .at) (c .before .before .before .before .before .before .before .loop .n) (c .before .before .before .before .before .before .before .loop .marks)) (c .before .v .given .1) (c .before .before .before .effect .ensures))
+loop-again c =
+    let start = c .before .before .before .before .before .before .before .before .before .before .before .before in
+    let turn = c .before .before .before .before .before .before .before .loop in
+    effects-more (variablesOf (start .args .kinds .now)) (tablesOf (start .args .rows .now) (start .args .columns .now)) (start .args .model .now) (start .args .start) (turn .at) (turn .n) (turn .marks) (turn .inv) (subst (ChangedAs (variablesOf (start .args .kinds .now)) (tablesOf (start .args .rows .now) (start .args .columns .now)) (start .args .model .now) (turn .at) (turn .n) (turn .marks)) (c .before .v .given .1) (c .before .before .before .effect .ensures))
 
 enum-known-t : tie.Need-enum-known-t Inv-loop μ-loop
 enum-known-t c = search needs
 
 returns : tie.Need-returns Inv-loop μ-loop
-returns c = sym (ap placeOf (sym (c .before .before .before .before .before .before .before .loop .inv .goes-on) ∙ subst (ChangedAs (variablesOf (c .before .before .before .before .before .before .before .before .before .before .before .before .args .kinds .now)) (tablesOf (c .before .before .before .before .before .before .before .before .before .before .before .before .args .rows .now) (c .before .before .before .before .before .before .before .before .before .before .before .before .args .columns .now)) (c .before .before .before .before .before .before .before .before .before .before .before .before .args .model .now) (c .before .before .before .before .before .before .before .loop .at) (c .before .before .before .before .before .before .before .loop .n) (c .before .before .before .before .before .before .before .loop .marks)) (c .before .t .given .1) (c .before .before .before .effect .ensures) (c .before .before .before .before .before .before .before .loop .inv .items) (c .before .before .before .before .before .before .before .loop .inv .marked)))
+returns c =
+    let start = c .before .before .before .before .before .before .before .before .before .before .before .before in
+    let turn = c .before .before .before .before .before .before .before .loop in
+    sym (ap placeOf (sym (turn .inv .goes-on) ∙ subst (ChangedAs (variablesOf (start .args .kinds .now)) (tablesOf (start .args .rows .now) (start .args .columns .now)) (start .args .model .now) (turn .at) (turn .n) (turn .marks)) (c .before .t .given .1) (c .before .before .before .effect .ensures) (turn .inv .items) (turn .inv .marked)))
 
 returns-2 : tie.Need-returns-2 Inv-loop μ-loop
-returns-2 c = sym (ap placeOf (effects-end (variablesOf (c .before .before .before .before .before .before .before .before .args .kinds .now)) (tablesOf (c .before .before .before .before .before .before .before .before .args .rows .now) (c .before .before .before .before .before .before .before .before .args .columns .now)) (c .before .before .before .before .before .before .before .before .args .model .now) (c .before .before .before .before .before .before .before .before .args .start) (c .before .before .before .loop .at) (c .before .before .before .loop .n) (c .before .before .before .loop .marks) (c .before .before .before .loop .inv) (c .if2 .taken) (λ q. c .before .if1 .left (c .before .before .byte-at .ensures ∙ q))))
+returns-2 c =
+    let start = c .before .before .before .before .before .before .before .before in
+    let turn = c .before .before .before .loop in
+    sym (ap placeOf (effects-end (variablesOf (start .args .kinds .now)) (tablesOf (start .args .rows .now) (start .args .columns .now)) (start .args .model .now) (start .args .start) (turn .at) (turn .n) (turn .marks) (turn .inv) (c .if2 .taken) (λ q. c .before .if1 .left (c .before .before .byte-at .ensures ∙ q))))
 
 returns-3 : tie.Need-returns-3 Inv-loop μ-loop
-returns-3 c = sym (ap placeOf (effects-early (variablesOf (c .before .before .before .before .before .before .before .before .args .kinds .now)) (tablesOf (c .before .before .before .before .before .before .before .before .args .rows .now) (c .before .before .before .before .before .before .before .before .args .columns .now)) (c .before .before .before .before .before .before .before .before .args .model .now) (c .before .before .before .before .before .before .before .before .args .start) (c .before .before .before .loop .at) (c .before .before .before .loop .n) (c .before .before .before .loop .marks) (c .before .before .before .loop .inv) (c .if2 .left)))
+returns-3 c =
+    let start = c .before .before .before .before .before .before .before .before in
+    let turn = c .before .before .before .loop in
+    sym (ap placeOf (effects-early (variablesOf (start .args .kinds .now)) (tablesOf (start .args .rows .now) (start .args .columns .now)) (start .args .model .now) (start .args .start) (turn .at) (turn .n) (turn .marks) (turn .inv) (c .if2 .left)))
 
 pub effects-spec : {M : Type 1} → statement M
 effects-spec =

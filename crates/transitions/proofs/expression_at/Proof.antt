@@ -26,19 +26,27 @@ enum-known-n : tie.Need-enum-known-n
 enum-known-n c = search needs
 
 add-t19 : tie.Need-add-t19
-add-t19 c = record { fits = let e = drop (c .before .before .before .before .before .before .before .before .before .before .args .at) (c .before .before .before .before .before .before .before .before .before .before .args .model .now) in omega (arith, c .before .before .before .before .before .if1 .taken, c .before .before .before .before .before .before .before .before .before .before .good, length-drop (c .before .before .before .before .before .before .before .before .before .before .args .at) (c .before .before .before .before .before .before .before .before .before .before .args .model .now), used-within (c .before .before .before .before .before .before .before .before .before .before .args .kinds .now) (c .before .before .before .before .before .before .before .before .before .before .args .rows .now) (c .before .before .before .before .before .before .before .before .before .before .args .columns .now) 32 e (c .before .before .before .before .before .before .before .before .before .before .args .due) (sym (c .before .n .given .1) ∙ rw (suffix (c .before .before .before .before .before .before .before .before .before .before .args .at) (c .before .before .before .before .before .before .before .before .before .before .args .model .now)) at (c .before .before .before .expression .ensures))) }
+add-t19 c =
+    let start = c .before .before .before .before .before .before .before .before .before .before in
+    record { fits = let e = drop (start .args .at) (start .args .model .now) in omega (arith, c .before .before .before .before .before .if1 .taken, start .good, length-drop (start .args .at) (start .args .model .now), used-within (start .args .kinds .now) (start .args .rows .now) (start .args .columns .now) 32 e (start .args .due) (sym (c .before .n .given .1) ∙ rw (suffix (start .args .at) (start .args .model .now)) at (c .before .before .before .expression .ensures))) }
 
 enum-known-t : tie.Need-enum-known-t
 enum-known-t c = search needs
 
 returns : tie.Need-returns
-returns c = part-good (variablesOf (c .before .before .before .before .before .before .before .before .before .before .args .kinds .now)) (tablesOf (c .before .before .before .before .before .before .before .before .before .before .args .rows .now) (c .before .before .before .before .before .before .before .before .before .before .args .columns .now)) (c .before .before .before .before .before .before .before .before .before .before .args .at) (c .before .before .before .before .before .before .before .before .before .before .args .model .now) (c .before .before .before .before .before .before .before .before .before .before .args .due) (sym (c .before .n .given .1) ∙ rw (suffix (c .before .before .before .before .before .before .before .before .before .before .args .at) (c .before .before .before .before .before .before .before .before .before .before .args .model .now)) at (c .before .before .before .expression .ensures))
+returns c =
+    let start = c .before .before .before .before .before .before .before .before .before .before in
+    part-good (variablesOf (start .args .kinds .now)) (tablesOf (start .args .rows .now) (start .args .columns .now)) (start .args .at) (start .args .model .now) (start .args .due) (sym (c .before .n .given .1) ∙ rw (suffix (start .args .at) (start .args .model .now)) at (c .before .before .before .expression .ensures))
 
 returns-2 : tie.Need-returns-2
-returns-2 c = part-refused (variablesOf (c .before .before .before .before .before .before .before .before .before .before .args .kinds .now)) (tablesOf (c .before .before .before .before .before .before .before .before .before .before .args .rows .now) (c .before .before .before .before .before .before .before .before .before .before .args .columns .now)) (c .before .before .before .before .before .before .before .before .before .before .args .at) (c .before .before .before .before .before .before .before .before .before .before .args .model .now) (c .before .before .before .before .before .before .before .before .before .before .args .due) (sym (c .before .t .given .1) ∙ rw (suffix (c .before .before .before .before .before .before .before .before .before .before .args .at) (c .before .before .before .before .before .before .before .before .before .before .args .model .now)) at (c .before .before .before .expression .ensures))
+returns-2 c =
+    let start = c .before .before .before .before .before .before .before .before .before .before in
+    part-refused (variablesOf (start .args .kinds .now)) (tablesOf (start .args .rows .now) (start .args .columns .now)) (start .args .at) (start .args .model .now) (start .args .due) (sym (c .before .t .given .1) ∙ rw (suffix (start .args .at) (start .args .model .now)) at (c .before .before .before .expression .ensures))
 
 returns-3 : tie.Need-returns-3
-returns-3 c = part-refused (variablesOf (c .before .before .before .before .before .args .kinds .now)) (tablesOf (c .before .before .before .before .before .args .rows .now) (c .before .before .before .before .before .args .columns .now)) (c .before .before .before .before .before .args .at) (c .before .before .before .before .before .args .model .now) (c .before .before .before .before .before .args .due) (part-empty (c .before .before .before .before .before .args .kinds .now) (c .before .before .before .before .before .args .rows .now) (c .before .before .before .before .before .args .columns .now) (c .before .before .before .before .before .args .due) 32 (drop (c .before .before .before .before .before .args .at) (c .before .before .before .before .before .args .model .now)) (omega (arith, length-drop (c .before .before .before .before .before .args .at) (c .before .before .before .before .before .args .model .now), c .if1 .left)))
+returns-3 c =
+    let start = c .before .before .before .before .before in
+    part-refused (variablesOf (start .args .kinds .now)) (tablesOf (start .args .rows .now) (start .args .columns .now)) (start .args .at) (start .args .model .now) (start .args .due) (part-empty (start .args .kinds .now) (start .args .rows .now) (start .args .columns .now) (start .args .due) 32 (drop (start .args .at) (start .args .model .now)) (omega (arith, length-drop (start .args .at) (start .args .model .now), c .if1 .left)))
 
 pub expression-at-spec : {M : Type 1} → statement M
 expression-at-spec =

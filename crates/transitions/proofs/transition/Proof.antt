@@ -28,13 +28,19 @@ enum-known-t-2 : tie.Need-enum-known-t-2
 enum-known-t-2 c = search needs
 
 returns : tie.Need-returns
-returns c = c .effects .ensures ∙ transition-effects (variablesOf (c .before .before .before .before .before .before .before .before .before .before .before .before .before .args .kinds .now)) (tablesOf (c .before .before .before .before .before .before .before .before .before .before .before .before .before .args .rows .now) (c .before .before .before .before .before .before .before .before .before .before .before .before .before .args .columns .now)) (c .before .before .before .before .before .before .before .before .before .before .before .before .before .args .at) (c .before .before .before .before .before .before .before .before .before .before .before .before .before .args .model .now) (sym (c .before .before .before .before .before .before .p .given .1) ∙ c .before .before .before .before .before .before .before .before .conditions .ensures) (sym (c .before .before .q .given .1) ∙ c .before .before .before .before .cost .ensures)
+returns c =
+    let start = c .before .before .before .before .before .before .before .before .before .before .before .before .before in
+    c .effects .ensures ∙ transition-effects (variablesOf (start .args .kinds .now)) (tablesOf (start .args .rows .now) (start .args .columns .now)) (start .args .at) (start .args .model .now) (sym (c .before .before .before .before .before .before .p .given .1) ∙ c .before .before .before .before .before .before .before .before .conditions .ensures) (sym (c .before .before .q .given .1) ∙ c .before .before .before .before .cost .ensures)
 
 returns-2 : tie.Need-returns-2
-returns-2 c = transition-cost-refused (variablesOf (c .before .before .before .before .before .before .before .before .before .before .before .before .args .kinds .now)) (tablesOf (c .before .before .before .before .before .before .before .before .before .before .before .before .args .rows .now) (c .before .before .before .before .before .before .before .before .before .before .before .before .args .columns .now)) (c .before .before .before .before .before .before .before .before .before .before .before .before .args .at) (c .before .before .before .before .before .before .before .before .before .before .before .before .args .model .now) (sym (c .before .before .before .before .before .p .given .1) ∙ c .before .before .before .before .before .before .before .conditions .ensures) (sym (c .before .t .given .1) ∙ c .before .before .before .cost .ensures)
+returns-2 c =
+    let start = c .before .before .before .before .before .before .before .before .before .before .before .before in
+    transition-cost-refused (variablesOf (start .args .kinds .now)) (tablesOf (start .args .rows .now) (start .args .columns .now)) (start .args .at) (start .args .model .now) (sym (c .before .before .before .before .before .p .given .1) ∙ c .before .before .before .before .before .before .before .conditions .ensures) (sym (c .before .t .given .1) ∙ c .before .before .before .cost .ensures)
 
 returns-3 : tie.Need-returns-3
-returns-3 c = transition-conditions-refused (variablesOf (c .before .before .before .before .before .before .before .before .args .kinds .now)) (tablesOf (c .before .before .before .before .before .before .before .before .args .rows .now) (c .before .before .before .before .before .before .before .before .args .columns .now)) (c .before .before .before .before .before .before .before .before .args .at) (c .before .before .before .before .before .before .before .before .args .model .now) (sym (c .before .t2 .given .1) ∙ c .before .before .before .conditions .ensures)
+returns-3 c =
+    let start = c .before .before .before .before .before .before .before .before in
+    transition-conditions-refused (variablesOf (start .args .kinds .now)) (tablesOf (start .args .rows .now) (start .args .columns .now)) (start .args .at) (start .args .model .now) (sym (c .before .t2 .given .1) ∙ c .before .before .before .conditions .ensures)
 
 pub transition-spec : {M : Type 1} → statement M
 transition-spec =

@@ -17,7 +17,9 @@ returns : tie.Need-returns
 returns c = end-good (c .before .before .before .before .args .model .now) (c .before .before .before .before .args .at) (c .before .before .before .if1 .taken) (c .before .if2 .taken) (c .if3 .taken)
 
 returns-2 : tie.Need-returns-2
-returns-2 c = end-more (c .before .before .before .before .args .model .now) (c .before .before .before .before .args .at) (c .before .before .before .if1 .taken) (c .before .if2 .taken) (c .if3 .left)
+returns-2 c =
+    let start = c .before .before .before .before in
+    end-more (start .args .model .now) (start .args .at) (c .before .before .before .if1 .taken) (c .before .if2 .taken) (c .if3 .left)
 
 returns-3 : tie.Need-returns-3
 returns-3 c = end-other (c .before .before .before .args .model .now) (c .before .before .before .args .at) (c .before .before .if1 .taken) (c .if2 .left)

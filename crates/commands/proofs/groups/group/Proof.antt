@@ -16,10 +16,14 @@ most-requires : tie.Need-most-requires
 most-requires c κs = search needs
 
 add-to : tie.Need-add-to
-add-to c = record { fits = omega (arith, room (c .before .before .before .before .before .before .before .args .group) .high, room (c .before .before .before .before .before .before .before .args .group) .low, c .before .offsets-from .ensures, c .most .ensures) }
+add-to c =
+    let start = c .before .before .before .before .before .before .before in
+    record { fits = omega (arith, room (start .args .group) .high, room (start .args .group) .low, c .before .offsets-from .ensures, c .most .ensures) }
 
 mul-items : tie.Need-mul-items
-mul-items c = omega (arith, room (c .before .before .before .before .before .before .before .args .group) .high, room (c .before .before .before .before .before .before .before .args .group) .low, c .before .offsets-from .ensures, c .most .ensures, c .before .before .before .before .before .before .before .pre)
+mul-items c =
+    let start = c .before .before .before .before .before .before .before in
+    omega (arith, room (start .args .group) .high, room (start .args .group) .low, c .before .offsets-from .ensures, c .most .ensures, start .pre)
 
 sub-items : tie.Need-sub-items
 sub-items c = search needs
@@ -28,7 +32,9 @@ part-items-start : tie.Need-part-items-start
 part-items-start c = search needs
 
 part-items-end : tie.Need-part-items-end
-part-items-end c = omega (arith, room (c .before .before .before .before .before .before .before .args .group) .high, room (c .before .before .before .before .before .before .before .args .group) .low, c .before .offsets-from .ensures, c .most .ensures, c .before .before .before .before .before .before .before .pre)
+part-items-end c =
+    let start = c .before .before .before .before .before .before .before in
+    omega (arith, room (start .args .group) .high, room (start .args .group) .low, c .before .offsets-from .ensures, c .most .ensures, start .pre)
 
 items-requires : tie.Need-items-requires
 items-requires c κs = search needs
@@ -40,10 +46,14 @@ count-at-requires : tie.Need-count-at-requires
 count-at-requires c κs = search needs
 
 mul-outline : tie.Need-mul-outline
-mul-outline c = record { fits = omega (arith, room (c .before .before .before .before .before .before .before .before .before .before .before .before .before .before .before .args .group) .high, room (c .before .before .before .before .before .before .before .before .before .before .before .before .before .before .before .args .group) .low, c .before .before .before .before .before .before .before .before .before .offsets-from .ensures, c .before .before .before .before .before .before .before .before .most .ensures, c .count-at .ensures) }
+mul-outline c =
+    let start = c .before .before .before .before .before .before .before .before .before .before .before .before .before .before .before in
+    record { fits = omega (arith, room (start .args .group) .high, room (start .args .group) .low, c .before .before .before .before .before .before .before .before .before .offsets-from .ensures, c .before .before .before .before .before .before .before .before .most .ensures, c .count-at .ensures) }
 
 slice-write-outline : tie.Need-slice-write-outline
-slice-write-outline c = omega (arith, room (c .before .before .before .before .before .before .before .before .before .before .before .before .before .before .before .args .group) .high, room (c .before .before .before .before .before .before .before .before .before .before .before .before .before .before .before .args .group) .low, c .before .before .before .before .before .before .before .before .before .offsets-from .ensures, c .before .before .before .before .before .before .before .before .most .ensures, c .count-at .ensures, c .before .before .before .before .before .before .before .before .before .before .before .before .before .before .before .pre, group-length (variablesOf (c .before .before .before .before .before .before .before .before .before .before .before .before .before .before .before .args .kinds .now)) (tablesOf (c .before .before .before .before .before .before .before .before .before .before .before .before .before .before .before .args .rows .now) (c .before .before .before .before .before .before .before .before .before .before .before .before .before .before .before .args .columns .now)) (c .before .before .before .before .before .before .before .before .before .before .before .before .before .before .before .args .group) (c .before .before .before .before .before .before .before .before .before .before .before .before .before .before .before .args .model .now) (c .before .before .before .before .before .before .before .before .before .before .before .before .before .before .before .args .start) (c .before .before .before .before .before .before .before .before .before .before .before .before .before .before .before .args .outline .now) (c .before .before .before .before .before .before .items .last .1 .1 .1 .1 .1 .1 .0) (c .before .before .before .before .before .before .before .before .before .offsets-from .result) (c .before .before .before .before .before .before .before .before .before .offsets-from .result + c .before .before .before .before .before .before .before .before .most .result - c .before .before .before .before .before .before .before .before .before .offsets-from .result) (c .before .before .before .before .before .before .before .before .before .offsets-from .ensures) (omega (arith, c .before .before .before .before .before .before .before .before .before .offsets-from .ensures, c .before .before .before .before .before .before .before .before .most .ensures)) (c .before .before .before .before .before .before .before .before .before .before .before .before .before .before .before .pre .1) (c .before .before .before .before .before .outline .given .0))
+slice-write-outline c =
+    let start = c .before .before .before .before .before .before .before .before .before .before .before .before .before .before .before in
+    omega (arith, room (start .args .group) .high, room (start .args .group) .low, c .before .before .before .before .before .before .before .before .before .offsets-from .ensures, c .before .before .before .before .before .before .before .before .most .ensures, c .count-at .ensures, start .pre, group-length (variablesOf (start .args .kinds .now)) (tablesOf (start .args .rows .now) (start .args .columns .now)) (start .args .group) (start .args .model .now) (start .args .start) (start .args .outline .now) (c .before .before .before .before .before .before .items .last .1 .1 .1 .1 .1 .1 .0) (c .before .before .before .before .before .before .before .before .before .offsets-from .result) (c .before .before .before .before .before .before .before .before .before .offsets-from .result + c .before .before .before .before .before .before .before .before .most .result - c .before .before .before .before .before .before .before .before .before .offsets-from .result) (c .before .before .before .before .before .before .before .before .before .offsets-from .ensures) (omega (arith, c .before .before .before .before .before .before .before .before .before .offsets-from .ensures, c .before .before .before .before .before .before .before .before .most .ensures)) (start .pre .1) (c .before .before .before .before .before .outline .given .0))
 
 enum-known-t : tie.Need-enum-known-t
 enum-known-t c = search needs
@@ -52,13 +62,17 @@ same-length : tie.Need-same-length
 same-length c = search needs
 
 returns : tie.Need-returns
-returns c = group-told (variablesOf (c .before .before .before .before .before .before .before .before .before .before .before .before .before .before .before .args .kinds .now)) (tablesOf (c .before .before .before .before .before .before .before .before .before .before .before .before .before .before .before .args .rows .now) (c .before .before .before .before .before .before .before .before .before .before .before .before .before .before .before .args .columns .now)) (c .before .before .before .before .before .before .before .before .before .before .before .before .before .before .before .args .group) (c .before .before .before .before .before .before .before .before .before .before .before .before .before .before .before .args .model .now) (c .before .before .before .before .before .before .before .before .before .before .before .before .before .before .before .args .start) (c .before .before .before .before .before .before .before .before .before .before .before .before .before .before .before .args .outline .now) (c .before .before .before .before .before .before .items .last .1 .1 .1 .1 .1 .1 .0) (c .before .before .before .before .before .before .before .before .before .offsets-from .result) (c .before .before .before .before .before .before .before .before .before .offsets-from .result + c .before .before .before .before .before .before .before .before .most .result - c .before .before .before .before .before .before .before .before .before .offsets-from .result) (c .before .before .before .before .before .before .before .before .before .offsets-from .ensures) (omega (arith, c .before .before .before .before .before .before .before .before .before .offsets-from .ensures, c .before .before .before .before .before .before .before .before .most .ensures)) (c .before .before .before .before .before .before .before .before .before .before .before .before .before .before .before .pre .1) (c .before .before .before .before .before .outline .given .0) (c .count-at .ensures) (subst (ItemsTold (itemOf (variablesOf (c .before .before .before .before .before .before .before .before .before .before .before .before .before .before .before .args .kinds .now)) (tablesOf (c .before .before .before .before .before .before .before .before .before .before .before .before .before .before .before .args .rows .now) (c .before .before .before .before .before .before .before .before .before .before .before .before .before .before .before .args .columns .now)) (c .before .before .before .before .before .before .before .before .before .before .before .before .before .before .before .args .group)) (c .before .before .before .before .before .before .before .before .before .before .before .before .before .before .before .args .model .now) (c .before .before .before .before .before .before .items .last .1 .1 .1 .1 .1 .1 .0) _) (c .before .before .end .given .1) (c .before .before .before .before .before .before .items .ensures))
+returns c =
+    let start = c .before .before .before .before .before .before .before .before .before .before .before .before .before .before .before in
+    group-told (variablesOf (start .args .kinds .now)) (tablesOf (start .args .rows .now) (start .args .columns .now)) (start .args .group) (start .args .model .now) (start .args .start) (start .args .outline .now) (c .before .before .before .before .before .before .items .last .1 .1 .1 .1 .1 .1 .0) (c .before .before .before .before .before .before .before .before .before .offsets-from .result) (c .before .before .before .before .before .before .before .before .before .offsets-from .result + c .before .before .before .before .before .before .before .before .most .result - c .before .before .before .before .before .before .before .before .before .offsets-from .result) (c .before .before .before .before .before .before .before .before .before .offsets-from .ensures) (omega (arith, c .before .before .before .before .before .before .before .before .before .offsets-from .ensures, c .before .before .before .before .before .before .before .before .most .ensures)) (start .pre .1) (c .before .before .before .before .before .outline .given .0) (c .count-at .ensures) (subst (ItemsTold (itemOf (variablesOf (start .args .kinds .now)) (tablesOf (start .args .rows .now) (start .args .columns .now)) (start .args .group)) (start .args .model .now) (c .before .before .before .before .before .before .items .last .1 .1 .1 .1 .1 .1 .0) _) (c .before .before .end .given .1) (c .before .before .before .before .before .before .items .ensures))
 
 same-length-2 : tie.Need-same-length-2
 same-length-2 c = search needs
 
 returns-2 : tie.Need-returns-2
-returns-2 c = group-not-told (variablesOf (c .before .before .before .before .before .before .before .before .before .before .before .before .before .before .args .kinds .now)) (tablesOf (c .before .before .before .before .before .before .before .before .before .before .before .before .before .before .args .rows .now) (c .before .before .before .before .before .before .before .before .before .before .before .before .before .before .args .columns .now)) (c .before .before .before .before .before .before .before .before .before .before .before .before .before .before .args .group) (c .before .before .before .before .before .before .before .before .before .before .before .before .before .before .args .model .now) (c .before .before .before .before .before .before .before .before .before .before .before .before .before .before .args .start) (c .before .before .before .before .before .before .before .before .before .before .before .before .before .before .args .outline .now) (c .before .before .before .before .before .items .last .1 .1 .1 .1 .1 .1 .0) (c .before .before .before .before .before .before .before .before .offsets-from .result) (c .before .before .before .before .before .before .before .before .offsets-from .result + c .before .before .before .before .before .before .before .most .result - c .before .before .before .before .before .before .before .before .offsets-from .result) (c .before .before .before .before .before .before .before .before .offsets-from .ensures) (omega (arith, c .before .before .before .before .before .before .before .before .offsets-from .ensures, c .before .before .before .before .before .before .before .most .ensures)) (c .before .before .before .before .before .before .before .before .before .before .before .before .before .before .pre .1) (c .before .before .before .before .outline .given .0) (subst (ItemsTold (itemOf (variablesOf (c .before .before .before .before .before .before .before .before .before .before .before .before .before .before .args .kinds .now)) (tablesOf (c .before .before .before .before .before .before .before .before .before .before .before .before .before .before .args .rows .now) (c .before .before .before .before .before .before .before .before .before .before .before .before .before .before .args .columns .now)) (c .before .before .before .before .before .before .before .before .before .before .before .before .before .before .args .group)) (c .before .before .before .before .before .before .before .before .before .before .before .before .before .before .args .model .now) (c .before .before .before .before .before .items .last .1 .1 .1 .1 .1 .1 .0) _) (c .before .t .given .1) (c .before .before .before .before .before .items .ensures))
+returns-2 c =
+    let start = c .before .before .before .before .before .before .before .before .before .before .before .before .before .before in
+    group-not-told (variablesOf (start .args .kinds .now)) (tablesOf (start .args .rows .now) (start .args .columns .now)) (start .args .group) (start .args .model .now) (start .args .start) (start .args .outline .now) (c .before .before .before .before .before .items .last .1 .1 .1 .1 .1 .1 .0) (c .before .before .before .before .before .before .before .before .offsets-from .result) (c .before .before .before .before .before .before .before .before .offsets-from .result + c .before .before .before .before .before .before .before .most .result - c .before .before .before .before .before .before .before .before .offsets-from .result) (c .before .before .before .before .before .before .before .before .offsets-from .ensures) (omega (arith, c .before .before .before .before .before .before .before .before .offsets-from .ensures, c .before .before .before .before .before .before .before .most .ensures)) (start .pre .1) (c .before .before .before .before .outline .given .0) (subst (ItemsTold (itemOf (variablesOf (start .args .kinds .now)) (tablesOf (start .args .rows .now) (start .args .columns .now)) (start .args .group)) (start .args .model .now) (c .before .before .before .before .before .items .last .1 .1 .1 .1 .1 .1 .0) _) (c .before .t .given .1) (c .before .before .before .before .before .items .ensures))
 
 pub group-spec : {M : Type 1} → statement M
 group-spec =

@@ -19,7 +19,9 @@ same-length : tie.Need-same-length
 same-length c = search needs
 
 returns : tie.Need-returns
-returns c = (c .before .before .before .before .group .ensures .0, stop-first (c .before .before .before .before .before .before .before .before .before .before .before .args .kinds .now) (c .before .before .before .before .before .before .before .before .before .before .before .args .rows .now) (c .before .before .before .before .before .before .before .before .before .before .before .args .columns .now) (c .before .before .before .before .before .before .before .before .before .before .before .args .model .now) (c .before .before .before .before .before .before .before .before .before .before .before .args .start) (c .before .before .before .before .before .before .before .before .before .before .before .args .outline .now) (c .before .before .before .before .group .last .1 .1 .1 .1 .1 .1 .0) (c .enum-told .given .1) (c .before .before .before .before .group .ensures .1))
+returns c =
+    let start = c .before .before .before .before .before .before .before .before .before .before .before in
+    (c .before .before .before .before .group .ensures .0, stop-first (start .args .kinds .now) (start .args .rows .now) (start .args .columns .now) (start .args .model .now) (start .args .start) (start .args .outline .now) (c .before .before .before .before .group .last .1 .1 .1 .1 .1 .1 .0) (c .enum-told .given .1) (c .before .before .before .before .group .ensures .1))
 
 group-requires-2 : tie.Need-group-requires-2
 group-requires-2 c κs = search needs
@@ -34,7 +36,9 @@ same-length-2 : tie.Need-same-length-2
 same-length-2 c = search needs
 
 returns-2 : tie.Need-returns-2
-returns-2 c = (c .before .before .before .before .group2 .ensures .0 ∙ c .before .before .before .before .before .before .before .before .before .before .before .group .ensures .0, stop-second (c .before .before .before .before .before .before .before .before .before .before .before .before .before .before .before .before .before .before .args .kinds .now) (c .before .before .before .before .before .before .before .before .before .before .before .before .before .before .before .before .before .before .args .rows .now) (c .before .before .before .before .before .before .before .before .before .before .before .before .before .before .before .before .before .before .args .columns .now) (c .before .before .before .before .before .before .before .before .before .before .before .before .before .before .before .before .before .before .args .model .now) (c .before .before .before .before .before .before .before .before .before .before .before .before .before .before .before .before .before .before .args .start) (c .before .before .before .before .before .before .before .before .before .before .before .before .before .before .before .before .before .before .args .outline .now) (c .before .before .before .before .before .before .before .before .before .before .before .group .last .1 .1 .1 .1 .1 .1 .0) (c .before .before .before .before .before .before .before .transitions .given .1) (c .before .before .before .before .before .before .before .before .before .before .before .group .ensures .1) (c .before .before .before .before .group2 .last .1 .1 .1 .1 .1 .1 .0) (c .enum-told2 .given .1) (c .before .before .before .before .group2 .ensures .1))
+returns-2 c =
+    let start = c .before .before .before .before .before .before .before .before .before .before .before .before .before .before .before .before .before .before in
+    (c .before .before .before .before .group2 .ensures .0 ∙ c .before .before .before .before .before .before .before .before .before .before .before .group .ensures .0, stop-second (start .args .kinds .now) (start .args .rows .now) (start .args .columns .now) (start .args .model .now) (start .args .start) (start .args .outline .now) (c .before .before .before .before .before .before .before .before .before .before .before .group .last .1 .1 .1 .1 .1 .1 .0) (c .before .before .before .before .before .before .before .transitions .given .1) (c .before .before .before .before .before .before .before .before .before .before .before .group .ensures .1) (c .before .before .before .before .group2 .last .1 .1 .1 .1 .1 .1 .0) (c .enum-told2 .given .1) (c .before .before .before .before .group2 .ensures .1))
 
 group-requires-3 : tie.Need-group-requires-3
 group-requires-3 c κs = search needs
@@ -49,10 +53,14 @@ same-length-3 : tie.Need-same-length-3
 same-length-3 c = search needs
 
 returns-3 : tie.Need-returns-3
-returns-3 c = (c .before .before .before .before .group3 .ensures .0 ∙ (c .before .before .before .before .before .before .before .before .before .before .before .group2 .ensures .0 ∙ c .before .before .before .before .before .before .before .before .before .before .before .before .before .before .before .before .before .before .group .ensures .0), stop-third (c .before .before .before .before .before .before .before .before .before .before .before .before .before .before .before .before .before .before .before .before .before .before .before .before .before .args .kinds .now) (c .before .before .before .before .before .before .before .before .before .before .before .before .before .before .before .before .before .before .before .before .before .before .before .before .before .args .rows .now) (c .before .before .before .before .before .before .before .before .before .before .before .before .before .before .before .before .before .before .before .before .before .before .before .before .before .args .columns .now) (c .before .before .before .before .before .before .before .before .before .before .before .before .before .before .before .before .before .before .before .before .before .before .before .before .before .args .model .now) (c .before .before .before .before .before .before .before .before .before .before .before .before .before .before .before .before .before .before .before .before .before .before .before .before .before .args .start) (c .before .before .before .before .before .before .before .before .before .before .before .before .before .before .before .before .before .before .before .before .before .before .before .before .before .args .outline .now) (c .before .before .before .before .before .before .before .before .before .before .before .before .before .before .before .before .before .before .group .last .1 .1 .1 .1 .1 .1 .0) (c .before .before .before .before .before .before .before .before .before .before .before .before .before .before .transitions .given .1) (c .before .before .before .before .before .before .before .before .before .before .before .before .before .before .before .before .before .before .group .ensures .1) (c .before .before .before .before .before .before .before .before .before .before .before .group2 .last .1 .1 .1 .1 .1 .1 .0) (c .before .before .before .before .before .before .before .base-cases .given .1) (c .before .before .before .before .before .before .before .before .before .before .before .group2 .ensures .1) (c .before .before .before .before .group3 .last .1 .1 .1 .1 .1 .1 .0) (c .enum-told3 .given .1) (c .before .before .before .before .group3 .ensures .1))
+returns-3 c =
+    let start = c .before .before .before .before .before .before .before .before .before .before .before .before .before .before .before .before .before .before .before .before .before .before .before .before .before in
+    (c .before .before .before .before .group3 .ensures .0 ∙ (c .before .before .before .before .before .before .before .before .before .before .before .group2 .ensures .0 ∙ c .before .before .before .before .before .before .before .before .before .before .before .before .before .before .before .before .before .before .group .ensures .0), stop-third (start .args .kinds .now) (start .args .rows .now) (start .args .columns .now) (start .args .model .now) (start .args .start) (start .args .outline .now) (c .before .before .before .before .before .before .before .before .before .before .before .before .before .before .before .before .before .before .group .last .1 .1 .1 .1 .1 .1 .0) (c .before .before .before .before .before .before .before .before .before .before .before .before .before .before .transitions .given .1) (c .before .before .before .before .before .before .before .before .before .before .before .before .before .before .before .before .before .before .group .ensures .1) (c .before .before .before .before .before .before .before .before .before .before .before .group2 .last .1 .1 .1 .1 .1 .1 .0) (c .before .before .before .before .before .before .before .base-cases .given .1) (c .before .before .before .before .before .before .before .before .before .before .before .group2 .ensures .1) (c .before .before .before .before .group3 .last .1 .1 .1 .1 .1 .1 .0) (c .enum-told3 .given .1) (c .before .before .before .before .group3 .ensures .1))
 
 group-requires-4 : tie.Need-group-requires-4
-group-requires-4 c κs = (c .before .before .before .before .before .before .before .before .before .before .before .before .before .before .before .before .before .before .before .before .before .before .before .before .before .before .before .pre .0, omega (arith, c .before .before .before .before .before .before .before .before .before .before .before .before .before .before .before .before .before .before .before .before .group .ensures .0, c .before .before .before .before .before .before .before .before .before .before .before .before .before .group2 .ensures .0, c .before .before .before .before .before .before .group3 .ensures .0, c .before .before .before .before .before .before .before .before .before .before .before .before .before .before .before .before .before .before .before .before .before .before .before .before .before .before .before .pre .1))
+group-requires-4 c κs =
+    let start = c .before .before .before .before .before .before .before .before .before .before .before .before .before .before .before .before .before .before .before .before .before .before .before .before .before .before .before in
+    (start .pre .0, omega (arith, c .before .before .before .before .before .before .before .before .before .before .before .before .before .before .before .before .before .before .before .before .group .ensures .0, c .before .before .before .before .before .before .before .before .before .before .before .before .before .group2 .ensures .0, c .before .before .before .before .before .before .group3 .ensures .0, start .pre .1))
 
 enum-known-bounds : tie.Need-enum-known-bounds
 enum-known-bounds c = search needs
@@ -64,7 +72,9 @@ same-length-4 : tie.Need-same-length-4
 same-length-4 c = search needs
 
 returns-4 : tie.Need-returns-4
-returns-4 c = (c .before .before .before .before .group4 .ensures .0 ∙ (c .before .before .before .before .before .before .before .before .before .before .before .group3 .ensures .0 ∙ (c .before .before .before .before .before .before .before .before .before .before .before .before .before .before .before .before .before .before .group2 .ensures .0 ∙ c .before .before .before .before .before .before .before .before .before .before .before .before .before .before .before .before .before .before .before .before .before .before .before .before .before .group .ensures .0)), stop-fourth (c .before .before .before .before .before .before .before .before .before .before .before .before .before .before .before .before .before .before .before .before .before .before .before .before .before .before .before .before .before .before .before .before .args .kinds .now) (c .before .before .before .before .before .before .before .before .before .before .before .before .before .before .before .before .before .before .before .before .before .before .before .before .before .before .before .before .before .before .before .before .args .rows .now) (c .before .before .before .before .before .before .before .before .before .before .before .before .before .before .before .before .before .before .before .before .before .before .before .before .before .before .before .before .before .before .before .before .args .columns .now) (c .before .before .before .before .before .before .before .before .before .before .before .before .before .before .before .before .before .before .before .before .before .before .before .before .before .before .before .before .before .before .before .before .args .model .now) (c .before .before .before .before .before .before .before .before .before .before .before .before .before .before .before .before .before .before .before .before .before .before .before .before .before .before .before .before .before .before .before .before .args .start) (c .before .before .before .before .before .before .before .before .before .before .before .before .before .before .before .before .before .before .before .before .before .before .before .before .before .before .before .before .before .before .before .before .args .outline .now) (c .before .before .before .before .before .before .before .before .before .before .before .before .before .before .before .before .before .before .before .before .before .before .before .before .before .group .last .1 .1 .1 .1 .1 .1 .0) (c .before .before .before .before .before .before .before .before .before .before .before .before .before .before .before .before .before .before .before .before .before .transitions .given .1) (c .before .before .before .before .before .before .before .before .before .before .before .before .before .before .before .before .before .before .before .before .before .before .before .before .before .group .ensures .1) (c .before .before .before .before .before .before .before .before .before .before .before .before .before .before .before .before .before .before .group2 .last .1 .1 .1 .1 .1 .1 .0) (c .before .before .before .before .before .before .before .before .before .before .before .before .before .before .base-cases .given .1) (c .before .before .before .before .before .before .before .before .before .before .before .before .before .before .before .before .before .before .group2 .ensures .1) (c .before .before .before .before .before .before .before .before .before .before .before .group3 .last .1 .1 .1 .1 .1 .1 .0) (c .before .before .before .before .before .before .before .constraints .given .1) (c .before .before .before .before .before .before .before .before .before .before .before .group3 .ensures .1) (c .before .before .before .before .group4 .last .1 .1 .1 .1 .1 .1 .0) (c .enum-told4 .given .1) (c .before .before .before .before .group4 .ensures .1))
+returns-4 c =
+    let start = c .before .before .before .before .before .before .before .before .before .before .before .before .before .before .before .before .before .before .before .before .before .before .before .before .before .before .before .before .before .before .before .before in
+    (c .before .before .before .before .group4 .ensures .0 ∙ (c .before .before .before .before .before .before .before .before .before .before .before .group3 .ensures .0 ∙ (c .before .before .before .before .before .before .before .before .before .before .before .before .before .before .before .before .before .before .group2 .ensures .0 ∙ c .before .before .before .before .before .before .before .before .before .before .before .before .before .before .before .before .before .before .before .before .before .before .before .before .before .group .ensures .0)), stop-fourth (start .args .kinds .now) (start .args .rows .now) (start .args .columns .now) (start .args .model .now) (start .args .start) (start .args .outline .now) (c .before .before .before .before .before .before .before .before .before .before .before .before .before .before .before .before .before .before .before .before .before .before .before .before .before .group .last .1 .1 .1 .1 .1 .1 .0) (c .before .before .before .before .before .before .before .before .before .before .before .before .before .before .before .before .before .before .before .before .before .transitions .given .1) (c .before .before .before .before .before .before .before .before .before .before .before .before .before .before .before .before .before .before .before .before .before .before .before .before .before .group .ensures .1) (c .before .before .before .before .before .before .before .before .before .before .before .before .before .before .before .before .before .before .group2 .last .1 .1 .1 .1 .1 .1 .0) (c .before .before .before .before .before .before .before .before .before .before .before .before .before .before .base-cases .given .1) (c .before .before .before .before .before .before .before .before .before .before .before .before .before .before .before .before .before .before .group2 .ensures .1) (c .before .before .before .before .before .before .before .before .before .before .before .group3 .last .1 .1 .1 .1 .1 .1 .0) (c .before .before .before .before .before .before .before .constraints .given .1) (c .before .before .before .before .before .before .before .before .before .before .before .group3 .ensures .1) (c .before .before .before .before .group4 .last .1 .1 .1 .1 .1 .1 .0) (c .enum-told4 .given .1) (c .before .before .before .before .group4 .ensures .1))
 
 finish-requires : tie.Need-finish-requires
 finish-requires c κs = search needs
@@ -73,7 +83,9 @@ same-length-5 : tie.Need-same-length-5
 same-length-5 c = c .before .before .before .before .before .before .group4 .ensures .0 ∙ (c .before .before .before .before .before .before .before .before .before .before .before .before .before .group3 .ensures .0 ∙ (c .before .before .before .before .before .before .before .before .before .before .before .before .before .before .before .before .before .before .before .before .group2 .ensures .0 ∙ c .before .before .before .before .before .before .before .before .before .before .before .before .before .before .before .before .before .before .before .before .before .before .before .before .before .before .before .group .ensures .0))
 
 returns-5 : tie.Need-returns-5
-returns-5 c = (c .before .before .before .before .before .before .group4 .ensures .0 ∙ (c .before .before .before .before .before .before .before .before .before .before .before .before .before .group3 .ensures .0 ∙ (c .before .before .before .before .before .before .before .before .before .before .before .before .before .before .before .before .before .before .before .before .group2 .ensures .0 ∙ c .before .before .before .before .before .before .before .before .before .before .before .before .before .before .before .before .before .before .before .before .before .before .before .before .before .before .before .group .ensures .0)), stop-last (c .before .before .before .before .before .before .before .before .before .before .before .before .before .before .before .before .before .before .before .before .before .before .before .before .before .before .before .before .before .before .before .before .before .before .args .kinds .now) (c .before .before .before .before .before .before .before .before .before .before .before .before .before .before .before .before .before .before .before .before .before .before .before .before .before .before .before .before .before .before .before .before .before .before .args .rows .now) (c .before .before .before .before .before .before .before .before .before .before .before .before .before .before .before .before .before .before .before .before .before .before .before .before .before .before .before .before .before .before .before .before .before .before .args .columns .now) (c .before .before .before .before .before .before .before .before .before .before .before .before .before .before .before .before .before .before .before .before .before .before .before .before .before .before .before .before .before .before .before .before .before .before .args .model .now) (c .before .before .before .before .before .before .before .before .before .before .before .before .before .before .before .before .before .before .before .before .before .before .before .before .before .before .before .before .before .before .before .before .before .before .args .start) (c .before .before .before .before .before .before .before .before .before .before .before .before .before .before .before .before .before .before .before .before .before .before .before .before .before .before .before .before .before .before .before .before .before .before .args .outline .now) (c .before .before .before .before .before .before .before .before .before .before .before .before .before .before .before .before .before .before .before .before .before .before .before .before .before .before .before .group .last .1 .1 .1 .1 .1 .1 .0) (c .before .before .before .before .before .before .before .before .before .before .before .before .before .before .before .before .before .before .before .before .before .before .before .transitions .given .1) (c .before .before .before .before .before .before .before .before .before .before .before .before .before .before .before .before .before .before .before .before .before .before .before .before .before .before .before .group .ensures .1) (c .before .before .before .before .before .before .before .before .before .before .before .before .before .before .before .before .before .before .before .before .group2 .last .1 .1 .1 .1 .1 .1 .0) (c .before .before .before .before .before .before .before .before .before .before .before .before .before .before .before .before .base-cases .given .1) (c .before .before .before .before .before .before .before .before .before .before .before .before .before .before .before .before .before .before .before .before .group2 .ensures .1) (c .before .before .before .before .before .before .before .before .before .before .before .before .before .group3 .last .1 .1 .1 .1 .1 .1 .0) (c .before .before .before .before .before .before .before .before .before .constraints .given .1) (c .before .before .before .before .before .before .before .before .before .before .before .before .before .group3 .ensures .1) (c .before .before .before .before .before .before .group4 .last .1 .1 .1 .1 .1 .1 .0) (c .before .before .bounds .given .1) (c .before .before .before .before .before .before .group4 .ensures .1) (c .finish .ensures))
+returns-5 c =
+    let start = c .before .before .before .before .before .before .before .before .before .before .before .before .before .before .before .before .before .before .before .before .before .before .before .before .before .before .before .before .before .before .before .before .before .before in
+    (c .before .before .before .before .before .before .group4 .ensures .0 ∙ (c .before .before .before .before .before .before .before .before .before .before .before .before .before .group3 .ensures .0 ∙ (c .before .before .before .before .before .before .before .before .before .before .before .before .before .before .before .before .before .before .before .before .group2 .ensures .0 ∙ c .before .before .before .before .before .before .before .before .before .before .before .before .before .before .before .before .before .before .before .before .before .before .before .before .before .before .before .group .ensures .0)), stop-last (start .args .kinds .now) (start .args .rows .now) (start .args .columns .now) (start .args .model .now) (start .args .start) (start .args .outline .now) (c .before .before .before .before .before .before .before .before .before .before .before .before .before .before .before .before .before .before .before .before .before .before .before .before .before .before .before .group .last .1 .1 .1 .1 .1 .1 .0) (c .before .before .before .before .before .before .before .before .before .before .before .before .before .before .before .before .before .before .before .before .before .before .before .transitions .given .1) (c .before .before .before .before .before .before .before .before .before .before .before .before .before .before .before .before .before .before .before .before .before .before .before .before .before .before .before .group .ensures .1) (c .before .before .before .before .before .before .before .before .before .before .before .before .before .before .before .before .before .before .before .before .group2 .last .1 .1 .1 .1 .1 .1 .0) (c .before .before .before .before .before .before .before .before .before .before .before .before .before .before .before .before .base-cases .given .1) (c .before .before .before .before .before .before .before .before .before .before .before .before .before .before .before .before .before .before .before .before .group2 .ensures .1) (c .before .before .before .before .before .before .before .before .before .before .before .before .before .group3 .last .1 .1 .1 .1 .1 .1 .0) (c .before .before .before .before .before .before .before .before .before .constraints .given .1) (c .before .before .before .before .before .before .before .before .before .before .before .before .before .group3 .ensures .1) (c .before .before .before .before .before .before .group4 .last .1 .1 .1 .1 .1 .1 .0) (c .before .before .bounds .given .1) (c .before .before .before .before .before .before .group4 .ensures .1) (c .finish .ensures))
 
 pub groups-spec : {M : Type 1} → statement M
 groups-spec =

@@ -13,10 +13,14 @@ add-t11 : tie.Need-add-t11
 add-t11 c = search needs
 
 returns : tie.Need-returns
-returns c = sym (ap placeOf (command-there (c .before .before .before .args .c) (c .before .before .before .args .at) (c .before .before .before .args .model .now) (c .before .before .if1 .taken) (c .if2 .taken)))
+returns c =
+    let start = c .before .before .before in
+    sym (ap placeOf (command-there (start .args .c) (start .args .at) (start .args .model .now) (c .before .before .if1 .taken) (c .if2 .taken)))
 
 returns-2 : tie.Need-returns-2
-returns-2 c = sym (ap placeOf (command-other (c .before .before .before .args .c) (c .before .before .before .args .at) (c .before .before .before .args .model .now) (c .before .before .if1 .taken) (c .if2 .left)))
+returns-2 c =
+    let start = c .before .before .before in
+    sym (ap placeOf (command-other (start .args .c) (start .args .at) (start .args .model .now) (c .before .before .if1 .taken) (c .if2 .left)))
 
 returns-3 : tie.Need-returns-3
 returns-3 c = sym (ap placeOf (command-early (c .before .args .c) (c .before .args .at) (c .before .args .model .now) (c .if1 .left)))

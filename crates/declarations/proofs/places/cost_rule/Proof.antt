@@ -16,19 +16,27 @@ shared-slice-read-if2 : tie.Need-shared-slice-read-if2
 shared-slice-read-if2 c = search needs
 
 returns-2 : tie.Need-returns-2
-returns-2 c = sym (ap placeOf (refuses-at costRule 0 (c .before .before .before .before .args .model .now) (rule-cut (c .before .before .before .before .args .model .now) (c .if3 .taken) (c .before .if2 .taken))))
+returns-2 c =
+    let start = c .before .before .before .before in
+    sym (ap placeOf (refuses-at costRule 0 (start .args .model .now) (rule-cut (start .args .model .now) (c .if3 .taken) (c .before .if2 .taken))))
 
 shared-slice-read-if4 : tie.Need-shared-slice-read-if4
 shared-slice-read-if4 c = search needs
 
 returns-3 : tie.Need-returns-3
-returns-3 c = sym (ap placeOf (reads-at costRule 0 (c .before .before .before .before .before .before .args .model .now) (rule-good (c .before .before .before .before .before .before .args .model .now) (omega (arith, c .before .before .before .before .before .if1 .left, c .before .before .if3 .left)) (c .before .before .before .if2 .taken) (c .if4 .taken))))
+returns-3 c =
+    let start = c .before .before .before .before .before .before in
+    sym (ap placeOf (reads-at costRule 0 (start .args .model .now) (rule-good (start .args .model .now) (omega (arith, c .before .before .before .before .before .if1 .left, c .before .before .if3 .left)) (c .before .before .before .if2 .taken) (c .if4 .taken))))
 
 returns-4 : tie.Need-returns-4
-returns-4 c = sym (ap placeOf (refuses-at costRule 0 (c .before .before .before .before .before .before .args .model .now) (rule-beyond (c .before .before .before .before .before .before .args .model .now) (omega (arith, c .before .before .before .before .before .if1 .left, c .before .before .if3 .left)) (c .before .before .before .if2 .taken) (c .if4 .left))))
+returns-4 c =
+    let start = c .before .before .before .before .before .before in
+    sym (ap placeOf (refuses-at costRule 0 (start .args .model .now) (rule-beyond (start .args .model .now) (omega (arith, c .before .before .before .before .before .if1 .left, c .before .before .if3 .left)) (c .before .before .before .if2 .taken) (c .if4 .left))))
 
 returns-5 : tie.Need-returns-5
-returns-5 c = sym (ap placeOf (refuses-at costRule 0 (c .before .before .before .args .model .now) (rule-other (c .before .before .before .args .model .now) (omega (arith, c .before .before .if1 .left)) (c .if2 .left))))
+returns-5 c =
+    let start = c .before .before .before in
+    sym (ap placeOf (refuses-at costRule 0 (start .args .model .now) (rule-other (start .args .model .now) (omega (arith, c .before .before .if1 .left)) (c .if2 .left))))
 
 pub cost-rule-spec : {M : Type 1} → statement M
 cost-rule-spec =

@@ -31,16 +31,22 @@ loop-less : tie.Need-loop-less Inv-loop μ-loop
 loop-less c = omega (arith, c .before .before .before .before .loop-test .taken)
 
 loop-again : tie.Need-loop-again Inv-loop μ-loop
-loop-again c = entries-more (c .before .before .before .before .before .before .before .args .model .now) (c .before .before .before .before .before .loop .at) (c .before .before .before .before .before .loop .left) (c .before .before .before .before .loop-test .taken) (sym (c .before .p .given .1) ∙ c .before .before .before .entry .ensures) ∙ c .before .before .before .before .before .loop .inv
+loop-again c =
+    let turn = c .before .before .before .before .before .loop in
+    entries-more (c .before .before .before .before .before .before .before .args .model .now) (turn .at) (turn .left) (c .before .before .before .before .loop-test .taken) (sym (c .before .p .given .1) ∙ c .before .before .before .entry .ensures) ∙ turn .inv
 
 enum-known-t : tie.Need-enum-known-t Inv-loop μ-loop
 enum-known-t c = search needs
 
 returns : tie.Need-returns Inv-loop μ-loop
-returns c = entries-refused (c .before .before .before .before .before .before .before .args .model .now) (c .before .before .before .before .before .loop .at) (c .before .before .before .before .before .loop .left) (c .before .before .before .before .loop-test .taken) (sym (c .before .t .given .1) ∙ c .before .before .before .entry .ensures) ∙ c .before .before .before .before .before .loop .inv
+returns c =
+    let turn = c .before .before .before .before .before .loop in
+    entries-refused (c .before .before .before .before .before .before .before .args .model .now) (turn .at) (turn .left) (c .before .before .before .before .loop-test .taken) (sym (c .before .t .given .1) ∙ c .before .before .before .entry .ensures) ∙ turn .inv
 
 returns-2 : tie.Need-returns-2 Inv-loop μ-loop
-returns-2 c = let z : c .before .loop .left ≡ 0 = omega (arith, c .loop-test .left) in no-entries (c .before .before .before .args .model .now) (c .before .loop .at) ∙ (ap (λ (n : ℕ). placeOf (readAt (entries n) (c .before .loop .at) (c .before .before .before .args .model .now))) (sym z) ∙ c .before .loop .inv)
+returns-2 c =
+    let start = c .before .before .before in
+    let z : c .before .loop .left ≡ 0 = omega (arith, c .loop-test .left) in no-entries (start .args .model .now) (c .before .loop .at) ∙ (ap (λ (n : ℕ). placeOf (readAt (entries n) (c .before .loop .at) (start .args .model .now))) (sym z) ∙ c .before .loop .inv)
 
 pub entries-spec : {M : Type 1} → statement M
 entries-spec =

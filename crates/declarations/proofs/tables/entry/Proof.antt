@@ -14,10 +14,14 @@ add-t14 : tie.Need-add-t14
 add-t14 c = search needs
 
 returns : tie.Need-returns
-returns c = entry-good (c .before .before .before .before .args .model .now) (c .before .before .before .before .args .at) (c .before .before .before .if1 .taken) (c .before .if2 .taken) (c .if3 .taken)
+returns c =
+    let start = c .before .before .before .before in
+    entry-good (start .args .model .now) (start .args .at) (c .before .before .before .if1 .taken) (c .before .if2 .taken) (c .if3 .taken)
 
 returns-2 : tie.Need-returns-2
-returns-2 c = entry-cut (c .before .before .before .before .args .model .now) (c .before .before .before .before .args .at) (c .before .before .before .if1 .taken) (c .before .if2 .taken) (c .if3 .left)
+returns-2 c =
+    let start = c .before .before .before .before in
+    entry-cut (start .args .model .now) (start .args .at) (c .before .before .before .if1 .taken) (c .before .if2 .taken) (c .if3 .left)
 
 returns-3 : tie.Need-returns-3
 returns-3 c = entry-other (c .before .before .before .args .model .now) (c .before .before .before .args .at) (c .before .before .if1 .taken) (c .if2 .left)

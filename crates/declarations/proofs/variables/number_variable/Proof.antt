@@ -22,7 +22,9 @@ part-integer-end : tie.Need-part-integer-end
 part-integer-end c = search needs
 
 integer-requires : tie.Need-integer-requires
-integer-requires c κs = rw (suffix 1 (c .before .before .before .before .before .args .e .now)) (omega (arith, length-drop 1 (c .before .before .before .before .before .args .e .now), c .before .before .before .if1 .taken))
+integer-requires c κs =
+    let start = c .before .before .before .before .before in
+    rw (suffix 1 (start .args .e .now)) (omega (arith, length-drop 1 (start .args .e .now), c .before .before .before .if1 .taken))
 
 biased-requires : tie.Need-biased-requires
 biased-requires c κs = rw (back {z = c .integer .result} (record { sfits = c .integer .ok })) (c .integer .ensures .1)

@@ -31,13 +31,17 @@ members-fit-requires : tie.Need-members-fit-requires
 members-fit-requires c κs = search needs
 
 add-t14 : tie.Need-add-t14
-add-t14 c = let h = and-both (isCount (getD (c .before .before .before .before .before .before .before .args .e .now) 0 0)) (ltb (c .before .before .long .result) (2 ^ getD (c .before .before .before .before .before .before .before .args .e .now) 0 0)) (sym (c .before .members-fit .ensures) ∙ c .if2 .taken) in omega (arith, count-bounds (getD (c .before .before .before .before .before .before .before .args .e .now) 0 0) (h .0))
+add-t14 c =
+    let start = c .before .before .before .before .before .before .before in
+    let h = and-both (isCount (getD (start .args .e .now) 0 0)) (ltb (c .before .before .long .result) (2 ^ getD (start .args .e .now) 0 0)) (sym (c .before .members-fit .ensures) ∙ c .if2 .taken) in omega (arith, count-bounds (getD (start .args .e .now) 0 0) (h .0))
 
 wide-requires : tie.Need-wide-requires
 wide-requires c κs = search needs
 
 full-requires : tie.Need-full-requires
-full-requires c κs = let h = and-both (isCount (getD (c .before .before .before .before .before .before .before .before .args .e .now) 0 0)) (ltb (c .before .before .before .long .result) (2 ^ getD (c .before .before .before .before .before .before .before .before .args .e .now) 0 0)) (sym (c .before .before .members-fit .ensures) ∙ c .before .if2 .taken) in omega (arith, c .wide .ensures .0, count-bounds (getD (c .before .before .before .before .before .before .before .before .args .e .now) 0 0) (h .0))
+full-requires c κs =
+    let start = c .before .before .before .before .before .before .before .before in
+    let h = and-both (isCount (getD (start .args .e .now) 0 0)) (ltb (c .before .before .before .long .result) (2 ^ getD (start .args .e .now) 0 0)) (sym (c .before .before .members-fit .ensures) ∙ c .before .if2 .taken) in omega (arith, c .wide .ensures .0, count-bounds (getD (start .args .e .now) 0 0) (h .0))
 
 returns : tie.Need-returns
 returns c = let e = c .before .before .before .before .before .before .before .before .before .args .e .now in

@@ -20,7 +20,9 @@ number-variable-requires : tie.Need-number-variable-requires
 number-variable-requires c κs = search needs
 
 returns-3 : tie.Need-returns-3
-returns-3 c = rw (variable-number (c .before .before .before .before .args .b) (c .before .before .before .before .args .e .now) (c .before .before .if1 .left) (c .before .if2 .left)) (c .number-variable .ensures)
+returns-3 c =
+    let start = c .before .before .before .before in
+    rw (variable-number (start .args .b) (start .args .e .now) (c .before .before .if1 .left) (c .before .if2 .left)) (c .number-variable .ensures)
 
 pub variable-spec : {M : Type 1} → statement M
 variable-spec =

@@ -13,7 +13,9 @@ abbrev μ-loop : tie.MeasureT-loop
 μ-loop model start kinds₀ words₀ at₀ n₀ kinds words at n = 16 - n
 
 loop-holds : tie.Need-loop-holds Inv-loop μ-loop
-loop-holds c = no-variables (c .before .before .before .args .model .now) (c .before .before .before .args .start) (c .before .before .before .args .kinds .now) (c .before .before .before .args .words .now) (c .before .before .before .pre .0) (c .before .before .before .pre .1)
+loop-holds c =
+    let start = c .before .before .before in
+    no-variables (start .args .model .now) (start .args .start) (start .args .kinds .now) (start .args .words .now) (start .pre .0) (start .pre .1)
 
 byte-at-requires : tie.Need-byte-at-requires Inv-loop μ-loop
 byte-at-requires c κs = search needs
@@ -22,16 +24,25 @@ declares-variable-requires : tie.Need-declares-variable-requires Inv-loop μ-loo
 declares-variable-requires c κs = search needs
 
 add-behind : tie.Need-add-behind Inv-loop μ-loop
-add-behind c = record { fits = let i = variable-inside (c .before .before .before .before .before .before .before .args .model .now) (c .before .before .before .loop .at) (variable-due (c .before .before .before .before .before .before .before .args .model .now) (c .before .before .before .loop .at) (c .before .before .byte-at .ensures) (c .before .declares-variable .ensures) (c .if1 .taken)) in omega (arith, c .before .before .before .before .before .before .before .good) }
+add-behind c =
+    let start = c .before .before .before .before .before .before .before in
+    let turn = c .before .before .before .loop in
+    record { fits = let i = variable-inside (start .args .model .now) (turn .at) (variable-due (start .args .model .now) (turn .at) (c .before .before .byte-at .ensures) (c .before .declares-variable .ensures) (c .if1 .taken)) in omega (arith, start .good) }
 
 byte-at-requires-2 : tie.Need-byte-at-requires-2 Inv-loop μ-loop
 byte-at-requires-2 c κs = search needs
 
 sub-variable : tie.Need-sub-variable Inv-loop μ-loop
-sub-variable c = let i = variable-inside (c .before .before .before .before .before .before .before .before .args .model .now) (c .before .before .before .before .loop .at) (variable-due (c .before .before .before .before .before .before .before .before .args .model .now) (c .before .before .before .before .loop .at) (c .before .before .before .byte-at .ensures) (c .before .before .declares-variable .ensures) (c .before .if1 .taken)) in omega arith
+sub-variable c =
+    let start = c .before .before .before .before .before .before .before .before in
+    let turn = c .before .before .before .before .loop in
+    let i = variable-inside (start .args .model .now) (turn .at) (variable-due (start .args .model .now) (turn .at) (c .before .before .before .byte-at .ensures) (c .before .before .declares-variable .ensures) (c .before .if1 .taken)) in omega arith
 
 part-variable-start : tie.Need-part-variable-start Inv-loop μ-loop
-part-variable-start c = let i = variable-inside (c .before .before .before .before .before .before .before .before .args .model .now) (c .before .before .before .before .loop .at) (variable-due (c .before .before .before .before .before .before .before .before .args .model .now) (c .before .before .before .before .loop .at) (c .before .before .before .byte-at .ensures) (c .before .before .declares-variable .ensures) (c .before .if1 .taken)) in omega arith
+part-variable-start c =
+    let start = c .before .before .before .before .before .before .before .before in
+    let turn = c .before .before .before .before .loop in
+    let i = variable-inside (start .args .model .now) (turn .at) (variable-due (start .args .model .now) (turn .at) (c .before .before .before .byte-at .ensures) (c .before .before .declares-variable .ensures) (c .before .if1 .taken)) in omega arith
 
 part-variable-end : tie.Need-part-variable-end Inv-loop μ-loop
 part-variable-end c = search needs
@@ -49,16 +60,26 @@ same-length-2 : tie.Need-same-length-2 Inv-loop μ-loop
 same-length-2 c = omega (arith, c .before .before .before .before .before .before .before .before .before .before .loop .inv .words-length, c .before .before .before .before .before .before .before .before .before .before .before .before .before .before .pre .1)
 
 returns : tie.Need-returns Inv-loop μ-loop
-returns c = (c .before .before .before .before .before .before .before .before .before .before .loop .inv .kinds-length, c .before .before .before .before .before .before .before .before .before .before .loop .inv .words-length, variable-too-many (c .before .before .before .before .before .before .before .before .before .before .before .before .before .before .args .model .now) (c .before .before .before .before .before .before .before .before .before .before .before .before .before .before .args .start) (c .before .before .before .before .before .before .before .before .before .before .loop .kinds) (c .before .before .before .before .before .before .before .before .before .before .loop .words) (c .before .before .before .before .before .before .before .before .before .before .loop .at) (c .before .before .before .before .before .before .before .before .before .before .loop .n) (c .before .before .before .before .before .before .before .before .before .before .loop .inv) (variable-inside (c .before .before .before .before .before .before .before .before .before .before .before .before .before .before .args .model .now) (c .before .before .before .before .before .before .before .before .before .before .loop .at) (variable-due (c .before .before .before .before .before .before .before .before .before .before .before .before .before .before .args .model .now) (c .before .before .before .before .before .before .before .before .before .before .loop .at) (c .before .before .before .before .before .before .before .before .before .byte-at .ensures) (c .before .before .before .before .before .before .before .before .declares-variable .ensures) (c .before .before .before .before .before .before .before .if1 .taken))) (variable-due (c .before .before .before .before .before .before .before .before .before .before .before .before .before .before .args .model .now) (c .before .before .before .before .before .before .before .before .before .before .loop .at) (c .before .before .before .before .before .before .before .before .before .byte-at .ensures) (c .before .before .before .before .before .before .before .before .declares-variable .ensures) (c .before .before .before .before .before .before .before .if1 .taken)) (c .before .before .d .given .0 .0) (declared-here (c .before .before .before .before .before .before .before .before .before .before .before .before .before .before .args .model .now) (c .before .before .before .before .before .before .before .before .before .before .loop .at) (c .before .before .before .before .before .before .byte-at2 .ensures) (c .before .before .d .given .1) (c .before .before .before .before .variable .ensures)) (c .if2 .taken))
+returns c =
+    let start = c .before .before .before .before .before .before .before .before .before .before .before .before .before .before in
+    let turn = c .before .before .before .before .before .before .before .before .before .before .loop in
+    (turn .inv .kinds-length, turn .inv .words-length, variable-too-many (start .args .model .now) (start .args .start) (turn .kinds) (turn .words) (turn .at) (turn .n) (turn .inv) (variable-inside (start .args .model .now) (turn .at) (variable-due (start .args .model .now) (turn .at) (c .before .before .before .before .before .before .before .before .before .byte-at .ensures) (c .before .before .before .before .before .before .before .before .declares-variable .ensures) (c .before .before .before .before .before .before .before .if1 .taken))) (variable-due (start .args .model .now) (turn .at) (c .before .before .before .before .before .before .before .before .before .byte-at .ensures) (c .before .before .before .before .before .before .before .before .declares-variable .ensures) (c .before .before .before .before .before .before .before .if1 .taken)) (c .before .before .d .given .0 .0) (declared-here (start .args .model .now) (turn .at) (c .before .before .before .before .before .before .byte-at2 .ensures) (c .before .before .d .given .1) (c .before .before .before .before .variable .ensures)) (c .if2 .taken))
 
 slice-write-kinds : tie.Need-slice-write-kinds Inv-loop μ-loop
-slice-write-kinds c = omega (arith, c .before .before .before .before .before .before .before .before .before .before .loop .inv .kinds-length, c .before .before .before .before .before .before .before .before .before .before .loop .inv .few, c .if2 .left)
+slice-write-kinds c =
+    let turn = c .before .before .before .before .before .before .before .before .before .before .loop in
+    omega (arith, turn .inv .kinds-length, turn .inv .few, c .if2 .left)
 
 store-requires : tie.Need-store-requires Inv-loop μ-loop
-store-requires c κs = (c .before .before .before .before .before .before .before .before .before .before .before .loop .inv .words-length, omega (arith, c .before .before .before .before .before .before .before .before .before .before .before .loop .inv .few, c .before .if2 .left))
+store-requires c κs =
+    let turn = c .before .before .before .before .before .before .before .before .before .before .before .loop in
+    (turn .inv .words-length, omega (arith, turn .inv .few, c .before .if2 .left))
 
 add-at : tie.Need-add-at Inv-loop μ-loop
-add-at c = record { fits = let i = variable-inside (c .before .before .before .before .before .before .before .before .before .before .before .before .before .before .before .before .before .before .before .args .model .now) (c .before .before .before .before .before .before .before .before .before .before .before .before .before .before .before .loop .at) (variable-due (c .before .before .before .before .before .before .before .before .before .before .before .before .before .before .before .before .before .before .before .args .model .now) (c .before .before .before .before .before .before .before .before .before .before .before .before .before .before .before .loop .at) (c .before .before .before .before .before .before .before .before .before .before .before .before .before .before .byte-at .ensures) (c .before .before .before .before .before .before .before .before .before .before .before .before .before .declares-variable .ensures) (c .before .before .before .before .before .before .before .before .before .before .before .before .if1 .taken)) in let u = declared-here (c .before .before .before .before .before .before .before .before .before .before .before .before .before .before .before .before .before .before .before .args .model .now) (c .before .before .before .before .before .before .before .before .before .before .before .before .before .before .before .loop .at) (c .before .before .before .before .before .before .before .before .before .before .before .byte-at2 .ensures) (c .before .before .before .before .before .before .before .d .given .1) (c .before .before .before .before .before .before .before .before .before .variable .ensures) in omega (arith, c .before .before .before .before .before .before .before .before .before .before .before .before .before .before .before .before .before .before .before .good, u .short) }
+add-at c =
+    let start = c .before .before .before .before .before .before .before .before .before .before .before .before .before .before .before .before .before .before .before in
+    let turn = c .before .before .before .before .before .before .before .before .before .before .before .before .before .before .before .loop in
+    record { fits = let i = variable-inside (start .args .model .now) (turn .at) (variable-due (start .args .model .now) (turn .at) (c .before .before .before .before .before .before .before .before .before .before .before .before .before .before .byte-at .ensures) (c .before .before .before .before .before .before .before .before .before .before .before .before .before .declares-variable .ensures) (c .before .before .before .before .before .before .before .before .before .before .before .before .if1 .taken)) in let u = declared-here (start .args .model .now) (turn .at) (c .before .before .before .before .before .before .before .before .before .before .before .byte-at2 .ensures) (c .before .before .before .before .before .before .before .d .given .1) (c .before .before .before .before .before .before .before .before .before .variable .ensures) in omega (arith, start .good, u .short) }
 
 add-n : tie.Need-add-n Inv-loop μ-loop
 add-n c = omega (arith, c .before .before .before .before .before .before .before .before .before .before .before .before .before .before .before .loop .inv .few)
@@ -67,7 +88,10 @@ loop-less : tie.Need-loop-less Inv-loop μ-loop
 loop-less c = omega (arith, c .before .before .before .before .before .before .before .before .before .before .before .before .before .before .before .loop .inv .few, c .before .before .before .before .before .if2 .left)
 
 loop-again : tie.Need-loop-again Inv-loop μ-loop
-loop-again c = rw (c .before .before .before .store .ensures) (variable-more (c .before .before .before .before .before .before .before .before .before .before .before .before .before .before .before .before .before .before .before .args .model .now) (c .before .before .before .before .before .before .before .before .before .before .before .before .before .before .before .before .before .before .before .args .start) (c .before .before .before .before .before .before .before .before .before .before .before .before .before .before .before .loop .kinds) (c .before .before .before .before .before .before .before .before .before .before .before .before .before .before .before .loop .words) (c .before .before .before .before .before .before .before .before .before .before .before .before .before .before .before .loop .at) (c .before .before .before .before .before .before .before .before .before .before .before .before .before .before .before .loop .n) (c .before .before .before .before .before .before .before .before .before .before .before .before .before .before .before .loop .inv) (variable-inside (c .before .before .before .before .before .before .before .before .before .before .before .before .before .before .before .before .before .before .before .args .model .now) (c .before .before .before .before .before .before .before .before .before .before .before .before .before .before .before .loop .at) (variable-due (c .before .before .before .before .before .before .before .before .before .before .before .before .before .before .before .before .before .before .before .args .model .now) (c .before .before .before .before .before .before .before .before .before .before .before .before .before .before .before .loop .at) (c .before .before .before .before .before .before .before .before .before .before .before .before .before .before .byte-at .ensures) (c .before .before .before .before .before .before .before .before .before .before .before .before .before .declares-variable .ensures) (c .before .before .before .before .before .before .before .before .before .before .before .before .if1 .taken))) (variable-due (c .before .before .before .before .before .before .before .before .before .before .before .before .before .before .before .before .before .before .before .args .model .now) (c .before .before .before .before .before .before .before .before .before .before .before .before .before .before .before .loop .at) (c .before .before .before .before .before .before .before .before .before .before .before .before .before .before .byte-at .ensures) (c .before .before .before .before .before .before .before .before .before .before .before .before .before .declares-variable .ensures) (c .before .before .before .before .before .before .before .before .before .before .before .before .if1 .taken)) (c .before .before .before .before .before .before .before .d .given .0 .0) (declared-here (c .before .before .before .before .before .before .before .before .before .before .before .before .before .before .before .before .before .before .before .args .model .now) (c .before .before .before .before .before .before .before .before .before .before .before .before .before .before .before .loop .at) (c .before .before .before .before .before .before .before .before .before .before .before .byte-at2 .ensures) (c .before .before .before .before .before .before .before .d .given .1) (c .before .before .before .before .before .before .before .before .before .variable .ensures)) (omega (arith, c .before .before .before .before .before .before .before .before .before .before .before .before .before .before .before .loop .inv .few, c .before .before .before .before .before .if2 .left)))
+loop-again c =
+    let start = c .before .before .before .before .before .before .before .before .before .before .before .before .before .before .before .before .before .before .before in
+    let turn = c .before .before .before .before .before .before .before .before .before .before .before .before .before .before .before .loop in
+    rw (c .before .before .before .store .ensures) (variable-more (start .args .model .now) (start .args .start) (turn .kinds) (turn .words) (turn .at) (turn .n) (turn .inv) (variable-inside (start .args .model .now) (turn .at) (variable-due (start .args .model .now) (turn .at) (c .before .before .before .before .before .before .before .before .before .before .before .before .before .before .byte-at .ensures) (c .before .before .before .before .before .before .before .before .before .before .before .before .before .declares-variable .ensures) (c .before .before .before .before .before .before .before .before .before .before .before .before .if1 .taken))) (variable-due (start .args .model .now) (turn .at) (c .before .before .before .before .before .before .before .before .before .before .before .before .before .before .byte-at .ensures) (c .before .before .before .before .before .before .before .before .before .before .before .before .before .declares-variable .ensures) (c .before .before .before .before .before .before .before .before .before .before .before .before .if1 .taken)) (c .before .before .before .before .before .before .before .d .given .0 .0) (declared-here (start .args .model .now) (turn .at) (c .before .before .before .before .before .before .before .before .before .before .before .byte-at2 .ensures) (c .before .before .before .before .before .before .before .d .given .1) (c .before .before .before .before .before .before .before .before .before .variable .ensures)) (omega (arith, turn .inv .few, c .before .before .before .before .before .if2 .left)))
 
 enum-known-t : tie.Need-enum-known-t Inv-loop μ-loop
 enum-known-t c = search needs
@@ -79,7 +103,10 @@ same-length-4 : tie.Need-same-length-4 Inv-loop μ-loop
 same-length-4 c = omega (arith, c .before .before .before .before .before .before .before .before .before .loop .inv .words-length, c .before .before .before .before .before .before .before .before .before .before .before .before .before .pre .1)
 
 returns-2 : tie.Need-returns-2 Inv-loop μ-loop
-returns-2 c = (c .before .before .before .before .before .before .before .before .before .loop .inv .kinds-length, c .before .before .before .before .before .before .before .before .before .loop .inv .words-length, variable-refused (c .before .before .before .before .before .before .before .before .before .before .before .before .before .args .model .now) (c .before .before .before .before .before .before .before .before .before .before .before .before .before .args .start) (c .before .before .before .before .before .before .before .before .before .loop .kinds) (c .before .before .before .before .before .before .before .before .before .loop .words) (c .before .before .before .before .before .before .before .before .before .loop .at) (c .before .before .before .before .before .before .before .before .before .loop .n) (c .before .before .before .before .before .before .before .before .before .loop .inv) (variable-inside (c .before .before .before .before .before .before .before .before .before .before .before .before .before .args .model .now) (c .before .before .before .before .before .before .before .before .before .loop .at) (variable-due (c .before .before .before .before .before .before .before .before .before .before .before .before .before .args .model .now) (c .before .before .before .before .before .before .before .before .before .loop .at) (c .before .before .before .before .before .before .before .before .byte-at .ensures) (c .before .before .before .before .before .before .before .declares-variable .ensures) (c .before .before .before .before .before .before .if1 .taken))) (variable-due (c .before .before .before .before .before .before .before .before .before .before .before .before .before .args .model .now) (c .before .before .before .before .before .before .before .before .before .loop .at) (c .before .before .before .before .before .before .before .before .byte-at .ensures) (c .before .before .before .before .before .before .before .declares-variable .ensures) (c .before .before .before .before .before .before .if1 .taken)) (declared-here (c .before .before .before .before .before .before .before .before .before .before .before .before .before .args .model .now) (c .before .before .before .before .before .before .before .before .before .loop .at) (c .before .before .before .before .before .byte-at2 .ensures) (c .before .t .given .1) (c .before .before .before .variable .ensures)))
+returns-2 c =
+    let start = c .before .before .before .before .before .before .before .before .before .before .before .before .before in
+    let turn = c .before .before .before .before .before .before .before .before .before .loop in
+    (turn .inv .kinds-length, turn .inv .words-length, variable-refused (start .args .model .now) (start .args .start) (turn .kinds) (turn .words) (turn .at) (turn .n) (turn .inv) (variable-inside (start .args .model .now) (turn .at) (variable-due (start .args .model .now) (turn .at) (c .before .before .before .before .before .before .before .before .byte-at .ensures) (c .before .before .before .before .before .before .before .declares-variable .ensures) (c .before .before .before .before .before .before .if1 .taken))) (variable-due (start .args .model .now) (turn .at) (c .before .before .before .before .before .before .before .before .byte-at .ensures) (c .before .before .before .before .before .before .before .declares-variable .ensures) (c .before .before .before .before .before .before .if1 .taken)) (declared-here (start .args .model .now) (turn .at) (c .before .before .before .before .before .byte-at2 .ensures) (c .before .t .given .1) (c .before .before .before .variable .ensures)))
 
 same-length-5 : tie.Need-same-length-5 Inv-loop μ-loop
 same-length-5 c = omega (arith, c .before .before .before .before .loop .inv .kinds-length, c .before .before .before .before .before .before .before .before .pre .0)
@@ -88,7 +115,10 @@ same-length-6 : tie.Need-same-length-6 Inv-loop μ-loop
 same-length-6 c = omega (arith, c .before .before .before .before .loop .inv .words-length, c .before .before .before .before .before .before .before .before .pre .1)
 
 returns-3 : tie.Need-returns-3 Inv-loop μ-loop
-returns-3 c = (c .before .before .before .before .loop .inv .kinds-length, c .before .before .before .before .loop .inv .words-length, variables-end (c .before .before .before .before .before .before .before .before .args .model .now) (c .before .before .before .before .before .before .before .before .args .start) (c .before .before .before .before .loop .kinds) (c .before .before .before .before .loop .words) (c .before .before .before .before .loop .at) (c .before .before .before .before .loop .n) (c .before .before .before .before .loop .inv) (c .if3 .taken) (variable-due (c .before .before .before .before .before .before .before .before .args .model .now) (c .before .before .before .before .loop .at) (c .before .before .before .byte-at .ensures) (c .before .before .declares-variable .ensures) (c .before .if1 .left)))
+returns-3 c =
+    let start = c .before .before .before .before .before .before .before .before in
+    let turn = c .before .before .before .before .loop in
+    (turn .inv .kinds-length, turn .inv .words-length, variables-end (start .args .model .now) (start .args .start) (turn .kinds) (turn .words) (turn .at) (turn .n) (turn .inv) (c .if3 .taken) (variable-due (start .args .model .now) (turn .at) (c .before .before .before .byte-at .ensures) (c .before .before .declares-variable .ensures) (c .before .if1 .left)))
 
 same-length-7 : tie.Need-same-length-7 Inv-loop μ-loop
 same-length-7 c = omega (arith, c .before .before .before .before .loop .inv .kinds-length, c .before .before .before .before .before .before .before .before .pre .0)
@@ -97,7 +127,10 @@ same-length-8 : tie.Need-same-length-8 Inv-loop μ-loop
 same-length-8 c = omega (arith, c .before .before .before .before .loop .inv .words-length, c .before .before .before .before .before .before .before .before .pre .1)
 
 returns-4 : tie.Need-returns-4 Inv-loop μ-loop
-returns-4 c = (c .before .before .before .before .loop .inv .kinds-length, c .before .before .before .before .loop .inv .words-length, variables-early (c .before .before .before .before .before .before .before .before .args .model .now) (c .before .before .before .before .before .before .before .before .args .start) (c .before .before .before .before .loop .kinds) (c .before .before .before .before .loop .words) (c .before .before .before .before .loop .at) (c .before .before .before .before .loop .n) (c .before .before .before .before .loop .inv) (c .if3 .left))
+returns-4 c =
+    let start = c .before .before .before .before .before .before .before .before in
+    let turn = c .before .before .before .before .loop in
+    (turn .inv .kinds-length, turn .inv .words-length, variables-early (start .args .model .now) (start .args .start) (turn .kinds) (turn .words) (turn .at) (turn .n) (turn .inv) (c .if3 .left))
 
 pub variables-spec : {M : Type 1} → statement M
 variables-spec =

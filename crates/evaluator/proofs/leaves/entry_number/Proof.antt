@@ -12,7 +12,9 @@ use Rattle.evaluator.proofs.leaves.entry_number.Statement.{statement}
 use Rattle.evaluator.proofs.leaves.entry_number.Tie as tie
 
 returns : tie.Need-returns
-returns c = sym (entry-none (c .before .before .before .before .before .args .model .now) (c .before .before .before .before .before .args .state .now) (c .before .before .before .before .before .args .tables .now) (c .before .before .before .before .before .args .e .now) (c .if1 .taken))
+returns c =
+    let start = c .before .before .before .before .before in
+    sym (entry-none (start .args .model .now) (start .args .state .now) (start .args .tables .now) (start .args .e .now) (c .if1 .taken))
 
 name-requires : tie.Need-name-requires
 name-requires c κs = search needs

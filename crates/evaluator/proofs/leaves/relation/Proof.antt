@@ -11,7 +11,9 @@ enum-told c = search needs
 
 returns : tie.Need-returns
 unfolding compared equalZ
-returns c = let t = rw (back (c .before .before .before .fits .a), back (c .before .before .before .fits .b)) at (c .if1 .taken) in rw (back (c .before .before .before .fits .a), back (c .before .before .before .fits .b), c .before .enum-told .given .1, t)
+returns c =
+    let start = c .before .before .before in
+    let t = rw (back (start .fits .a), back (start .fits .b)) at (c .if1 .taken) in rw (back (start .fits .a), back (start .fits .b), c .before .enum-told .given .1, t)
 
 enum-told-2 : tie.Need-enum-told-2
 enum-told-2 c = search needs

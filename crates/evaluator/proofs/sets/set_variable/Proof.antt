@@ -10,7 +10,9 @@ no-set-requires : tie.Need-no-set-requires
 no-set-requires c κs = search needs
 
 returns : tie.Need-returns
-returns c = c .no-set .ensures ∙ sym (variable-none (c .before .before .before .before .before .args .state .now) (c .before .before .before .before .before .args .full .now) (c .before .before .before .before .before .args .e .now) (omega arith))
+returns c =
+    let start = c .before .before .before .before .before in
+    c .no-set .ensures ∙ sym (variable-none (start .args .state .now) (start .args .full .now) (start .args .e .now) (omega arith))
 
 name-requires : tie.Need-name-requires
 name-requires c κs = search needs
@@ -22,7 +24,9 @@ word-at-requires-2 : tie.Need-word-at-requires-2
 word-at-requires-2 c κs = search needs
 
 returns-2 : tie.Need-returns-2
-returns-2 c = rw (c .before .word-at .ensures, c .word-at2 .ensures, c .before .before .name .ensures) (sym (variable-some (c .before .before .before .before .before .before .before .args .state .now) (c .before .before .before .before .before .before .before .args .full .now) (c .before .before .before .before .before .before .before .args .e .now) (c .before .before .before .if1 .left)))
+returns-2 c =
+    let start = c .before .before .before .before .before .before .before in
+    rw (c .before .word-at .ensures, c .word-at2 .ensures, c .before .before .name .ensures) (sym (variable-some (start .args .state .now) (start .args .full .now) (start .args .e .now) (c .before .before .before .if1 .left)))
 
 pub set-variable-spec : {M : Type 1} → statement M
 set-variable-spec =

@@ -16,7 +16,9 @@ element-requires-2 : tie.Need-element-requires-2
 element-requires-2 c κs = search needs
 
 add-t6 : tie.Need-add-t6
-add-t6 c = omega (arith, rw (← (c .before .before .before .before .element .ensures .0)) at (element-used (c .before .before .before .before .before .before .before .args .state .now) (c .before .before .before .before .before .before .before .args .e .now)), rw (← (c .before .before .element2 .ensures .0)) at (element-used (c .before .before .before .before .before .before .before .args .state .now) (c .before .before .before .after .result .now)))
+add-t6 c =
+    let start = c .before .before .before .before .before .before .before in
+    omega (arith, rw (← (c .before .before .before .before .element .ensures .0)) at (element-used (start .args .state .now) (start .args .e .now)), rw (← (c .before .before .element2 .ensures .0)) at (element-used (start .args .state .now) (c .before .before .before .after .result .now)))
 
 returns : tie.Need-returns
 unfolding twoElements

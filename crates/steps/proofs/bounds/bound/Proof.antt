@@ -22,13 +22,17 @@ loop-holds : tie.Need-loop-holds Inv-loop μ-loop
 loop-holds c = raising-first _ _ (c .before .before .before .before .pre) _
 
 add-word-at : tie.Need-add-word-at Inv-loop μ-loop
-add-word-at c = record { fits = omega (arith, c .loop-test .taken, c .before .before .word-at .ensures, c .before .before .before .before .before .before .pre .outlines .bound-count, c .before .before .before .before .before .before .pre .outlines .few-bounds) }
+add-word-at c =
+    let start = c .before .before .before .before .before .before in
+    record { fits = omega (arith, c .loop-test .taken, c .before .before .word-at .ensures, start .pre .outlines .bound-count, start .pre .outlines .few-bounds) }
 
 word-at-requires-2 : tie.Need-word-at-requires-2 Inv-loop μ-loop
 word-at-requires-2 c κs = search needs
 
 number-at-requires : tie.Need-number-at-requires Inv-loop μ-loop
-number-at-requires c κs = (c .before .before .before .before .before .before .before .pre, bound-inside _ _ (c .before .before .before .before .before .before .before .pre) _ _ (omega (arith, c .before .loop-test .taken, c .before .before .before .word-at .ensures, c .before .before .before .before .before .before .before .pre .outlines .bound-count)) (c .word-at2 .ensures))
+number-at-requires c κs =
+    let start = c .before .before .before .before .before .before .before in
+    (start .pre, bound-inside _ _ (start .pre) _ _ (omega (arith, c .before .loop-test .taken, c .before .before .before .word-at .ensures, start .pre .outlines .bound-count)) (c .word-at2 .ensures))
 
 enum-known-z : tie.Need-enum-known-z Inv-loop μ-loop
 enum-known-z c = search needs
@@ -50,10 +54,14 @@ enum-known-t : tie.Need-enum-known-t Inv-loop μ-loop
 enum-known-t c = search needs
 
 returns : tie.Need-returns Inv-loop μ-loop
-returns c = raising-troubles _ _ (c .before .before .before .before .before .before .before .before .before .before .before .pre) _ _ _ (c .before .before .before .before .before .before .loop .inv) (omega (arith, c .before .before .before .before .before .loop-test .taken, c .before .before .before .before .before .before .before .word-at .ensures, c .before .before .before .before .before .before .before .before .before .before .before .pre .outlines .bound-count)) _ (c .before .before .before .before .word-at2 .ensures) _ (c .before .before .before .number-at .ensures .0) (c .before .t .given .1)
+returns c =
+    let start = c .before .before .before .before .before .before .before .before .before .before .before in
+    raising-troubles _ _ (start .pre) _ _ _ (c .before .before .before .before .before .before .loop .inv) (omega (arith, c .before .before .before .before .before .loop-test .taken, c .before .before .before .before .before .before .before .word-at .ensures, start .pre .outlines .bound-count)) _ (c .before .before .before .before .word-at2 .ensures) _ (c .before .before .before .number-at .ensures .0) (c .before .t .given .1)
 
 returns-2 : tie.Need-returns-2 Inv-loop μ-loop
-returns-2 c = raising-last _ _ (c .before .before .before .before .before .before .pre) _ (c .before .loop .k) _ (c .before .loop .inv) (omega (arith, c .loop-test .left, c .before .before .word-at .ensures, c .before .before .before .before .before .before .pre .outlines .bound-count))
+returns-2 c =
+    let start = c .before .before .before .before .before .before in
+    raising-last _ _ (start .pre) _ (c .before .loop .k) _ (c .before .loop .inv) (omega (arith, c .loop-test .left, c .before .before .word-at .ensures, start .pre .outlines .bound-count))
 
 pub bound-spec : {M : Type 1} → statement M
 bound-spec =

@@ -35,7 +35,10 @@ slice-aggregate-turn-2 : tie.Need-slice-aggregate-turn-2 Inv-loop μ-loop
 slice-aggregate-turn-2 c = sym (c .before .before .before .before .loop .inv .child-long)
 
 turn-requires : tie.Need-turn-requires Inv-loop μ-loop
-turn-requires c κs = (c .before .before .before .before .before .before .before .before .before .before .before .pre .0, omega (arith, c .before .before .before .before .loop .inv .long), omega (arith, c .before .before .before .before .loop .inv .child-long), cost-small _ _ _ _ _ _ (c .before .before .before .before .loop .inv) (c .before .before .before .before .before .before .before .before .before .before .before .pre .1))
+turn-requires c κs =
+    let start = c .before .before .before .before .before .before .before .before .before .before .before in
+    let turn = c .before .before .before .before .loop in
+    (start .pre .0, omega (arith, turn .inv .long), omega (arith, turn .inv .child-long), cost-small _ _ _ _ _ _ (turn .inv) (start .pre .1))
 
 enum-known-h : tie.Need-enum-known-h Inv-loop μ-loop
 enum-known-h c = search needs

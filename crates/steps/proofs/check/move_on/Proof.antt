@@ -15,7 +15,9 @@ enum-known-c : tie.Need-enum-known-c
 enum-known-c c = search needs
 
 combine-requires : tie.Need-combine-requires
-combine-requires c κs = (c .before .before .before .before .before .before .before .before .before .before .before .pre .0, omega (arith, c .before .before .before .before .before .before .before .before .before .before .before .pre .3, step-small _ _ _ (c .before .before .before .before .before .before .before .before .before .before .before .args .g) _ _ (c .before .before .before .before .before .step .ensures) (c .before .c .given .1)))
+combine-requires c κs =
+    let start = c .before .before .before .before .before .before .before .before .before .before .before in
+    (start .pre .0, omega (arith, start .pre .3, step-small _ _ _ (start .args .g) _ _ (c .before .before .before .before .before .step .ensures) (c .before .c .given .1)))
 
 enum-known-n : tie.Need-enum-known-n
 enum-known-n c = search needs

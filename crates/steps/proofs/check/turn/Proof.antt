@@ -27,7 +27,9 @@ same-length : tie.Need-same-length
 same-length c = search needs
 
 returns-2 : tie.Need-returns-2
-returns-2 c = turn-on _ _ (c .before .before .before .before .before .before .before .before .before .before .before .args .t) (c .before .before .before .before .before .before .before .before .before .before .before .args .g) _ (sym (c .before .before .before .before .enum-told2 .given .1) ∙ c .before .before .before .before .before .before .status .ensures) (c .before .before .move-on .result) (c .before .before .move-on .ensures)
+returns-2 c =
+    let start = c .before .before .before .before .before .before .before .before .before .before .before in
+    turn-on _ _ (start .args .t) (start .args .g) _ (sym (c .before .before .before .before .enum-told2 .given .1) ∙ c .before .before .before .before .before .before .status .ensures) (c .before .before .move-on .result) (c .before .before .move-on .ensures)
 
 returns-3 : tie.Need-returns-3
 returns-3 c = turn-troubles _ _ _ _ (c .before .before .before .before .before .before .before .before .args .child .now) (sym (c .before .n .given .1) ∙ c .before .before .before .status .ensures)

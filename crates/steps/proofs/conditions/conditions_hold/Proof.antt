@@ -25,7 +25,9 @@ add-condition-at : tie.Need-add-condition-at Inv-loop μ-loop
 add-condition-at c = record { fits = omega (arith, byte-inside (c .before .before .before .before .before .before .args .model .now) (c .before .before .loop .next) 8 (omega arith) (sym (c .before .byte-at .ensures) ∙ c .if1 .taken)) }
 
 condition-at-requires : tie.Need-condition-at-requires Inv-loop μ-loop
-condition-at-requires c κs = (c .before .before .before .before .before .before .pre, omega (arith, byte-inside (c .before .before .before .before .before .before .args .model .now) (c .before .before .loop .next) 8 (omega arith) (sym (c .before .byte-at .ensures) ∙ c .if1 .taken)))
+condition-at-requires c κs =
+    let start = c .before .before .before .before .before .before in
+    (start .pre, omega (arith, byte-inside (start .args .model .now) (c .before .before .loop .next) 8 (omega arith) (sym (c .before .byte-at .ensures) ∙ c .if1 .taken)))
 
 enum-known-holds : tie.Need-enum-known-holds Inv-loop μ-loop
 enum-known-holds c = search needs

@@ -20,13 +20,17 @@ loop-holds : tie.Need-loop-holds Inv-loop μ-loop
 loop-holds c = refl
 
 add-word-at : tie.Need-add-word-at Inv-loop μ-loop
-add-word-at c = record { fits = omega (arith, c .loop-test .taken, c .before .before .word-at .ensures, c .before .before .before .before .before .before .pre .outlines .constraint-count, c .before .before .before .before .before .before .pre .outlines .few-constraints) }
+add-word-at c =
+    let start = c .before .before .before .before .before .before in
+    record { fits = omega (arith, c .loop-test .taken, c .before .before .word-at .ensures, start .pre .outlines .constraint-count, start .pre .outlines .few-constraints) }
 
 word-at-requires-2 : tie.Need-word-at-requires-2 Inv-loop μ-loop
 word-at-requires-2 c κs = search needs
 
 condition-at-requires : tie.Need-condition-at-requires Inv-loop μ-loop
-condition-at-requires c κs = (c .before .before .before .before .before .before .before .pre, constraint-inside _ _ (c .before .before .before .before .before .before .before .pre) _ _ (omega (arith, c .before .loop-test .taken, c .before .before .before .word-at .ensures, c .before .before .before .before .before .before .before .pre .outlines .constraint-count)) (c .word-at2 .ensures))
+condition-at-requires c κs =
+    let start = c .before .before .before .before .before .before .before in
+    (start .pre, constraint-inside _ _ (start .pre) _ _ (omega (arith, c .before .loop-test .taken, c .before .before .before .word-at .ensures, start .pre .outlines .constraint-count)) (c .word-at2 .ensures))
 
 enum-known-holds : tie.Need-enum-known-holds Inv-loop μ-loop
 enum-known-holds c = search needs
@@ -38,19 +42,27 @@ loop-less : tie.Need-loop-less Inv-loop μ-loop
 loop-less c = search needs
 
 loop-again : tie.Need-loop-again Inv-loop μ-loop
-loop-again c = meeting-more _ _ (c .before .before .before .before .before .before .before .before .before .before .before .before .pre) _ _ (c .before .before .before .before .before .before .before .loop .inv) (omega (arith, c .before .before .before .before .before .before .loop-test .taken, c .before .before .before .before .before .before .before .before .word-at .ensures, c .before .before .before .before .before .before .before .before .before .before .before .before .pre .outlines .constraint-count)) _ (c .before .before .before .before .before .word-at2 .ensures) _ (c .before .before .before .before .condition-at .ensures .0) (c .before .before .holds .given .1) (c .if1 .taken)
+loop-again c =
+    let start = c .before .before .before .before .before .before .before .before .before .before .before .before in
+    meeting-more _ _ (start .pre) _ _ (c .before .before .before .before .before .before .before .loop .inv) (omega (arith, c .before .before .before .before .before .before .loop-test .taken, c .before .before .before .before .before .before .before .before .word-at .ensures, start .pre .outlines .constraint-count)) _ (c .before .before .before .before .before .word-at2 .ensures) _ (c .before .before .before .before .condition-at .ensures .0) (c .before .before .holds .given .1) (c .if1 .taken)
 
 returns : tie.Need-returns Inv-loop μ-loop
-returns c = meeting-fails _ _ (c .before .before .before .before .before .before .before .before .before .before .before .before .pre) _ _ (c .before .before .before .before .before .before .before .loop .inv) (omega (arith, c .before .before .before .before .before .before .loop-test .taken, c .before .before .before .before .before .before .before .before .word-at .ensures, c .before .before .before .before .before .before .before .before .before .before .before .before .pre .outlines .constraint-count)) _ (c .before .before .before .before .before .word-at2 .ensures) _ (c .before .before .before .before .condition-at .ensures .0) (c .before .before .holds .given .1) (c .if1 .left)
+returns c =
+    let start = c .before .before .before .before .before .before .before .before .before .before .before .before in
+    meeting-fails _ _ (start .pre) _ _ (c .before .before .before .before .before .before .before .loop .inv) (omega (arith, c .before .before .before .before .before .before .loop-test .taken, c .before .before .before .before .before .before .before .before .word-at .ensures, start .pre .outlines .constraint-count)) _ (c .before .before .before .before .before .word-at2 .ensures) _ (c .before .before .before .before .condition-at .ensures .0) (c .before .before .holds .given .1) (c .if1 .left)
 
 enum-known-t : tie.Need-enum-known-t Inv-loop μ-loop
 enum-known-t c = search needs
 
 returns-2 : tie.Need-returns-2 Inv-loop μ-loop
-returns-2 c = meeting-troubles _ _ (c .before .before .before .before .before .before .before .before .before .before .before .pre) _ _ (c .before .before .before .before .before .before .loop .inv) (omega (arith, c .before .before .before .before .before .loop-test .taken, c .before .before .before .before .before .before .before .word-at .ensures, c .before .before .before .before .before .before .before .before .before .before .before .pre .outlines .constraint-count)) _ (c .before .before .before .before .word-at2 .ensures) _ (c .before .before .before .condition-at .ensures .0) (c .before .t .given .1)
+returns-2 c =
+    let start = c .before .before .before .before .before .before .before .before .before .before .before in
+    meeting-troubles _ _ (start .pre) _ _ (c .before .before .before .before .before .before .loop .inv) (omega (arith, c .before .before .before .before .before .loop-test .taken, c .before .before .before .before .before .before .before .word-at .ensures, start .pre .outlines .constraint-count)) _ (c .before .before .before .before .word-at2 .ensures) _ (c .before .before .before .condition-at .ensures .0) (c .before .t .given .1)
 
 returns-3 : tie.Need-returns-3 Inv-loop μ-loop
-returns-3 c = meeting-last _ _ (c .before .before .before .before .before .before .pre) _ (c .before .loop .k) (c .before .loop .inv) (omega (arith, c .loop-test .left, c .before .before .word-at .ensures, c .before .before .before .before .before .before .pre .outlines .constraint-count))
+returns-3 c =
+    let start = c .before .before .before .before .before .before in
+    meeting-last _ _ (start .pre) _ (c .before .loop .k) (c .before .loop .inv) (omega (arith, c .loop-test .left, c .before .before .word-at .ensures, start .pre .outlines .constraint-count))
 
 pub constraints-hold-spec : {M : Type 1} → statement M
 constraints-hold-spec =

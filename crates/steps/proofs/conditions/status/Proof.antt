@@ -20,7 +20,9 @@ loop-holds : tie.Need-loop-holds Inv-loop μ-loop
 loop-holds c = refl
 
 add-word-at : tie.Need-add-word-at Inv-loop μ-loop
-add-word-at c = record { fits = omega (arith, c .loop-test .taken, c .before .before .word-at .ensures, c .before .before .before .before .before .before .pre .outlines .base-case-count, c .before .before .before .before .before .before .pre .outlines .few-base-cases) }
+add-word-at c =
+    let start = c .before .before .before .before .before .before in
+    record { fits = omega (arith, c .loop-test .taken, c .before .before .word-at .ensures, start .pre .outlines .base-case-count, start .pre .outlines .few-base-cases) }
 
 word-at-requires-2 : tie.Need-word-at-requires-2 Inv-loop μ-loop
 word-at-requires-2 c κs = search needs
@@ -32,7 +34,9 @@ enum-told : tie.Need-enum-told Inv-loop μ-loop
 enum-told c = search needs
 
 returns : tie.Need-returns Inv-loop μ-loop
-returns c = seeking-base _ _ (c .before .before .before .before .before .before .before .before .before .before .pre) _ _ (c .before .before .before .before .before .loop .inv) (omega (arith, c .before .before .before .before .loop-test .taken, c .before .before .before .before .before .before .word-at .ensures, c .before .before .before .before .before .before .before .before .before .before .pre .outlines .base-case-count)) _ (c .before .before .before .word-at2 .ensures) _ (c .before .before .conditions-hold .ensures) (c .enum-told .given .1)
+returns c =
+    let start = c .before .before .before .before .before .before .before .before .before .before in
+    seeking-base _ _ (start .pre) _ _ (c .before .before .before .before .before .loop .inv) (omega (arith, c .before .before .before .before .loop-test .taken, c .before .before .before .before .before .before .word-at .ensures, start .pre .outlines .base-case-count)) _ (c .before .before .before .word-at2 .ensures) _ (c .before .before .conditions-hold .ensures) (c .enum-told .given .1)
 
 enum-told-2 : tie.Need-enum-told-2 Inv-loop μ-loop
 enum-told-2 c = search needs
@@ -44,16 +48,22 @@ loop-less : tie.Need-loop-less Inv-loop μ-loop
 loop-less c = search needs
 
 loop-again : tie.Need-loop-again Inv-loop μ-loop
-loop-again c = seeking-more _ _ (c .before .before .before .before .before .before .before .before .before .before .pre) _ _ (c .before .before .before .before .before .loop .inv) (omega (arith, c .before .before .before .before .loop-test .taken, c .before .before .before .before .before .before .word-at .ensures, c .before .before .before .before .before .before .before .before .before .before .pre .outlines .base-case-count)) _ (c .before .before .before .word-at2 .ensures) _ (c .before .before .conditions-hold .ensures) (c .enum-told2 .given .1)
+loop-again c =
+    let start = c .before .before .before .before .before .before .before .before .before .before in
+    seeking-more _ _ (start .pre) _ _ (c .before .before .before .before .before .loop .inv) (omega (arith, c .before .before .before .before .loop-test .taken, c .before .before .before .before .before .before .word-at .ensures, start .pre .outlines .base-case-count)) _ (c .before .before .before .word-at2 .ensures) _ (c .before .before .conditions-hold .ensures) (c .enum-told2 .given .1)
 
 enum-known-t : tie.Need-enum-known-t Inv-loop μ-loop
 enum-known-t c = search needs
 
 returns-2 : tie.Need-returns-2 Inv-loop μ-loop
-returns-2 c = seeking-troubles _ _ (c .before .before .before .before .before .before .before .before .before .before .before .pre) _ _ (c .before .before .before .before .before .before .loop .inv) (omega (arith, c .before .before .before .before .before .loop-test .taken, c .before .before .before .before .before .before .before .word-at .ensures, c .before .before .before .before .before .before .before .before .before .before .before .pre .outlines .base-case-count)) _ (c .before .before .before .before .word-at2 .ensures) _ (c .before .before .before .conditions-hold .ensures) (c .before .t .given .1)
+returns-2 c =
+    let start = c .before .before .before .before .before .before .before .before .before .before .before in
+    seeking-troubles _ _ (start .pre) _ _ (c .before .before .before .before .before .before .loop .inv) (omega (arith, c .before .before .before .before .before .loop-test .taken, c .before .before .before .before .before .before .before .word-at .ensures, start .pre .outlines .base-case-count)) _ (c .before .before .before .before .word-at2 .ensures) _ (c .before .before .before .conditions-hold .ensures) (c .before .t .given .1)
 
 returns-3 : tie.Need-returns-3 Inv-loop μ-loop
-returns-3 c = seeking-last _ _ (c .before .before .before .before .before .before .pre) _ (c .before .loop .k) (c .before .loop .inv) (omega (arith, c .loop-test .left, c .before .before .word-at .ensures, c .before .before .before .before .before .before .pre .outlines .base-case-count))
+returns-3 c =
+    let start = c .before .before .before .before .before .before in
+    seeking-last _ _ (start .pre) _ (c .before .loop .k) (c .before .loop .inv) (omega (arith, c .loop-test .left, c .before .before .word-at .ensures, start .pre .outlines .base-case-count))
 
 pub status-spec : {M : Type 1} → statement M
 status-spec =

@@ -15,7 +15,9 @@ add-take : tie.Need-add-take
 add-take c = record { fits = omega (arith, rest-read _ _ _ _ (c .before .before .before .conditions-hold .ensures) (c .before .next .given .1) (c .before .before .before .before .before .before .before .before .pre .1) .inside) }
 
 take-requires : tie.Need-take-requires
-take-requires c κs = (c .before .before .before .before .before .before .before .before .before .pre .0, rest-read _ _ _ _ (c .before .before .before .before .conditions-hold .ensures) (c .before .before .next .given .1) (c .before .before .before .before .before .before .before .before .before .pre .1), c .before .before .before .before .before .before .before .before .before .pre .2, c .before .before .before .before .before .before .before .before .before .pre .3)
+take-requires c κs =
+    let start = c .before .before .before .before .before .before .before .before .before in
+    (start .pre .0, rest-read _ _ _ _ (c .before .before .before .before .conditions-hold .ensures) (c .before .before .next .given .1) (start .pre .1), start .pre .2, start .pre .3)
 
 enum-told : tie.Need-enum-told
 enum-told c = search needs

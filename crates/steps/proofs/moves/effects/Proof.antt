@@ -31,7 +31,9 @@ cast-v : tie.Need-cast-v Inv-loop μ-loop
 cast-v c = search needs
 
 add-word-for : tie.Need-add-word-for Inv-loop μ-loop
-add-word-for c = record { fits = omega (arith, next-inside _ _ _ _ _ _ (c .before .before .before .loop .inv) _ (c .before .before .before .before .before .before .before .before .pre .0) (sym (c .before .before .byte-at .ensures) ∙ c .before .if1 .taken) (c .before .before .before .before .before .before .before .before .pre .1) .0) }
+add-word-for c =
+    let start = c .before .before .before .before .before .before .before .before in
+    record { fits = omega (arith, next-inside _ _ _ _ _ _ (c .before .before .before .loop .inv) _ (start .pre .0) (sym (c .before .before .byte-at .ensures) ∙ c .before .if1 .taken) (start .pre .1) .0) }
 
 word-for-requires : tie.Need-word-for-requires Inv-loop μ-loop
 word-for-requires c κs =
@@ -45,16 +47,25 @@ mul-child : tie.Need-mul-child Inv-loop μ-loop
 mul-child c = search needs
 
 slice-write-child : tie.Need-slice-write-child Inv-loop μ-loop
-slice-write-child c = omega (arith, next-inside _ _ _ _ _ _ (c .before .before .before .before .before .before .before .loop .inv) _ (c .before .before .before .before .before .before .before .before .before .before .before .before .pre .0) (sym (c .before .before .before .before .before .before .byte-at .ensures) ∙ c .before .before .before .before .before .if1 .taken) (c .before .before .before .before .before .before .before .before .before .before .before .before .pre .1) .1, c .before .before .before .before .byte-at2 .ensures, c .before .before .before .before .before .before .before .loop .inv .long, c .before .before .before .before .before .before .before .before .before .before .before .before .pre .2)
+slice-write-child c =
+    let start = c .before .before .before .before .before .before .before .before .before .before .before .before in
+    let turn = c .before .before .before .before .before .before .before .loop in
+    omega (arith, next-inside _ _ _ _ _ _ (turn .inv) _ (start .pre .0) (sym (c .before .before .before .before .before .before .byte-at .ensures) ∙ c .before .before .before .before .before .if1 .taken) (start .pre .1) .1, c .before .before .before .before .byte-at2 .ensures, turn .inv .long, start .pre .2)
 
 add-next : tie.Need-add-next Inv-loop μ-loop
-add-next c = record { fits = omega (arith, next-inside _ _ _ _ _ _ (c .before .before .before .before .before .before .before .loop .inv) _ (c .before .before .before .before .before .before .before .before .before .before .before .before .pre .0) (sym (c .before .before .before .before .before .before .byte-at .ensures) ∙ c .before .before .before .before .before .if1 .taken) (c .before .before .before .before .before .before .before .before .before .before .before .before .pre .1) .0) }
+add-next c =
+    let start = c .before .before .before .before .before .before .before .before .before .before .before .before in
+    record { fits = omega (arith, next-inside _ _ _ _ _ _ (c .before .before .before .before .before .before .before .loop .inv) _ (start .pre .0) (sym (c .before .before .before .before .before .before .byte-at .ensures) ∙ c .before .before .before .before .before .if1 .taken) (start .pre .1) .0) }
 
 add-next-2 : tie.Need-add-next-2 Inv-loop μ-loop
-add-next-2 c = record { fits = omega (arith, next-inside _ _ _ _ _ _ (c .before .before .before .before .before .before .before .loop .inv) _ (c .before .before .before .before .before .before .before .before .before .before .before .before .pre .0) (sym (c .before .before .before .before .before .before .byte-at .ensures) ∙ c .before .before .before .before .before .if1 .taken) (c .before .before .before .before .before .before .before .before .before .before .before .before .pre .1) .0, word-within _ (c .before .w .given .1) (c .before .before .before .word-for .ensures .1)) }
+add-next-2 c =
+    let start = c .before .before .before .before .before .before .before .before .before .before .before .before in
+    record { fits = omega (arith, next-inside _ _ _ _ _ _ (c .before .before .before .before .before .before .before .loop .inv) _ (start .pre .0) (sym (c .before .before .before .before .before .before .byte-at .ensures) ∙ c .before .before .before .before .before .if1 .taken) (start .pre .1) .0, word-within _ (c .before .w .given .1) (c .before .before .before .word-for .ensures .1)) }
 
 loop-less : tie.Need-loop-less Inv-loop μ-loop
-loop-less c = omega (arith, next-inside _ _ _ _ _ _ (c .before .before .before .before .before .before .before .loop .inv) _ (c .before .before .before .before .before .before .before .before .before .before .before .before .pre .0) (sym (c .before .before .before .before .before .before .byte-at .ensures) ∙ c .before .before .before .before .before .if1 .taken) (c .before .before .before .before .before .before .before .before .before .before .before .before .pre .1) .0)
+loop-less c =
+    let start = c .before .before .before .before .before .before .before .before .before .before .before .before in
+    omega (arith, next-inside _ _ _ _ _ _ (c .before .before .before .before .before .before .before .loop .inv) _ (start .pre .0) (sym (c .before .before .before .before .before .before .byte-at .ensures) ∙ c .before .before .before .before .before .if1 .taken) (start .pre .1) .0)
 
 loop-again : tie.Need-loop-again Inv-loop μ-loop
 loop-again c =

@@ -9,19 +9,27 @@ word-at-requires : tie.Need-word-at-requires
 word-at-requires c κs = search needs
 
 returns : tie.Need-returns
-returns c = move-undeclared _ _ (c .before .before .before .before .before .before .pre .0) _ _ _ (omega (arith, c .if1 .taken, c .before .word-at .ensures, c .before .before .before .before .before .before .pre .0 .outlines .transition-count))
+returns c =
+    let start = c .before .before .before .before .before .before in
+    move-undeclared _ _ (start .pre .0) _ _ _ (omega (arith, c .if1 .taken, c .before .word-at .ensures, start .pre .0 .outlines .transition-count))
 
 add-word-at : tie.Need-add-word-at
-add-word-at c = record { fits = omega (arith, c .if1 .left, c .before .word-at .ensures, c .before .before .before .before .before .before .pre .0 .outlines .transition-count, c .before .before .before .before .before .before .pre .0 .outlines .few-transitions) }
+add-word-at c =
+    let start = c .before .before .before .before .before .before in
+    record { fits = omega (arith, c .if1 .left, c .before .word-at .ensures, start .pre .0 .outlines .transition-count, start .pre .0 .outlines .few-transitions) }
 
 word-at-requires-2 : tie.Need-word-at-requires-2
 word-at-requires-2 c κs = search needs
 
 attempt-requires : tie.Need-attempt-requires
-attempt-requires c κs = (c .before .before .before .before .before .before .before .before .pre .0, transition-read _ _ (c .before .before .before .before .before .before .before .before .pre .0) (c .before .before .before .before .before .before .before .before .args .state .now) (c .before .before .before .before .before .before .before .before .args .t) (omega (arith, c .before .before .if1 .left, c .before .before .before .word-at .ensures, c .before .before .before .before .before .before .before .before .pre .0 .outlines .transition-count)) _ (c .before .word-at2 .ensures), c .before .before .before .before .before .before .before .before .pre .1, c .before .before .before .before .before .before .before .before .pre .2)
+attempt-requires c κs =
+    let start = c .before .before .before .before .before .before .before .before in
+    (start .pre .0, transition-read _ _ (start .pre .0) (start .args .state .now) (start .args .t) (omega (arith, c .before .before .if1 .left, c .before .before .before .word-at .ensures, start .pre .0 .outlines .transition-count)) _ (c .before .word-at2 .ensures), start .pre .1, start .pre .2)
 
 settle-requires : tie.Need-settle-requires
-settle-requires c κs = (c .before .before .before .before .before .before .before .before .before .before .before .before .pre .0, tried _ _ (c .before .before .before .before .before .before .before .before .before .before .before .before .pre .0) _ _ (omega (arith, c .before .before .before .before .before .before .if1 .left, c .before .before .before .before .before .before .before .word-at .ensures, c .before .before .before .before .before .before .before .before .before .before .before .before .pre .0 .outlines .transition-count)) _ (c .before .before .before .before .before .word-at2 .ensures) _ _ (c .before .before .before .attempt .ensures))
+settle-requires c κs =
+    let start = c .before .before .before .before .before .before .before .before .before .before .before .before in
+    (start .pre .0, tried _ _ (start .pre .0) _ _ (omega (arith, c .before .before .before .before .before .before .if1 .left, c .before .before .before .before .before .before .before .word-at .ensures, start .pre .0 .outlines .transition-count)) _ (c .before .before .before .before .before .word-at2 .ensures) _ _ (c .before .before .before .attempt .ensures))
 
 same-length : tie.Need-same-length
 same-length c = search needs

@@ -22,7 +22,9 @@ add-effects : tie.Need-add-effects
 add-effects c = record { fits = omega (arith, cost-within _ (c .before .before .before .before .before .cost .given .1) (c .before .before .before .before .before .before .before .cost-at .ensures .1), c .before .before .before .before .before .before .before .before .before .before .before .before .pre .1 .inside) }
 
 effects-requires : tie.Need-effects-requires
-effects-requires c κs = (c .before .before .before .before .before .before .before .before .before .before .before .before .before .pre .0, effects-begin _ _ (c .before .before .before .before .before .before .before .before .before .before .before .before .before .args .state .now) _ (c .before .before .before .before .before .before .before .before .cost-at .ensures .0) (c .before .before .before .before .before .before .cost .given .1) (c .before .before .before .before .before .before .before .before .before .before .before .before .before .pre .1), search needs)
+effects-requires c κs =
+    let start = c .before .before .before .before .before .before .before .before .before .before .before .before .before in
+    (start .pre .0, effects-begin _ _ (start .args .state .now) _ (c .before .before .before .before .before .before .before .before .cost-at .ensures .0) (c .before .before .before .before .before .before .cost .given .1) (start .pre .1), search needs)
 
 enum-told : tie.Need-enum-told
 enum-told c = search needs
@@ -37,13 +39,17 @@ same-length : tie.Need-same-length
 same-length c = search needs
 
 returns : tie.Need-returns
-returns c = take-done _ (c .before .before .before .before .before .before .before .before .before .before .before .before .before .before .before .before .before .before .args .at) _ _ (c .before .before .before .before .before .before .before .before .before .before .before .before .before .cost-at .ensures .0) (c .before .before .before .before .before .before .before .before .before .before .before .cost .given .1) _ _ (ap (stateIn _) (c .before .before .before .before .before .before .before .before .copy-state .ensures) ∙ copied-state _ _ (c .before .before .before .before .before .before .before .before .before .before .before .before .before .before .before .before .before .before .pre .0) _ _ (c .before .before .before .before .before .before .before .before .before .before .before .before .before .before .before .before .before .before .pre .2)) _ (c .before .before .before .before .effects .ensures) (c .enum-told .given .1)
+returns c =
+    let start = c .before .before .before .before .before .before .before .before .before .before .before .before .before .before .before .before .before .before in
+    take-done _ (start .args .at) _ _ (c .before .before .before .before .before .before .before .before .before .before .before .before .before .cost-at .ensures .0) (c .before .before .before .before .before .before .before .before .before .before .before .cost .given .1) _ _ (ap (stateIn _) (c .before .before .before .before .before .before .before .before .copy-state .ensures) ∙ copied-state _ _ (start .pre .0) _ _ (start .pre .2)) _ (c .before .before .before .before .effects .ensures) (c .enum-told .given .1)
 
 same-length-2 : tie.Need-same-length-2
 same-length-2 c = search needs
 
 returns-2 : tie.Need-returns-2
-returns-2 c = take-troubles _ (c .before .before .before .before .before .before .before .before .before .before .before .before .before .before .before .before .before .before .before .args .at) _ _ (c .before .before .before .before .before .before .before .before .before .before .before .before .before .before .cost-at .ensures .0) (c .before .before .before .before .before .before .before .before .before .before .before .before .cost .given .1) _ _ (ap (stateIn _) (c .before .before .before .before .before .before .before .before .before .copy-state .ensures) ∙ copied-state _ _ (c .before .before .before .before .before .before .before .before .before .before .before .before .before .before .before .before .before .before .before .pre .0) _ _ (c .before .before .before .before .before .before .before .before .before .before .before .before .before .before .before .before .before .before .before .pre .2)) _ (c .before .before .before .before .before .effects .ensures) (c .before .t .given .1)
+returns-2 c =
+    let start = c .before .before .before .before .before .before .before .before .before .before .before .before .before .before .before .before .before .before .before in
+    take-troubles _ (start .args .at) _ _ (c .before .before .before .before .before .before .before .before .before .before .before .before .before .before .cost-at .ensures .0) (c .before .before .before .before .before .before .before .before .before .before .before .before .cost .given .1) _ _ (ap (stateIn _) (c .before .before .before .before .before .before .before .before .before .copy-state .ensures) ∙ copied-state _ _ (start .pre .0) _ _ (start .pre .2)) _ (c .before .before .before .before .before .effects .ensures) (c .before .t .given .1)
 
 returns-3 : tie.Need-returns-3
 returns-3 c = take-stops _ (c .before .before .before .before .before .before .before .before .args .at) _ _ (c .before .before .before .cost-at .ensures .0) _ (c .before .t2 .given .1)

@@ -20,7 +20,9 @@ loop-holds : tie.Need-loop-holds Inv-loop μ-loop
 loop-holds c = comparing-first _ _ (c .before .before .before .before .before .pre) _ _
 
 no-worse-at-requires : tie.Need-no-worse-at-requires Inv-loop μ-loop
-no-worse-at-requires c κs = omega (arith, c .before .before .word-at .ensures, c .before .before .before .before .before .before .before .pre .outlines .variable-count, c .before .before .before .before .before .before .before .pre .outlines .few-variables)
+no-worse-at-requires c κs =
+    let start = c .before .before .before .before .before .before .before in
+    omega (arith, c .before .before .word-at .ensures, start .pre .outlines .variable-count, start .pre .outlines .few-variables)
 
 add-v : tie.Need-add-v Inv-loop μ-loop
 add-v c = search needs
@@ -29,13 +31,19 @@ loop-less : tie.Need-loop-less Inv-loop μ-loop
 loop-less c = search needs
 
 loop-again : tie.Need-loop-again Inv-loop μ-loop
-loop-again c = comparing-more _ _ (c .before .before .before .before .before .before .before .before .before .pre) _ _ _ (omega (arith, c .before .before .loop-test .taken, c .before .before .before .before .word-at .ensures, c .before .before .before .before .before .before .before .before .before .pre .outlines .variable-count)) (sym (c .if1 .taken) ∙ c .before .no-worse-at .ensures) (c .before .before .before .loop .inv)
+loop-again c =
+    let start = c .before .before .before .before .before .before .before .before .before in
+    comparing-more _ _ (start .pre) _ _ _ (omega (arith, c .before .before .loop-test .taken, c .before .before .before .before .word-at .ensures, start .pre .outlines .variable-count)) (sym (c .if1 .taken) ∙ c .before .no-worse-at .ensures) (c .before .before .before .loop .inv)
 
 returns : tie.Need-returns Inv-loop μ-loop
-returns c = comparing-fails _ _ (c .before .before .before .before .before .before .before .before .before .pre) _ _ _ (omega (arith, c .before .before .loop-test .taken, c .before .before .before .before .word-at .ensures, c .before .before .before .before .before .before .before .before .before .pre .outlines .variable-count)) (sym (c .if1 .left) ∙ c .before .no-worse-at .ensures) (c .before .before .before .loop .inv)
+returns c =
+    let start = c .before .before .before .before .before .before .before .before .before in
+    comparing-fails _ _ (start .pre) _ _ _ (omega (arith, c .before .before .loop-test .taken, c .before .before .before .before .word-at .ensures, start .pre .outlines .variable-count)) (sym (c .if1 .left) ∙ c .before .no-worse-at .ensures) (c .before .before .before .loop .inv)
 
 returns-2 : tie.Need-returns-2 Inv-loop μ-loop
-returns-2 c = comparing-last _ _ (c .before .before .before .before .before .before .before .pre) _ _ (c .before .loop .v) (omega (arith, c .loop-test .left, c .before .before .word-at .ensures, c .before .before .before .before .before .before .before .pre .outlines .variable-count)) (c .before .loop .inv)
+returns-2 c =
+    let start = c .before .before .before .before .before .before .before in
+    comparing-last _ _ (start .pre) _ _ (c .before .loop .v) (omega (arith, c .loop-test .left, c .before .before .word-at .ensures, start .pre .outlines .variable-count)) (c .before .loop .inv)
 
 pub dominates-spec : {M : Type 1} → statement M
 dominates-spec =

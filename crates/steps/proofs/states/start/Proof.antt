@@ -25,7 +25,9 @@ same-length : tie.Need-same-length
 same-length c = search needs
 
 returns : tie.Need-returns
-returns c = ap (stateIn _) (c .before .before .copy-state .ensures) ∙ rw (suffix 48 (c .before .before .before .before .before .before .before .before .args .outline .now)) (start-state _ _ (c .before .before .before .before .before .before .before .before .pre .0) _)
+returns c =
+    let start = c .before .before .before .before .before .before .before .before in
+    ap (stateIn _) (c .before .before .copy-state .ensures) ∙ rw (suffix 48 (start .args .outline .now)) (start-state _ _ (start .pre .0) _)
 
 pub start-spec : {M : Type 1} → statement M
 start-spec =
