@@ -25,7 +25,8 @@ slice-aggregate-follow c = search needs
 
 follow-requires : tie.Need-follow-requires
 follow-requires c κs =
-    (record { outlines = c .before .before .before .read-model .ensures .1 .0 (c .before .if3 .taken); long = omega (arith, c .before .before .before .read-model .ensures .1 .1) }, c .before .before .before .before .before .if2 .left)
+    let read-model = c .before .before .before .read-model in
+    (record { outlines = read-model .ensures .1 .0 (c .before .if3 .taken); long = omega (arith, read-model .ensures .1 .1) }, c .before .before .before .before .before .if2 .left)
 
 returns-3 : tie.Need-returns-3
 returns-3 c =
@@ -34,7 +35,9 @@ returns-3 c =
 
 returns-4 : tie.Need-returns-4
 returns-4 c =
-    told-trouble _ (check-refused _ _ _ (c .before .before .before .before .before .if1 .left) (c .before .before .before .before .if2 .left) (c .before .before .read-model .ensures .0) (omega (arith, c .if3 .left))) refl refl
+    told-trouble _
+    (check-refused _ _ _ (c .before .before .before .before .before .if1 .left) (c .before .before .before .before .if2 .left) (c .before .before .read-model .ensures .0) (omega (arith, c .if3 .left)))
+    refl refl
 
 pub check-spec : {M : Type 1} → statement M
 check-spec =

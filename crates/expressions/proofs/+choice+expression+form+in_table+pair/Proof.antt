@@ -128,15 +128,21 @@ choice-pair-requires : (t : ℕ) → choice-lts.Need-pair-requires (choice-calls
 choice-pair-requires t c κs = search needs
 
 choice-plus-parts-requires : (t : ℕ) → choice-lts.Need-plus-parts-requires (choice-calls t) (choice-at t) choice.Post
-choice-plus-parts-requires t c κs = let a = c .before .before .before .before .before .before .before .before .before .before .args in
-    next-two-fit (a .kinds .now) (a .rows .now) (a .columns .now) (a .depth) (a .e .now) D.Condition D.Number D.Number (omega (arith, c .before .before .before .before .before .before .before .before .before .before .good .0 .1)) (sym (c .before .before .before .n .given .1) ∙ c .before .before .before .before .before .expression .ensures) (rw suffix at (c .pair .ensures))
+choice-plus-parts-requires t c κs =
+    let a = c .before .before .before .before .before .before .before .before .before .before .args in
+    next-two-fit (a .kinds .now) (a .rows .now) (a .columns .now) (a .depth) (a .e .now) D.Condition D.Number D.Number
+    (omega (arith, c .before .before .before .before .before .before .before .before .before .before .good .0 .1))
+    (sym (c .before .before .before .n .given .1) ∙ c .before .before .before .before .before .expression .ensures) (rw suffix at (c .pair .ensures))
 
 choice-enum-known-t : (t : ℕ) → choice-lts.Need-enum-known-t (choice-calls t) (choice-at t) choice.Post
 choice-enum-known-t t c = search needs
 
 choice-returns : (t : ℕ) → choice-lts.Need-returns (choice-calls t) (choice-at t) choice.Post
-choice-returns t c = let a = c .before .before .before .before .before .before .before .before .before .before .before .args in
-    c .plus-parts .ensures ∙ choice-read (a .kinds .now) (a .rows .now) (a .columns .now) (a .depth) (a .e .now) (sym (c .before .before .before .before .n .given .1) ∙ c .before .before .before .before .before .before .expression .ensures) (rw suffix at (c .before .pair .ensures))
+choice-returns t c =
+    let a = c .before .before .before .before .before .before .before .before .before .before .before .args in
+    c .plus-parts .ensures ∙ choice-read (a .kinds .now) (a .rows .now) (a .columns .now) (a .depth) (a .e .now)
+    (sym (c .before .before .before .before .n .given .1) ∙ c .before .before .before .before .before .before .expression .ensures)
+    (rw suffix at (c .before .pair .ensures))
 
 choice-returns-2 : (t : ℕ) → choice-lts.Need-returns-2 (choice-calls t) (choice-at t) choice.Post
 choice-returns-2 t c = let a = c .before .before .before .before .before .before .before .before .args in
@@ -172,12 +178,19 @@ expression-form-requires : (t : ℕ) → expression-lts.Need-form-requires (expr
 expression-form-requires t c κs = search needs
 
 expression-whole-requires : (t : ℕ) → expression-lts.Need-whole-requires (expression-calls t) (expression-at t) expression.Post
-expression-whole-requires t c κs = let a = c .before .before .before .before .before .before .before .before .before .before .args in
-    form-fits (a .kinds .now) (a .rows .now) (a .columns .now) (a .due) (a .depth) (a .e .now) (2 ^ 63) (c .before .before .before .before .before .if1 .left) (c .before .before .before .before .if2 .left) (rw (c .before .before .layout .ensures, suffix 1 (a .e .now)) at (c .form .ensures)) (omega (arith, c .before .before .before .before .before .before .before .before .before .before .good .1 .0 .1))
+expression-whole-requires t c κs =
+    let a = c .before .before .before .before .before .before .before .before .before .before .args in
+    form-fits (a .kinds .now) (a .rows .now) (a .columns .now) (a .due) (a .depth) (a .e .now) (2 ^ 63)
+    (c .before .before .before .before .before .if1 .left) (c .before .before .before .before .if2 .left)
+    (rw (c .before .before .layout .ensures, suffix 1 (a .e .now)) at (c .form .ensures))
+    (omega (arith, c .before .before .before .before .before .before .before .before .before .before .good .1 .0 .1))
 
 expression-returns-3 : (t : ℕ) → expression-lts.Need-returns-3 (expression-calls t) (expression-at t) expression.Post
-expression-returns-3 t c = let a = c .before .before .before .before .before .before .before .before .before .before .before .args in
-    c .whole .ensures ∙ ap (forms.whole (a .due)) (rw (c .before .before .before .layout .ensures, suffix 1 (a .e .now)) at (c .before .form .ensures)) ∙ sym (part-opened (a .kinds .now) (a .rows .now) (a .columns .now) (a .due) (a .depth) (a .e .now) (c .before .before .before .before .before .before .if1 .left) (c .before .before .before .before .before .if2 .left))
+expression-returns-3 t c =
+    let a = c .before .before .before .before .before .before .before .before .before .before .before .args in
+    c .whole .ensures ∙ ap (forms.whole (a .due))
+    (rw (c .before .before .before .layout .ensures, suffix 1 (a .e .now)) at (c .before .form .ensures)) ∙ sym
+    (part-opened (a .kinds .now) (a .rows .now) (a .columns .now) (a .due) (a .depth) (a .e .now) (c .before .before .before .before .before .before .if1 .left) (c .before .before .before .before .before .if2 .left))
 
 form-enum-told : (t : ℕ) → form-lts.Need-enum-told (form-calls t) (form-at t) form.Post
 form-enum-told t c = search needs
@@ -298,12 +311,18 @@ in-table-byte-at-requires : (t : ℕ) → in-table-lts.Need-byte-at-requires (in
 in-table-byte-at-requires t c κs = search needs
 
 in-table-within-requires : (t : ℕ) → in-table-lts.Need-within-requires (in-table-calls t) (in-table-at t) in-table.Post
-in-table-within-requires t c κs = let a = c .before .before .before .before .before .before .before .before .before .before .before .args in
-    parts-fit (a .kinds .now) (a .rows .now) (a .columns .now) (a .first) D.Element (a .depth) (drop 1 (a .e .now)) (2 ^ 63) (rw suffix at (c .before .before .pair .ensures)) (omega (arith, length-drop 1 (a .e .now), c .before .before .before .before .before .before .before .before .before .before .before .good .1 .0 .1))
+in-table-within-requires t c κs =
+    let a = c .before .before .before .before .before .before .before .before .before .before .before .args in
+    parts-fit (a .kinds .now) (a .rows .now) (a .columns .now) (a .first) D.Element (a .depth) (drop 1 (a .e .now)) (2 ^ 63)
+    (rw suffix at (c .before .before .pair .ensures))
+    (omega (arith, length-drop 1 (a .e .now), c .before .before .before .before .before .before .before .before .before .before .before .good .1 .0 .1))
 
 in-table-returns-2 : (t : ℕ) → in-table-lts.Need-returns-2 (in-table-calls t) (in-table-at t) in-table.Post
-in-table-returns-2 t c = let a = c .before .before .before .before .before .before .before .before .before .before .before .before .args in
-    c .within .ensures ∙ table-read (a .kinds .now) (a .rows .now) (a .columns .now) (a .depth) (a .e .now) (a .first) (c .before .before .before .before .before .before .before .if1 .left) (c .before .before .before .before .before .if2 .taken) (c .before .byte-at .ensures) (rw suffix at (c .before .before .before .pair .ensures))
+in-table-returns-2 t c =
+    let a = c .before .before .before .before .before .before .before .before .before .before .before .before .args in
+    c .within .ensures ∙ table-read (a .kinds .now) (a .rows .now) (a .columns .now) (a .depth) (a .e .now) (a .first)
+    (c .before .before .before .before .before .before .before .if1 .left) (c .before .before .before .before .before .if2 .taken)
+    (c .before .byte-at .ensures) (rw suffix at (c .before .before .before .pair .ensures))
 
 in-table-returns-3 : (t : ℕ) → in-table-lts.Need-returns-3 (in-table-calls t) (in-table-at t) in-table.Post
 in-table-returns-3 t c = let a = c .before .before .before .before .before .before .before .args in
@@ -330,15 +349,22 @@ pair-expression-requires-2 : (t : ℕ) → pair-lts.Need-expression-requires-2 (
 pair-expression-requires-2 t c κs = search needs
 
 pair-behind-requires : (t : ℕ) → pair-lts.Need-behind-requires (pair-calls t) (pair-at t) pair.Post
-pair-behind-requires t c κs = let a = c .before .before .before .before .before .before .before .before .before .before .args in
-    next-fits (a .kinds .now) (a .rows .now) (a .columns .now) (a .depth) (a .e .now) (a .first) (a .second) (omega (arith, c .before .before .before .before .before .before .before .before .before .before .good .1 .1 .0 .1)) (sym (c .before .before .before .n .given .1) ∙ c .before .before .before .before .before .expression .ensures) (rw suffix at (c .expression2 .ensures))
+pair-behind-requires t c κs =
+    let a = c .before .before .before .before .before .before .before .before .before .before .args in
+    next-fits (a .kinds .now) (a .rows .now) (a .columns .now) (a .depth) (a .e .now) (a .first) (a .second)
+    (omega (arith, c .before .before .before .before .before .before .before .before .before .before .good .1 .1 .0 .1))
+    (sym (c .before .before .before .n .given .1) ∙ c .before .before .before .before .before .expression .ensures)
+    (rw suffix at (c .expression2 .ensures))
 
 pair-enum-known-t : (t : ℕ) → pair-lts.Need-enum-known-t (pair-calls t) (pair-at t) pair.Post
 pair-enum-known-t t c = search needs
 
 pair-returns : (t : ℕ) → pair-lts.Need-returns (pair-calls t) (pair-at t) pair.Post
-pair-returns t c = let a = c .before .before .before .before .before .before .before .before .before .before .before .args in
-    c .behind .ensures ∙ parts-read (a .kinds .now) (a .rows .now) (a .columns .now) (a .depth) (a .e .now) (a .first) (a .second) (sym (c .before .before .before .before .n .given .1) ∙ c .before .before .before .before .before .before .expression .ensures) (rw suffix at (c .before .expression2 .ensures))
+pair-returns t c =
+    let a = c .before .before .before .before .before .before .before .before .before .before .before .args in
+    c .behind .ensures ∙ parts-read (a .kinds .now) (a .rows .now) (a .columns .now) (a .depth) (a .e .now) (a .first) (a .second)
+    (sym (c .before .before .before .before .n .given .1) ∙ c .before .before .before .before .before .before .expression .ensures)
+    (rw suffix at (c .before .expression2 .ensures))
 
 pair-returns-2 : (t : ℕ) → pair-lts.Need-returns-2 (pair-calls t) (pair-at t) pair.Post
 pair-returns-2 t c = let a = c .before .before .before .before .before .before .before .before .args in

@@ -204,7 +204,9 @@ choice-returns t c =
     let p = place (a .model .now) (a .state .now) (a .full .now) (a .tables .now) in
     let e = drop (a .at) (a .e .now) in
     let h = sym (c .before .before .before .before .before .condition-from .ensures) ∙ c .before .before .before .b .given .1 in
-    c .number-before .ensures ∙ sym (choice-first (λ f. runNumber (a .depth) p f) (λ f. runCondition (a .depth) p f) e (c .before .before .before .b .given .0 .0) (c .before .before .before .b .given .0 .1 .0) h (c .before .if1 .taken))
+    let b = c .before .before .before .b in
+    c .number-before .ensures ∙ sym
+    (choice-first (λ f. runNumber (a .depth) p f) (λ f. runCondition (a .depth) p f) e (b .given .0 .0) (b .given .0 .1 .0) h (c .before .if1 .taken))
 
 choice-returns-2 : (t : ℕ) → choice-lts.Need-returns-2 (choice-calls t) (choice-at t) choice.Post
 choice-returns-2 t c =
@@ -212,14 +214,17 @@ choice-returns-2 t c =
     let p = place (a .model .now) (a .state .now) (a .full .now) (a .tables .now) in
     let e = drop (a .at) (a .e .now) in
     let h = sym (c .before .before .before .before .before .condition-from .ensures) ∙ c .before .before .before .b .given .1 in
-    c .number-beyond .ensures ∙ sym (choice-second (λ f. runNumber (a .depth) p f) (λ f. runCondition (a .depth) p f) e (c .before .before .before .b .given .0 .0) (c .before .before .before .b .given .0 .1 .0) h (c .before .if1 .left))
+    let b = c .before .before .before .b in
+    c .number-beyond .ensures ∙ sym
+    (choice-second (λ f. runNumber (a .depth) p f) (λ f. runCondition (a .depth) p f) e (b .given .0 .0) (b .given .0 .1 .0) h (c .before .if1 .left))
 
 choice-returns-3 : (t : ℕ) → choice-lts.Need-returns-3 (choice-calls t) (choice-at t) choice.Post
 choice-returns-3 t c =
     let a = c .before .before .before .before .before .before .before .before .before .args in
     let p = place (a .model .now) (a .state .now) (a .full .now) (a .tables .now) in
     let e = drop (a .at) (a .e .now) in
-    sym (choice-trouble (λ f. runNumber (a .depth) p f) (λ f. runCondition (a .depth) p f) e (c .before .t .given .0 .0) (sym (c .before .before .before .condition-from .ensures) ∙ c .before .t .given .1))
+    sym
+    (choice-trouble (λ f. runNumber (a .depth) p f) (λ f. runCondition (a .depth) p f) e (c .before .t .given .0 .0) (sym (c .before .before .before .condition-from .ensures) ∙ c .before .t .given .1))
 
 condition-behind-enum-known-form : (t : ℕ) → condition-behind-lts.Need-enum-known-form (condition-behind-calls t) (condition-behind-at t) condition-behind.Post
 condition-behind-enum-known-form t c = search needs
@@ -343,7 +348,8 @@ condition-from-condition-past-requires : (t : ℕ) → condition-from-lts.Need-c
 condition-from-condition-past-requires t c κs =
     let a = c .before .before .before .before .before .before .before .before .before .before .args in
     let p = place (a .model .now) (a .state .now) (a .full .now) (a .tables .now) in
-    rw (c .member-of .ensures) (member-room (a .depth - 1) p (drop (a .at + 1) (a .e .now)) (omega (arith, length-drop (a .at + 1) (a .e .now), c .before .before .before .before .before .before .before .before .before .before .good .0 .1)))
+    rw (c .member-of .ensures)
+    (member-room (a .depth - 1) p (drop (a .at + 1) (a .e .now)) (omega (arith, length-drop (a .at + 1) (a .e .now), c .before .before .before .before .before .before .before .before .before .before .good .0 .1)))
 
 condition-from-returns-3 : (t : ℕ) → condition-from-lts.Need-returns-3 (condition-from-calls t) (condition-from-at t) condition-from.Post
 condition-from-returns-3 t c =
@@ -369,7 +375,8 @@ condition-from-condition-past-requires-2 t c κs =
     let a = c .before .before .before .before .before .before .before .before .before .before .before .args in
     let p = place (a .model .now) (a .state .now) (a .full .now) (a .tables .now) in
     let f = drop (a .at + 1) (a .e .now) in
-    rw (c .condition-behind .ensures) (condition-room 1 (length f) (conditionAt (a .depth - 1) p (c .before .condition-form .result) f) (condition-at-within (a .depth - 1) p (c .before .condition-form .result) f) (omega (arith, length-drop (a .at + 1) (a .e .now), c .before .before .before .before .before .before .before .before .before .before .before .good .0 .1)))
+    rw (c .condition-behind .ensures)
+    (condition-room 1 (length f) (conditionAt (a .depth - 1) p (c .before .condition-form .result) f) (condition-at-within (a .depth - 1) p (c .before .condition-form .result) f) (omega (arith, length-drop (a .at + 1) (a .e .now), c .before .before .before .before .before .before .before .before .before .before .before .good .0 .1)))
 
 condition-from-returns-4 : (t : ℕ) → condition-from-lts.Need-returns-4 (condition-from-calls t) (condition-from-at t) condition-from.Post
 condition-from-returns-4 t c =
@@ -395,7 +402,9 @@ connective-add-after t c =
     let a = c .before .before .before .before .before .before .before .before .before .before .before .args in
     let p = place (a .model .now) (a .state .now) (a .full .now) (a .tables .now) in
     let h = sym (c .before .before .before .before .before .condition-from .ensures) ∙ c .before .before .before .b .given .1 in
-    omega (arith, condition-past (a .depth) p (a .at) (a .e .now) (c .before .before .before .b .given .0 .0) (c .before .before .before .b .given .0 .1 .0) h, c .before .before .before .before .before .before .before .before .before .before .before .good .1 .0 .1)
+    let b = c .before .before .before .b in
+    omega
+    (arith, condition-past (a .depth) p (a .at) (a .e .now) (b .given .0 .0) (b .given .0 .1 .0) h, c .before .before .before .before .before .before .before .before .before .before .before .good .1 .0 .1)
 
 connective-after-requires : (t : ℕ) → connective-lts.Need-after-requires (connective-calls t) (connective-at t) connective.Post
 connective-after-requires t c κs = search needs
@@ -409,14 +418,18 @@ connective-add-used t c =
     let p = place (a .model .now) (a .state .now) (a .full .now) (a .tables .now) in
     let h = sym (c .before .before .before .before .before .before .before .condition-from .ensures) ∙ c .before .before .before .before .before .b .given .1 in
     let s = rw (c .before .after .ensures) at (c .skip .ensures) in
-    omega (arith, s, span-within (drop (a .at + (c .before .before .before .before .before .b .given .0 .1 .0)) (a .e .now)) 0 1, length-drop (a .at + (c .before .before .before .before .before .b .given .0 .1 .0)) (a .e .now), condition-past (a .depth) p (a .at) (a .e .now) (c .before .before .before .before .before .b .given .0 .0) (c .before .before .before .before .before .b .given .0 .1 .0) h, c .before .before .before .before .before .before .before .before .before .before .before .before .before .good .1 .0 .1)
+    let b = c .before .before .before .before .before .b in
+    omega
+    (arith, s, span-within (drop (a .at + (b .given .0 .1 .0)) (a .e .now)) 0 1, length-drop (a .at + (b .given .0 .1 .0)) (a .e .now), condition-past (a .depth) p (a .at) (a .e .now) (b .given .0 .0) (b .given .0 .1 .0) h, c .before .before .before .before .before .before .before .before .before .before .before .before .before .good .1 .0 .1)
 
 connective-add-condition-from : (t : ℕ) → connective-lts.Need-add-condition-from (connective-calls t) (connective-at t) connective.Post
 connective-add-condition-from t c =
     let a = c .before .before .before .before .before .before .before .before .before .before .before .args in
     let p = place (a .model .now) (a .state .now) (a .full .now) (a .tables .now) in
     let h = sym (c .before .before .before .before .before .condition-from .ensures) ∙ c .before .before .before .b .given .1 in
-    omega (arith, condition-past (a .depth) p (a .at) (a .e .now) (c .before .before .before .b .given .0 .0) (c .before .before .before .b .given .0 .1 .0) h, c .before .before .before .before .before .before .before .before .before .before .before .good .1 .0 .1)
+    let b = c .before .before .before .b in
+    omega
+    (arith, condition-past (a .depth) p (a .at) (a .e .now) (b .given .0 .0) (b .given .0 .1 .0) h, c .before .before .before .before .before .before .before .before .before .before .before .good .1 .0 .1)
 
 connective-condition-from-requires-2 : (t : ℕ) → connective-lts.Need-condition-from-requires-2 (connective-calls t) (connective-at t) connective.Post
 connective-condition-from-requires-2 t c κs =
@@ -429,7 +442,9 @@ connective-condition-past-requires t c κs =
     let p = place (a .model .now) (a .state .now) (a .full .now) (a .tables .now) in
     let h = sym (c .before .before .before .before .before .before .condition-from .ensures) ∙ c .before .before .before .before .b .given .1 in
     let f = drop (a .at + (c .before .before .before .before .b .given .0 .1 .0)) (a .e .now) in
-    rw (c .condition-from2 .ensures) (condition-room (c .before .before .before .before .b .given .0 .1 .0) (length f) (runCondition (a .depth) p f) (condition-within (a .depth) p f) (omega (arith, length-drop (a .at + (c .before .before .before .before .b .given .0 .1 .0)) (a .e .now), condition-past (a .depth) p (a .at) (a .e .now) (c .before .before .before .before .b .given .0 .0) (c .before .before .before .before .b .given .0 .1 .0) h, c .before .before .before .before .before .before .before .before .before .before .before .before .good .1 .0 .1)))
+    let b = c .before .before .before .before .b in
+    rw (c .condition-from2 .ensures)
+    (condition-room (b .given .0 .1 .0) (length f) (runCondition (a .depth) p f) (condition-within (a .depth) p f) (omega (arith, length-drop (a .at + (b .given .0 .1 .0)) (a .e .now), condition-past (a .depth) p (a .at) (a .e .now) (b .given .0 .0) (b .given .0 .1 .0) h, c .before .before .before .before .before .before .before .before .before .before .before .before .good .1 .0 .1)))
 
 connective-enum-known-t : (t : ℕ) → connective-lts.Need-enum-known-t (connective-calls t) (connective-at t) connective.Post
 connective-enum-known-t t c = search needs
@@ -441,7 +456,9 @@ connective-returns t c =
     let e = drop (a .at) (a .e .now) in
     let h = sym (c .before .before .before .before .before .before .before .condition-from .ensures) ∙ c .before .before .before .before .before .b .given .1 in
     let s = rw (c .before .after .ensures, behind (a .at) (c .before .before .before .before .before .b .given .0 .1 .0) (a .e .now)) at (c .skip .ensures) in
-    rw s (sym (connective-decided (λ f. runNumber (a .depth) p f) (λ f. runCondition (a .depth) p f) e (a .decides) (c .before .before .before .before .before .b .given .0 .0) (c .before .before .before .before .before .b .given .0 .1 .0) h (sym (c .before .before .before .agree .ensures) ∙ c .before .before .if1 .taken)))
+    let b = c .before .before .before .before .before .b in
+    rw s
+    (sym (connective-decided (λ f. runNumber (a .depth) p f) (λ f. runCondition (a .depth) p f) e (a .decides) (b .given .0 .0) (b .given .0 .1 .0) h (sym (c .before .before .before .agree .ensures) ∙ c .before .before .if1 .taken)))
 
 connective-returns-2 : (t : ℕ) → connective-lts.Need-returns-2 (connective-calls t) (connective-at t) connective.Post
 connective-returns-2 t c =
@@ -457,7 +474,8 @@ connective-returns-3 t c =
     let a = c .before .before .before .before .before .before .before .before .before .args in
     let p = place (a .model .now) (a .state .now) (a .full .now) (a .tables .now) in
     let e = drop (a .at) (a .e .now) in
-    sym (connective-trouble (λ f. runNumber (a .depth) p f) (λ f. runCondition (a .depth) p f) e (a .decides) (c .before .t .given .0 .0) (sym (c .before .before .before .condition-from .ensures) ∙ c .before .t .given .1))
+    sym
+    (connective-trouble (λ f. runNumber (a .depth) p f) (λ f. runCondition (a .depth) p f) e (a .decides) (c .before .t .given .0 .0) (sym (c .before .before .before .condition-from .ensures) ∙ c .before .t .given .1))
 
 number-before-add-number-from : (t : ℕ) → number-before-lts.Need-add-number-from (number-before-calls t) (number-before-at t) number-before.Post
 number-before-add-number-from t c =
@@ -477,14 +495,16 @@ number-before-add-k t c =
     let a = c .before .before .before .before .before .before .before .before .before .args in
     let p = place (a .model .now) (a .state .now) (a .full .now) (a .tables .now) in
     let h = sym (c .before .before .before .number-from .ensures) ∙ c .before .z .given .1 in
-    omega (arith, c .before .before .before .before .before .before .before .before .before .pre .1, length-drop (a .at) (a .e .now), number-past (a .depth) p (a .at + a .n) (a .e .now) (c .before .z .given .0 .0) (c .before .z .given .0 .1 .0) h, c .before .before .before .before .before .before .before .before .before .good .0 .1)
+    omega
+    (arith, c .before .before .before .before .before .before .before .before .before .pre .1, length-drop (a .at) (a .e .now), number-past (a .depth) p (a .at + a .n) (a .e .now) (c .before .z .given .0 .0) (c .before .z .given .0 .1 .0) h, c .before .before .before .before .before .before .before .before .before .good .0 .1)
 
 number-before-add-after : (t : ℕ) → number-before-lts.Need-add-after (number-before-calls t) (number-before-at t) number-before.Post
 number-before-add-after t c =
     let a = c .before .before .before .before .before .before .before .before .before .args in
     let p = place (a .model .now) (a .state .now) (a .full .now) (a .tables .now) in
     let h = sym (c .before .before .before .number-from .ensures) ∙ c .before .z .given .1 in
-    omega (arith, c .before .before .before .before .before .before .before .before .before .pre .1, length-drop (a .at) (a .e .now), number-past (a .depth) p (a .at + a .n) (a .e .now) (c .before .z .given .0 .0) (c .before .z .given .0 .1 .0) h, c .before .before .before .before .before .before .before .before .before .good .0 .1)
+    omega
+    (arith, c .before .before .before .before .before .before .before .before .before .pre .1, length-drop (a .at) (a .e .now), number-past (a .depth) p (a .at + a .n) (a .e .now) (c .before .z .given .0 .0) (c .before .z .given .0 .1 .0) h, c .before .before .before .before .before .before .before .before .before .good .0 .1)
 
 number-before-after-requires : (t : ℕ) → number-before-lts.Need-after-requires (number-before-calls t) (number-before-at t) number-before.Post
 number-before-after-requires t c κs = search needs
@@ -498,7 +518,9 @@ number-before-add-used t c =
     let p = place (a .model .now) (a .state .now) (a .full .now) (a .tables .now) in
     let h = sym (c .before .before .before .before .before .number-from .ensures) ∙ c .before .before .before .z .given .1 in
     let s = rw (c .before .after .ensures) at (c .skip .ensures) in
-    omega (arith, c .before .before .before .before .before .before .before .before .before .before .before .pre .1, length-drop (a .at) (a .e .now), number-past (a .depth) p (a .at + a .n) (a .e .now) (c .before .before .before .z .given .0 .0) (c .before .before .before .z .given .0 .1 .0) h, c .before .before .before .before .before .before .before .before .before .before .before .good .0 .1, s, span-within (drop (a .at + (a .n + (c .before .before .before .z .given .0 .1 .0))) (a .e .now)) 0 1, length-drop (a .at + (a .n + (c .before .before .before .z .given .0 .1 .0))) (a .e .now))
+    let z = c .before .before .before .z in
+    omega
+    (arith, c .before .before .before .before .before .before .before .before .before .before .before .pre .1, length-drop (a .at) (a .e .now), number-past (a .depth) p (a .at + a .n) (a .e .now) (z .given .0 .0) (z .given .0 .1 .0) h, c .before .before .before .before .before .before .before .before .before .before .before .good .0 .1, s, span-within (drop (a .at + (a .n + (z .given .0 .1 .0))) (a .e .now)) 0 1, length-drop (a .at + (a .n + (z .given .0 .1 .0))) (a .e .now))
 
 number-before-enum-known-t : (t : ℕ) → number-before-lts.Need-enum-known-t (number-before-calls t) (number-before-at t) number-before.Post
 number-before-enum-known-t t c = search needs
@@ -633,13 +655,15 @@ number-beyond-add-k : (t : ℕ) → number-beyond-lts.Need-add-k (number-beyond-
 number-beyond-add-k t c =
     let a = c .before .before .before .before .before .before .before .args in
     let s = rw (c .before .after .ensures) at (c .skip .ensures) in
-    omega (arith, s, span-within (drop (a .at + a .n) (a .e .now)) 0 1, length-drop (a .at + a .n) (a .e .now), c .before .before .before .before .before .before .before .pre .1, length-drop (a .at) (a .e .now), c .before .before .before .before .before .before .before .good .0 .1)
+    omega
+    (arith, s, span-within (drop (a .at + a .n) (a .e .now)) 0 1, length-drop (a .at + a .n) (a .e .now), c .before .before .before .before .before .before .before .pre .1, length-drop (a .at) (a .e .now), c .before .before .before .before .before .before .before .good .0 .1)
 
 number-beyond-add-number-from : (t : ℕ) → number-beyond-lts.Need-add-number-from (number-beyond-calls t) (number-beyond-at t) number-beyond.Post
 number-beyond-add-number-from t c =
     let a = c .before .before .before .before .before .before .before .args in
     let s = rw (c .before .after .ensures) at (c .skip .ensures) in
-    omega (arith, s, span-within (drop (a .at + a .n) (a .e .now)) 0 1, length-drop (a .at + a .n) (a .e .now), c .before .before .before .before .before .before .before .pre .1, length-drop (a .at) (a .e .now), c .before .before .before .before .before .before .before .good .0 .1)
+    omega
+    (arith, s, span-within (drop (a .at + a .n) (a .e .now)) 0 1, length-drop (a .at + a .n) (a .e .now), c .before .before .before .before .before .before .before .pre .1, length-drop (a .at) (a .e .now), c .before .before .before .before .before .before .before .good .0 .1)
 
 number-beyond-number-from-requires : (t : ℕ) → number-beyond-lts.Need-number-from-requires (number-beyond-calls t) (number-beyond-at t) number-beyond.Post
 number-beyond-number-from-requires t c κs =
@@ -653,7 +677,8 @@ number-beyond-number-past-requires t c κs =
     let s = rw (c .before .before .after .ensures) at (c .before .skip .ensures) in
     let k = a .n + c .before .skip .result in
     let f = drop (a .at + k) (a .e .now) in
-    rw (c .number-from .ensures) (number-room k (length f) (runNumber (a .depth) p f) (number-within (a .depth) p f) (omega (arith, s, span-within (drop (a .at + a .n) (a .e .now)) 0 1, length-drop (a .at + a .n) (a .e .now), c .before .before .before .before .before .before .before .before .pre .1, length-drop (a .at) (a .e .now), c .before .before .before .before .before .before .before .before .good .0 .1, length-drop (a .at + k) (a .e .now))))
+    rw (c .number-from .ensures)
+    (number-room k (length f) (runNumber (a .depth) p f) (number-within (a .depth) p f) (omega (arith, s, span-within (drop (a .at + a .n) (a .e .now)) 0 1, length-drop (a .at + a .n) (a .e .now), c .before .before .before .before .before .before .before .before .pre .1, length-drop (a .at) (a .e .now), c .before .before .before .before .before .before .before .before .good .0 .1, length-drop (a .at + k) (a .e .now))))
 
 number-beyond-returns : (t : ℕ) → number-beyond-lts.Need-returns (number-beyond-calls t) (number-beyond-at t) number-beyond.Post
 unfolding chosen
@@ -692,7 +717,8 @@ number-from-number-past-requires : (t : ℕ) → number-from-lts.Need-number-pas
 number-from-number-past-requires t c κs =
     let a = c .before .before .before .before .before .before .before .before .before .before .before .args in
     let p = place (a .model .now) (a .state .now) (a .full .now) (a .tables .now) in
-    rw (c .number-variable .ensures, c .before .after .ensures) (variable-room 0 p (drop (a .at + 1) (a .e .now)) (omega (arith, length-drop (a .at + 1) (a .e .now), c .before .before .before .before .before .before .before .before .before .before .before .good .0 .1)))
+    rw (c .number-variable .ensures, c .before .after .ensures)
+    (variable-room 0 p (drop (a .at + 1) (a .e .now)) (omega (arith, length-drop (a .at + 1) (a .e .now), c .before .before .before .before .before .before .before .before .before .before .before .good .0 .1)))
 
 number-from-returns-3 : (t : ℕ) → number-from-lts.Need-returns-3 (number-from-calls t) (number-from-at t) number-from.Post
 number-from-returns-3 t c =
@@ -712,7 +738,8 @@ number-from-number-past-requires-2 : (t : ℕ) → number-from-lts.Need-number-p
 number-from-number-past-requires-2 t c κs =
     let a = c .before .before .before .before .before .before .before .before .before .before .before .before .args in
     let p = place (a .model .now) (a .state .now) (a .full .now) (a .tables .now) in
-    rw (c .literal-number .ensures, c .before .after2 .ensures) (literal-room 0 p (drop (a .at + 1) (a .e .now)) (omega (arith, length-drop (a .at + 1) (a .e .now), c .before .before .before .before .before .before .before .before .before .before .before .before .good .0 .1)))
+    rw (c .literal-number .ensures, c .before .after2 .ensures)
+    (literal-room 0 p (drop (a .at + 1) (a .e .now)) (omega (arith, length-drop (a .at + 1) (a .e .now), c .before .before .before .before .before .before .before .before .before .before .before .before .good .0 .1)))
 
 number-from-returns-4 : (t : ℕ) → number-from-lts.Need-returns-4 (number-from-calls t) (number-from-at t) number-from.Post
 number-from-returns-4 t c =
@@ -738,7 +765,8 @@ number-from-number-past-requires-3 t c κs =
     let a = c .before .before .before .before .before .before .before .before .before .before .before .before .args in
     let p = place (a .model .now) (a .state .now) (a .full .now) (a .tables .now) in
     let f = drop (a .at + 1) (a .e .now) in
-    rw (c .number-behind .ensures) (number-room 1 (length f) (numberAt (a .depth - 1) p (c .before .number-form .result) f) (number-at-within (a .depth - 1) p (c .before .number-form .result) f) (omega (arith, length-drop (a .at + 1) (a .e .now), c .before .before .before .before .before .before .before .before .before .before .before .before .good .0 .1)))
+    rw (c .number-behind .ensures)
+    (number-room 1 (length f) (numberAt (a .depth - 1) p (c .before .number-form .result) f) (number-at-within (a .depth - 1) p (c .before .number-form .result) f) (omega (arith, length-drop (a .at + 1) (a .e .now), c .before .before .before .before .before .before .before .before .before .before .before .before .good .0 .1)))
 
 number-from-returns-5 : (t : ℕ) → number-from-lts.Need-returns-5 (number-from-calls t) (number-from-at t) number-from.Post
 number-from-returns-5 t c =
@@ -761,7 +789,8 @@ pair-add-number-from t c =
     let a = c .before .before .before .before .before .before .before .before .before .args in
     let p = place (a .model .now) (a .state .now) (a .full .now) (a .tables .now) in
     let h = sym (c .before .before .before .number-from .ensures) ∙ c .before .x .given .1 in
-    omega (arith, number-past (a .depth) p (a .at) (a .e .now) (c .before .x .given .0 .0) (c .before .x .given .0 .1 .0) h, c .before .before .before .before .before .before .before .before .before .good .0 .1)
+    omega
+    (arith, number-past (a .depth) p (a .at) (a .e .now) (c .before .x .given .0 .0) (c .before .x .given .0 .1 .0) h, c .before .before .before .before .before .before .before .before .before .good .0 .1)
 
 pair-number-from-requires-2 : (t : ℕ) → pair-lts.Need-number-from-requires-2 (pair-calls t) (pair-at t) pair.Post
 pair-number-from-requires-2 t c κs =
@@ -777,7 +806,9 @@ pair-add-used t c =
     let p = place (a .model .now) (a .state .now) (a .full .now) (a .tables .now) in
     let h = sym (c .before .before .before .before .before .before .before .number-from .ensures) ∙ c .before .before .before .before .before .x .given .1 in
     let k = sym (c .before .before .before .number-from2 .ensures) ∙ c .before .y .given .1 in
-    omega (arith, number-past (a .depth) p (a .at) (a .e .now) (c .before .before .before .before .before .x .given .0 .0) (c .before .before .before .before .before .x .given .0 .1 .0) h, number-past (a .depth) p (a .at + (c .before .before .before .before .before .x .given .0 .1 .0)) (a .e .now) (c .before .y .given .0 .0) (c .before .y .given .0 .1 .0) k, c .before .before .before .before .before .before .before .before .before .before .before .before .before .good .0 .1)
+    let x = c .before .before .before .before .before .x in
+    omega
+    (arith, number-past (a .depth) p (a .at) (a .e .now) (x .given .0 .0) (x .given .0 .1 .0) h, number-past (a .depth) p (a .at + (x .given .0 .1 .0)) (a .e .now) (c .before .y .given .0 .0) (c .before .y .given .0 .1 .0) k, c .before .before .before .before .before .before .before .before .before .before .before .before .before .good .0 .1)
 
 pair-enum-known-t : (t : ℕ) → pair-lts.Need-enum-known-t (pair-calls t) (pair-at t) pair.Post
 pair-enum-known-t t c = search needs
@@ -803,7 +834,9 @@ pair-returns-2 t c =
     let e = drop (a .at) (a .e .now) in
     let h = sym (c .before .before .before .before .before .before .before .number-from .ensures) ∙ c .before .before .before .before .before .x .given .1 in
     let k = (rw (behind (a .at) (c .before .before .before .before .before .x .given .0 .1 .0) (a .e .now)) at (sym (c .before .before .before .number-from2 .ensures))) ∙ c .before .t .given .1 in
-    sym (pair-second (λ f. runNumber (a .depth) p f) (λ f. runCondition (a .depth) p f) e (c .before .before .before .before .before .x .given .0 .0) (c .before .before .before .before .before .x .given .0 .1 .0) (c .before .t .given .0 .0) h k)
+    let x = c .before .before .before .before .before .x in
+    sym
+    (pair-second (λ f. runNumber (a .depth) p f) (λ f. runCondition (a .depth) p f) e (x .given .0 .0) (x .given .0 .1 .0) (c .before .t .given .0 .0) h k)
 
 pair-returns-3 : (t : ℕ) → pair-lts.Need-returns-3 (pair-calls t) (pair-at t) pair.Post
 pair-returns-3 t c =

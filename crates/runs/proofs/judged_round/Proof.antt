@@ -38,7 +38,9 @@ same-length-4 : tie.Need-same-length-4
 same-length-4 c = search needs
 
 returns-2 : tie.Need-returns-2
-returns-2 c = round-again (c .before .before .before .before .before .before .before .before .before .before .before .round .ensures) (c .before .before .before .enum-told .given .1) (c .before .before .judge .ensures) (c .enum-told2 .given .1)
+returns-2 c =
+    round-again (c .before .before .before .before .before .before .before .before .before .before .before .round .ensures)
+    (c .before .before .before .enum-told .given .1) (c .before .before .judge .ensures) (c .enum-told2 .given .1)
 
 same-length-5 : tie.Need-same-length-5
 same-length-5 c = search needs
@@ -47,7 +49,9 @@ same-length-6 : tie.Need-same-length-6
 same-length-6 c = search needs
 
 returns-3 : tie.Need-returns-3
-returns-3 c = round-ended (c .before .before .before .before .before .before .before .before .before .before .before .before .round .ensures) (c .before .before .before .before .enum-told .given .1) (c .before .before .before .judge .ensures) (c .before .v .given .1)
+returns-3 c =
+    round-ended (c .before .before .before .before .before .before .before .before .before .before .before .before .round .ensures)
+    (c .before .before .before .before .enum-told .given .1) (c .before .before .before .judge .ensures) (c .before .v .given .1)
 
 pub judged-round-spec : {M : Type 1} → statement M
 judged-round-spec =

@@ -21,12 +21,14 @@ enum-known-t c = search needs
 returns : tie.Need-returns
 returns c =
     let start = c .before .before .before .before .before .before .before .before .before in
-    c .number-at .ensures ∙ cost-read (variablesOf (start .args .kinds .now)) (tablesOf (start .args .rows .now) (start .args .columns .now)) (start .args .at) (start .args .model .now) (sym (c .before .before .p .given .1) ∙ c .before .before .before .before .command-at .ensures)
+    c .number-at .ensures ∙ cost-read (variablesOf (start .args .kinds .now)) (tablesOf (start .args .rows .now) (start .args .columns .now))
+    (start .args .at) (start .args .model .now) (sym (c .before .before .p .given .1) ∙ c .before .before .before .before .command-at .ensures)
 
 returns-2 : tie.Need-returns-2
 returns-2 c =
     let start = c .before .before .before .before .before .before .before .before in
-    cost-refused (variablesOf (start .args .kinds .now)) (tablesOf (start .args .rows .now) (start .args .columns .now)) (start .args .at) (start .args .model .now) (sym (c .before .t .given .1) ∙ c .before .before .before .command-at .ensures)
+    cost-refused (variablesOf (start .args .kinds .now)) (tablesOf (start .args .rows .now) (start .args .columns .now)) (start .args .at)
+    (start .args .model .now) (sym (c .before .t .given .1) ∙ c .before .before .before .command-at .ensures)
 
 pub cost-spec : {M : Type 1} → statement M
 cost-spec =

@@ -28,12 +28,15 @@ byte-at-requires c κs = search needs
 returns : tie.Need-returns
 returns c =
     let start = c .before .before .before .before .before .before .before .before .before in
-    effect-again (start .args .kinds .now) (start .args .rows .now) (start .args .columns .now) (start .args .model .now) (start .args .at) (start .args .n) (start .args .marks .now) (start .pre .0) (c .before .before .before .if1 .taken) (c .before .byte-at .ensures) (c .if2 .taken)
+    effect-again (start .args .kinds .now) (start .args .rows .now) (start .args .columns .now) (start .args .model .now) (start .args .at)
+    (start .args .n) (start .args .marks .now) (start .pre .0) (c .before .before .before .if1 .taken) (c .before .byte-at .ensures) (c .if2 .taken)
 
 returns-2 : tie.Need-returns-2
 returns-2 c =
     let start = c .before .before .before .before .before .before .before .before .before .before .before in
-    effect-too-many (start .args .kinds .now) (start .args .rows .now) (start .args .columns .now) (start .args .model .now) (start .args .at) (start .args .n) (start .args .marks .now) (start .pre .0) (c .before .before .before .before .before .if1 .taken) (c .before .before .before .byte-at .ensures) (c .before .before .if2 .left) (c .before .if3 .taken) (c .if4 .taken)
+    effect-too-many (start .args .kinds .now) (start .args .rows .now) (start .args .columns .now) (start .args .model .now) (start .args .at)
+    (start .args .n) (start .args .marks .now) (start .pre .0) (c .before .before .before .before .before .if1 .taken)
+    (c .before .before .before .byte-at .ensures) (c .before .before .if2 .left) (c .before .if3 .taken) (c .if4 .taken)
 
 shared-slice-read-result-at : tie.Need-shared-slice-read-result-at
 shared-slice-read-result-at c = search needs
@@ -53,22 +56,37 @@ enum-known-t c = search needs
 returns-3 : tie.Need-returns-3
 returns-3 c =
     let start = c .before .before .before .before .before .before .before .before .before .before .before .before .before .before .before .before in
-    effect-more (start .args .kinds .now) (start .args .rows .now) (start .args .columns .now) (start .args .model .now) (start .args .at) (start .args .n) (start .args .marks .now) (start .pre .0) (c .before .before .before .before .before .before .before .before .before .before .if1 .taken) (c .before .before .before .before .before .before .before .before .byte-at .ensures) (c .before .before .before .before .before .before .before .if2 .left) (c .before .before .before .before .before .before .if3 .taken) (omega (arith, start .pre .1, c .before .before .before .before .before .if4 .left)) (start .pre .2) (sym (c .before .end .given .1) ∙ c .before .before .before .result-at .ensures)
+    effect-more (start .args .kinds .now) (start .args .rows .now) (start .args .columns .now) (start .args .model .now) (start .args .at)
+    (start .args .n) (start .args .marks .now) (start .pre .0)
+    (c .before .before .before .before .before .before .before .before .before .before .if1 .taken)
+    (c .before .before .before .before .before .before .before .before .byte-at .ensures)
+    (c .before .before .before .before .before .before .before .if2 .left) (c .before .before .before .before .before .before .if3 .taken)
+    (omega (arith, start .pre .1, c .before .before .before .before .before .if4 .left)) (start .pre .2)
+    (sym (c .before .end .given .1) ∙ c .before .before .before .result-at .ensures)
 
 returns-4 : tie.Need-returns-4
 returns-4 c =
     let start = c .before .before .before .before .before .before .before .before .before .before .before .before .before .before .before .before in
-    effect-refused (start .args .kinds .now) (start .args .rows .now) (start .args .columns .now) (start .args .model .now) (start .args .at) (start .args .n) (start .args .marks .now) (start .pre .0) (c .before .before .before .before .before .before .before .before .before .before .if1 .taken) (c .before .before .before .before .before .before .before .before .byte-at .ensures) (c .before .before .before .before .before .before .before .if2 .left) (c .before .before .before .before .before .before .if3 .taken) (omega (arith, start .pre .1, c .before .before .before .before .before .if4 .left)) (sym (c .before .t .given .1) ∙ c .before .before .before .result-at .ensures)
+    effect-refused (start .args .kinds .now) (start .args .rows .now) (start .args .columns .now) (start .args .model .now) (start .args .at)
+    (start .args .n) (start .args .marks .now) (start .pre .0)
+    (c .before .before .before .before .before .before .before .before .before .before .if1 .taken)
+    (c .before .before .before .before .before .before .before .before .byte-at .ensures)
+    (c .before .before .before .before .before .before .before .if2 .left) (c .before .before .before .before .before .before .if3 .taken)
+    (omega (arith, start .pre .1, c .before .before .before .before .before .if4 .left))
+    (sym (c .before .t .given .1) ∙ c .before .before .before .result-at .ensures)
 
 returns-5 : tie.Need-returns-5
 returns-5 c =
     let start = c .before .before .before .before .before .before .before .before .before .before in
-    effect-undeclared (start .args .kinds .now) (start .args .rows .now) (start .args .columns .now) (start .args .model .now) (start .args .at) (start .args .n) (start .args .marks .now) (start .pre .0) (c .before .before .before .before .if1 .taken) (c .before .before .byte-at .ensures) (c .before .if2 .left) (c .if3 .left)
+    effect-undeclared (start .args .kinds .now) (start .args .rows .now) (start .args .columns .now) (start .args .model .now) (start .args .at)
+    (start .args .n) (start .args .marks .now) (start .pre .0) (c .before .before .before .before .if1 .taken) (c .before .before .byte-at .ensures)
+    (c .before .if2 .left) (c .if3 .left)
 
 returns-6 : tie.Need-returns-6
 returns-6 c =
     let start = c .before .before .before .before .before .before in
-    effect-cut (start .args .kinds .now) (start .args .rows .now) (start .args .columns .now) (start .args .model .now) (start .args .at) (start .args .n) (start .args .marks .now) (start .pre .0) (c .if1 .left)
+    effect-cut (start .args .kinds .now) (start .args .rows .now) (start .args .columns .now) (start .args .model .now) (start .args .at)
+    (start .args .n) (start .args .marks .now) (start .pre .0) (c .if1 .left)
 
 pub effect-spec : {M : Type 1} → statement M
 effect-spec =

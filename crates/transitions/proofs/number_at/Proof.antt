@@ -15,7 +15,8 @@ placed-requires c κs = search needs
 returns : tie.Need-returns
 returns c =
     let start = c .before .before .before .before .before .before in
-    c .placed .ensures ∙ number-place (variablesOf (start .args .kinds .now)) (tablesOf (start .args .rows .now) (start .args .columns .now)) (start .args .at) (start .args .model .now) (c .before .expression-at .ensures)
+    c .placed .ensures ∙ number-place (variablesOf (start .args .kinds .now)) (tablesOf (start .args .rows .now) (start .args .columns .now))
+    (start .args .at) (start .args .model .now) (c .before .expression-at .ensures)
 
 pub number-at-spec : {M : Type 1} → statement M
 number-at-spec = tie.close (tie.spec expression-at-requires placed-requires returns)

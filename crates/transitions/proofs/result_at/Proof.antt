@@ -27,17 +27,27 @@ enum-known-t c = search needs
 returns : tie.Need-returns
 returns c =
     let start = c .before .before .before .before .before .before .before .before .before .before .before in
-    sym (ap (λ (b : Bool). cond b (P.At (c .before .before .before .end .given .0 .0)) (P.Refused mismatch)) (sym (c .before .count-fits .ensures) ∙ c .if1 .taken)) ∙ result-read (variablesOf (start .args .kinds .now)) (tablesOf (start .args .rows .now) (start .args .columns .now)) (start .args .at) (start .args .model .now) (variableOf (start .args .kind) .kind) (variableOf (start .args .kind) .objects) (sym (c .before .before .before .end .given .1) ∙ rw (c .before .before .before .before .before .before .due-for .ensures) at (c .before .before .before .before .before .expression-at .ensures))
+    let end = c .before .before .before .end in
+    sym (ap (λ (b : Bool). cond b (P.At (end .given .0 .0)) (P.Refused mismatch)) (sym (c .before .count-fits .ensures) ∙ c .if1 .taken))
+    ∙ result-read (variablesOf (start .args .kinds .now)) (tablesOf (start .args .rows .now) (start .args .columns .now)) (start .args .at)
+    (start .args .model .now) (variableOf (start .args .kind) .kind) (variableOf (start .args .kind) .objects)
+    (sym (end .given .1) ∙ rw (c .before .before .before .before .before .before .due-for .ensures) at (c .before .before .before .before .before .expression-at .ensures))
 
 returns-2 : tie.Need-returns-2
 returns-2 c =
     let start = c .before .before .before .before .before .before .before .before .before .before .before in
-    sym (ap (λ (b : Bool). cond b (P.At (c .before .before .before .end .given .0 .0)) (P.Refused mismatch)) (sym (c .before .count-fits .ensures) ∙ c .if1 .left)) ∙ result-read (variablesOf (start .args .kinds .now)) (tablesOf (start .args .rows .now) (start .args .columns .now)) (start .args .at) (start .args .model .now) (variableOf (start .args .kind) .kind) (variableOf (start .args .kind) .objects) (sym (c .before .before .before .end .given .1) ∙ rw (c .before .before .before .before .before .before .due-for .ensures) at (c .before .before .before .before .before .expression-at .ensures))
+    let end = c .before .before .before .end in
+    sym (ap (λ (b : Bool). cond b (P.At (end .given .0 .0)) (P.Refused mismatch)) (sym (c .before .count-fits .ensures) ∙ c .if1 .left)) ∙ result-read
+    (variablesOf (start .args .kinds .now)) (tablesOf (start .args .rows .now) (start .args .columns .now)) (start .args .at)
+    (start .args .model .now) (variableOf (start .args .kind) .kind) (variableOf (start .args .kind) .objects)
+    (sym (end .given .1) ∙ rw (c .before .before .before .before .before .before .due-for .ensures) at (c .before .before .before .before .before .expression-at .ensures))
 
 returns-3 : tie.Need-returns-3
 returns-3 c =
     let start = c .before .before .before .before .before .before .before .before .before in
-    result-refused (variablesOf (start .args .kinds .now)) (tablesOf (start .args .rows .now) (start .args .columns .now)) (start .args .at) (start .args .model .now) (variableOf (start .args .kind) .kind) (variableOf (start .args .kind) .objects) (sym (c .before .t .given .1) ∙ rw (c .before .before .before .before .due-for .ensures) at (c .before .before .before .expression-at .ensures))
+    result-refused (variablesOf (start .args .kinds .now)) (tablesOf (start .args .rows .now) (start .args .columns .now)) (start .args .at)
+    (start .args .model .now) (variableOf (start .args .kind) .kind) (variableOf (start .args .kind) .objects)
+    (sym (c .before .t .given .1) ∙ rw (c .before .before .before .before .due-for .ensures) at (c .before .before .before .expression-at .ensures))
 
 pub result-at-spec : {M : Type 1} → statement M
 result-at-spec =

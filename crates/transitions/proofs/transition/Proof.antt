@@ -30,17 +30,24 @@ enum-known-t-2 c = search needs
 returns : tie.Need-returns
 returns c =
     let start = c .before .before .before .before .before .before .before .before .before .before .before .before .before in
-    c .effects .ensures ∙ transition-effects (variablesOf (start .args .kinds .now)) (tablesOf (start .args .rows .now) (start .args .columns .now)) (start .args .at) (start .args .model .now) (sym (c .before .before .before .before .before .before .p .given .1) ∙ c .before .before .before .before .before .before .before .before .conditions .ensures) (sym (c .before .before .q .given .1) ∙ c .before .before .before .before .cost .ensures)
+    c .effects .ensures ∙ transition-effects (variablesOf (start .args .kinds .now)) (tablesOf (start .args .rows .now) (start .args .columns .now))
+    (start .args .at) (start .args .model .now)
+    (sym (c .before .before .before .before .before .before .p .given .1) ∙ c .before .before .before .before .before .before .before .before .conditions .ensures)
+    (sym (c .before .before .q .given .1) ∙ c .before .before .before .before .cost .ensures)
 
 returns-2 : tie.Need-returns-2
 returns-2 c =
     let start = c .before .before .before .before .before .before .before .before .before .before .before .before in
-    transition-cost-refused (variablesOf (start .args .kinds .now)) (tablesOf (start .args .rows .now) (start .args .columns .now)) (start .args .at) (start .args .model .now) (sym (c .before .before .before .before .before .p .given .1) ∙ c .before .before .before .before .before .before .before .conditions .ensures) (sym (c .before .t .given .1) ∙ c .before .before .before .cost .ensures)
+    transition-cost-refused (variablesOf (start .args .kinds .now)) (tablesOf (start .args .rows .now) (start .args .columns .now)) (start .args .at)
+    (start .args .model .now)
+    (sym (c .before .before .before .before .before .p .given .1) ∙ c .before .before .before .before .before .before .before .conditions .ensures)
+    (sym (c .before .t .given .1) ∙ c .before .before .before .cost .ensures)
 
 returns-3 : tie.Need-returns-3
 returns-3 c =
     let start = c .before .before .before .before .before .before .before .before in
-    transition-conditions-refused (variablesOf (start .args .kinds .now)) (tablesOf (start .args .rows .now) (start .args .columns .now)) (start .args .at) (start .args .model .now) (sym (c .before .t2 .given .1) ∙ c .before .before .before .conditions .ensures)
+    transition-conditions-refused (variablesOf (start .args .kinds .now)) (tablesOf (start .args .rows .now) (start .args .columns .now))
+    (start .args .at) (start .args .model .now) (sym (c .before .t2 .given .1) ∙ c .before .before .before .conditions .ensures)
 
 pub transition-spec : {M : Type 1} → statement M
 transition-spec =

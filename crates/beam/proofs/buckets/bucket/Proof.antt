@@ -34,7 +34,8 @@ loop-again : tie.Need-loop-again Inv-loop μ-loop
 loop-again c =
     let start = c .before .before .before .before .before .before in
     let turn = c .before .before .loop in
-    (omega arith, ap (mixFrom (start .args .outline .now) (start .args .state .now) (c .before .before .before .word-at .result - (turn .v + 1)) (turn .v + 1)) (c .mix-at .ensures) ∙ mix-more (start .args .outline .now) (start .args .state .now) (c .before .before .before .word-at .result) (turn .v) (turn .m) (c .before .loop-test .taken) ∙ turn .inv .1)
+    let word-at = c .before .before .before .word-at in
+    (omega arith, ap (mixFrom (start .args .outline .now) (start .args .state .now) (word-at .result - (turn .v + 1)) (turn .v + 1)) (c .mix-at .ensures) ∙ mix-more (start .args .outline .now) (start .args .state .now) (word-at .result) (turn .v) (turn .m) (c .before .loop-test .taken) ∙ turn .inv .1)
 
 mul-result : tie.Need-mul-result Inv-loop μ-loop
 mul-result c =

@@ -97,7 +97,10 @@ returns c =
     let start = c .before .before .before .before .before .before .before .before .before .before .before .before .before .before .before .before .before .before .before .before in
     let o = c .before .before .before .before .before .before .before .before .before .before .insert-at in
     let s = c .before .before .before .before .before .before .write-slot in
-    placed-in (start .pre .0) (start .pre .1 .0) (start .pre .1 .1 .1 .0) (start .pre .1 .1 .1 .1) (c .before .before .before .before .before .before .before .before .before .before .before .before .before .place-in .ensures .1 (rising (start .pre .0 .parts) _ _)) (o .kept .0) (o .ensures) (s .kept .0) (s .ensures) (c .before .before .add .kept .0) (c .before .before .add .ensures)
+    let add = c .before .before .add in
+    placed-in (start .pre .0) (start .pre .1 .0) (start .pre .1 .1 .1 .0) (start .pre .1 .1 .1 .1)
+    (c .before .before .before .before .before .before .before .before .before .before .before .before .before .place-in .ensures .1 (rising (start .pre .0 .parts) _ _))
+    (o .kept .0) (o .ensures) (s .kept .0) (s .ensures) (add .kept .0) (add .ensures)
 
 pub add-child-spec : {M : Type 1} → statement M
 add-child-spec =

@@ -49,7 +49,10 @@ same-length c = search needs
 returns : tie.Need-returns
 returns c =
     let start = c .before .before .before .before .before .before .before .before .before in
-    emptied-in (start .args .w) (start .args .layer .now) (c .before .before .before .before .before .before .fill .last .0) (c .before .before .clear .last .0) (start .pre .0) (start .pre .1 .0) (start .pre .1 .1) (c .before .before .before .before .before .before .fill .kept .0) (c .before .before .before .before .before .before .fill .ensures) (c .before .before .clear .kept .0) (c .before .before .clear .ensures)
+    let fill = c .before .before .before .before .before .before .fill in
+    let clear = c .before .before .clear in
+    emptied-in (start .args .w) (start .args .layer .now) (fill .last .0) (clear .last .0) (start .pre .0) (start .pre .1 .0) (start .pre .1 .1)
+    (fill .kept .0) (fill .ensures) (clear .kept .0) (clear .ensures)
 
 pub empty-spec : {M : Type 1} → statement M
 empty-spec =

@@ -24,7 +24,8 @@ free : (c : tie.Else1) → (let a = c .before .before .before .before .before .b
 free c =
     let start = c .before .before .before .before .before .before .before .before .before in
     let k = c .before .before .before .bucket in
-    beating-none (start .args .model .now) (start .pre .0 .parts) (k .result) (start .args .child .now) (start .pre .1 .0) (sym (k .ensures .1)) (c .before .find-in .result) (c .before .find-in .ensures) (omega (arith, c .if1 .left))
+    beating-none (start .args .model .now) (start .pre .0 .parts) (k .result) (start .args .child .now) (start .pre .1 .0) (sym (k .ensures .1))
+    (c .before .find-in .result) (c .before .find-in .ensures) (omega (arith, c .if1 .left))
 
 few-variables : {bytes outline : List ℕ} → Outlined bytes outline → getD outline variableCountAt 0 ≤ mostVariables
 few-variables o = omega (arith, o .outlines .variable-count, o .outlines .few-variables)
@@ -52,7 +53,8 @@ returns : tie.Need-returns
 returns c =
     let start = c .before .before .before .before .before .before .before .before .before in
     let k = c .before .before .before .bucket in
-    dropped-in (start .pre .0) (beating-one (start .args .model .now) (start .pre .0 .parts) (k .result) (start .args .child .now) (start .pre .1 .0) (sym (k .ensures .1)) (c .before .find-in .result) (c .before .find-in .ensures) (c .if1 .taken))
+    dropped-in (start .pre .0)
+    (beating-one (start .args .model .now) (start .pre .0 .parts) (k .result) (start .args .child .now) (start .pre .1 .0) (sym (k .ensures .1)) (c .before .find-in .result) (c .before .find-in .ensures) (c .if1 .taken))
 
 remove-beaten-requires : tie.Need-remove-beaten-requires
 remove-beaten-requires c κs =
@@ -77,7 +79,10 @@ returns-2 : tie.Need-returns-2
 returns-2 c =
     let start = c .before .before .before .before .before .before .before .before .before .before .before .before .before .before .before .before .before .before in
     let rest = c .before .before .before .before .before .before .before .remove-beaten in
-    roomed-in (start .args .model .now) (rest .last .0) (start .args .child .now) (start .pre .0) (rest .kept .0) (rest .ensures .0) (rest .ensures .1) (free (c .before .before .before .before .before .before .before .before .before)) (c .before .before .add-child .last .0) (c .before .before .before .before .if2 .taken) (c .before .before .add-child .kept .0) (c .before .before .add-child .ensures)
+    let add-child = c .before .before .add-child in
+    roomed-in (start .args .model .now) (rest .last .0) (start .args .child .now) (start .pre .0) (rest .kept .0) (rest .ensures .0)
+    (rest .ensures .1) (free (c .before .before .before .before .before .before .before .before .before)) (add-child .last .0)
+    (c .before .before .before .before .if2 .taken) (add-child .kept .0) (add-child .ensures)
 
 shared-slice-read-f : tie.Need-shared-slice-read-f
 shared-slice-read-f c = search needs
@@ -105,7 +110,12 @@ returns-3 : tie.Need-returns-3
 returns-3 c =
     let start = c .before .before .before .before .before .before .before .before .before .before .before .before .before .before .before .before .before .before .before .before .before .before .before in
     let rest = c .before .before .before .before .before .before .before .before .before .before .before .before .remove-beaten in
-    last-cut-in (start .args .model .now) (rest .last .0) (start .args .child .now) (start .pre .0) (rest .kept .0) (rest .ensures .0) (rest .ensures .1) (free (c .before .before .before .before .before .before .before .before .before .before .before .before .before .before)) (c .before .before .replace-last .last .0) (c .before .before .before .before .before .before .before .before .before .if2 .left) (sym (c .before .before .before .before .before .before-last .ensures) ∙ c .before .before .before .before .if3 .taken) (c .before .before .replace-last .kept .0) (c .before .before .replace-last .ensures)
+    let replace-last = c .before .before .replace-last in
+    last-cut-in (start .args .model .now) (rest .last .0) (start .args .child .now) (start .pre .0) (rest .kept .0) (rest .ensures .0)
+    (rest .ensures .1) (free (c .before .before .before .before .before .before .before .before .before .before .before .before .before .before))
+    (replace-last .last .0) (c .before .before .before .before .before .before .before .before .before .if2 .left)
+    (sym (c .before .before .before .before .before .before-last .ensures) ∙ c .before .before .before .before .if3 .taken) (replace-last .kept .0)
+    (replace-last .ensures)
 
 same-length-4 : tie.Need-same-length-4
 same-length-4 c = search needs
@@ -114,7 +124,9 @@ returns-4 : tie.Need-returns-4
 returns-4 c =
     let start = c .before .before .before .before .before .before .before .before .before .before .before .before .before .before .before .before .before .before .before in
     let rest = c .before .before .before .before .before .before .before .before .remove-beaten in
-    child-cut-in (start .args .model .now) (rest .last .0) (start .args .child .now) (start .pre .0) (rest .kept .0) (rest .ensures .0) (rest .ensures .1) (free (c .before .before .before .before .before .before .before .before .before .before)) (c .before .before .before .before .before .if2 .left) (sym (c .before .before-last .ensures) ∙ c .if3 .left)
+    child-cut-in (start .args .model .now) (rest .last .0) (start .args .child .now) (start .pre .0) (rest .kept .0) (rest .ensures .0)
+    (rest .ensures .1) (free (c .before .before .before .before .before .before .before .before .before .before))
+    (c .before .before .before .before .before .if2 .left) (sym (c .before .before-last .ensures) ∙ c .if3 .left)
 
 pub insert-spec : {M : Type 1} → statement M
 insert-spec =

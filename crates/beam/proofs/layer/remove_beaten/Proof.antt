@@ -79,7 +79,8 @@ loop-again c =
     let v = turn .inv in
     let o = beaten-one (start .args .model .now) (turn .inv .held .parts) (start .args .k) (start .args .child .now) (turn .link) (turn .inv .found) (c .before .before .before .before .before .before .loop-test .taken) in
     let s = c .before .before .before .before .remove-slot in
-    record { fewer = omega (arith, v .fewer); long-same = s .kept .0 ∙ v .long-same; slots-same = s .ensures .0 ∙ v .slots-same; held = rest-held (turn .layer) (s .last .0) (v .held .long) (s .kept .0) (s .ensures .0) (s .ensures .1 .held); found = c .find-in2 .ensures; same = slot-gone (turn .layer) (s .last .0) (s .ensures .0) (s .ensures .1) _ (o .1 .1) ∙ v .same }
+    record
+    { fewer = omega (arith, v .fewer); long-same = s .kept .0 ∙ v .long-same; slots-same = s .ensures .0 ∙ v .slots-same; held = rest-held (turn .layer) (s .last .0) (v .held .long) (s .kept .0) (s .ensures .0) (s .ensures .1 .held); found = c .find-in2 .ensures; same = slot-gone (turn .layer) (s .last .0) (s .ensures .0) (s .ensures .1) _ (o .1 .1) ∙ v .same }
 
 same-length : tie.Need-same-length Inv-loop μ-loop
 same-length c = c .before .loop .inv .long-same

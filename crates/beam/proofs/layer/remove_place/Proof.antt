@@ -61,7 +61,9 @@ same-length c = search needs
 returns : tie.Need-returns
 returns c =
     let start = c .before .before .before .before .before .before .before .before .before .before .before in
-    removed-in (start .pre .0) (start .pre .1 .0) (start .pre .1 .1 .1) (c .before .before .before .before .before .before .remove .kept .0) (c .before .before .before .before .before .before .remove .ensures) (c .before .before .remove-at .kept .0) (c .before .before .remove-at .ensures)
+    let remove = c .before .before .before .before .before .before .remove in
+    let remove-at = c .before .before .remove-at in
+    removed-in (start .pre .0) (start .pre .1 .0) (start .pre .1 .1 .1) (remove .kept .0) (remove .ensures) (remove-at .kept .0) (remove-at .ensures)
 
 pub remove-place-spec : {M : Type 1} → statement M
 remove-place-spec =

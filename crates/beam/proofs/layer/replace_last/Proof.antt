@@ -57,7 +57,11 @@ same-length : tie.Need-same-length
 same-length c = search needs
 
 returns : tie.Need-returns
-returns c = last-replaced-in (c .before .before .before .before .before .before .remove-place .last .0) (c .before .before .before .before .before .before .before .before .before .before .before .before .before .before .pre .0) (c .before .before .before .before .before .before .remove-place .ensures .0) (c .before .before .before .before .before .before .remove-place .ensures .1) (c .before .before .add-child .ensures)
+returns c =
+    let remove-place = c .before .before .before .before .before .before .remove-place in
+    last-replaced-in (remove-place .last .0)
+    (c .before .before .before .before .before .before .before .before .before .before .before .before .before .before .pre .0)
+    (remove-place .ensures .0) (remove-place .ensures .1) (c .before .before .add-child .ensures)
 
 pub replace-last-spec : {M : Type 1} → statement M
 replace-last-spec =

@@ -36,25 +36,33 @@ returns : tie.Need-returns
 unfolding itemOf
 returns c =
     let start = c .before .before .before .before .before .before .before in
-    subst (λ (g : Group). c .transition .result ≡ placeOf (readAt (itemOf (variablesOf (start .args .kinds .now)) (tablesOf (start .args .rows .now) (start .args .columns .now)) g) (start .args .at) (start .args .model .now))) (sym (c .before .enum-told .given .1)) (c .transition .ensures)
+    subst
+    (λ (g : Group). c .transition .result ≡ placeOf (readAt (itemOf (variablesOf (start .args .kinds .now)) (tablesOf (start .args .rows .now) (start .args .columns .now)) g) (start .args .at) (start .args .model .now)))
+    (sym (c .before .enum-told .given .1)) (c .transition .ensures)
 
 returns-2 : tie.Need-returns-2
 unfolding itemOf
 returns-2 c =
     let start = c .before .before .before .before .before .before .before in
-    subst (λ (g : Group). c .conditions .result ≡ placeOf (readAt (itemOf (variablesOf (start .args .kinds .now)) (tablesOf (start .args .rows .now) (start .args .columns .now)) g) (start .args .at) (start .args .model .now))) (sym (c .before .enum-told2 .given .1)) (c .conditions .ensures)
+    subst
+    (λ (g : Group). c .conditions .result ≡ placeOf (readAt (itemOf (variablesOf (start .args .kinds .now)) (tablesOf (start .args .rows .now) (start .args .columns .now)) g) (start .args .at) (start .args .model .now)))
+    (sym (c .before .enum-told2 .given .1)) (c .conditions .ensures)
 
 returns-3 : tie.Need-returns-3
 unfolding itemOf
 returns-3 c =
     let start = c .before .before .before .before .before .before .before in
-    subst (λ (g : Group). c .condition-at .result ≡ placeOf (readAt (itemOf (variablesOf (start .args .kinds .now)) (tablesOf (start .args .rows .now) (start .args .columns .now)) g) (start .args .at) (start .args .model .now))) (sym (c .before .enum-told3 .given .1)) (c .condition-at .ensures)
+    subst
+    (λ (g : Group). c .condition-at .result ≡ placeOf (readAt (itemOf (variablesOf (start .args .kinds .now)) (tablesOf (start .args .rows .now) (start .args .columns .now)) g) (start .args .at) (start .args .model .now)))
+    (sym (c .before .enum-told3 .given .1)) (c .condition-at .ensures)
 
 returns-4 : tie.Need-returns-4
 unfolding itemOf
 returns-4 c =
     let start = c .before .before .before .before .before .before .before in
-    subst (λ (g : Group). c .number-at .result ≡ placeOf (readAt (itemOf (variablesOf (start .args .kinds .now)) (tablesOf (start .args .rows .now) (start .args .columns .now)) g) (start .args .at) (start .args .model .now))) (sym (c .before .enum-told4 .given .1)) (c .number-at .ensures)
+    subst
+    (λ (g : Group). c .number-at .result ≡ placeOf (readAt (itemOf (variablesOf (start .args .kinds .now)) (tablesOf (start .args .rows .now) (start .args .columns .now)) g) (start .args .at) (start .args .model .now)))
+    (sym (c .before .enum-told4 .given .1)) (c .number-at .ensures)
 
 pub item-spec : {M : Type 1} → statement M
 item-spec =

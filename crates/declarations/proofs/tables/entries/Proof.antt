@@ -33,7 +33,8 @@ loop-less c = omega (arith, c .before .before .before .before .loop-test .taken)
 loop-again : tie.Need-loop-again Inv-loop μ-loop
 loop-again c =
     let turn = c .before .before .before .before .before .loop in
-    entries-more (c .before .before .before .before .before .before .before .args .model .now) (turn .at) (turn .left) (c .before .before .before .before .loop-test .taken) (sym (c .before .p .given .1) ∙ c .before .before .before .entry .ensures) ∙ turn .inv
+    entries-more (c .before .before .before .before .before .before .before .args .model .now) (turn .at) (turn .left)
+    (c .before .before .before .before .loop-test .taken) (sym (c .before .p .given .1) ∙ c .before .before .before .entry .ensures) ∙ turn .inv
 
 enum-known-t : tie.Need-enum-known-t Inv-loop μ-loop
 enum-known-t c = search needs
@@ -41,7 +42,8 @@ enum-known-t c = search needs
 returns : tie.Need-returns Inv-loop μ-loop
 returns c =
     let turn = c .before .before .before .before .before .loop in
-    entries-refused (c .before .before .before .before .before .before .before .args .model .now) (turn .at) (turn .left) (c .before .before .before .before .loop-test .taken) (sym (c .before .t .given .1) ∙ c .before .before .before .entry .ensures) ∙ turn .inv
+    entries-refused (c .before .before .before .before .before .before .before .args .model .now) (turn .at) (turn .left)
+    (c .before .before .before .before .loop-test .taken) (sym (c .before .t .given .1) ∙ c .before .before .before .entry .ensures) ∙ turn .inv
 
 returns-2 : tie.Need-returns-2 Inv-loop μ-loop
 returns-2 c =

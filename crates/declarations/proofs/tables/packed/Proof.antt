@@ -18,7 +18,8 @@ wide-requires-3 c κs = search needs
 mul-result : tie.Need-mul-result
 mul-result c =
     let start = c .before .before .before in
-    record { fits = let h : c .before .wide2 .result * c .wide3 .result ≤ 4096 = cells-bound (c .before .wide2 .result) (c .wide3 .result) (omega (arith, c .before .wide2 .ensures .0, start .pre)) (omega (arith, c .wide3 .ensures .0, start .pre)) in omega (arith, c .before .before .wide .ensures .0, start .pre) }
+    record
+    { fits = let h : c .before .wide2 .result * c .wide3 .result ≤ 4096 = cells-bound (c .before .wide2 .result) (c .wide3 .result) (omega (arith, c .before .wide2 .ensures .0, start .pre)) (omega (arith, c .wide3 .ensures .0, start .pre)) in omega (arith, c .before .before .wide .ensures .0, start .pre) }
 
 mul-result-2 : tie.Need-mul-result-2
 mul-result-2 c = search needs
@@ -26,17 +27,20 @@ mul-result-2 c = search needs
 add-result : tie.Need-add-result
 add-result c =
     let start = c .before .before .before in
-    record { fits = let h : c .before .wide2 .result * c .wide3 .result ≤ 4096 = cells-bound (c .before .wide2 .result) (c .wide3 .result) (omega (arith, c .before .wide2 .ensures .0, start .pre)) (omega (arith, c .wide3 .ensures .0, start .pre)) in omega (arith, c .before .before .wide .ensures .0, start .pre) }
+    record
+    { fits = let h : c .before .wide2 .result * c .wide3 .result ≤ 4096 = cells-bound (c .before .wide2 .result) (c .wide3 .result) (omega (arith, c .before .wide2 .ensures .0, start .pre)) (omega (arith, c .wide3 .ensures .0, start .pre)) in omega (arith, c .before .before .wide .ensures .0, start .pre) }
 
 mul-result-3 : tie.Need-mul-result-3
 mul-result-3 c =
     let start = c .before .before .before in
-    record { fits = let h : c .before .wide2 .result * c .wide3 .result ≤ 4096 = cells-bound (c .before .wide2 .result) (c .wide3 .result) (omega (arith, c .before .wide2 .ensures .0, start .pre)) (omega (arith, c .wide3 .ensures .0, start .pre)) in omega (arith, c .before .before .wide .ensures .0, start .pre) }
+    record
+    { fits = let h : c .before .wide2 .result * c .wide3 .result ≤ 4096 = cells-bound (c .before .wide2 .result) (c .wide3 .result) (omega (arith, c .before .wide2 .ensures .0, start .pre)) (omega (arith, c .wide3 .ensures .0, start .pre)) in omega (arith, c .before .before .wide .ensures .0, start .pre) }
 
 add-result-2 : tie.Need-add-result-2
 add-result-2 c =
     let start = c .before .before .before in
-    record { fits = let h : c .before .wide2 .result * c .wide3 .result ≤ 4096 = cells-bound (c .before .wide2 .result) (c .wide3 .result) (omega (arith, c .before .wide2 .ensures .0, start .pre)) (omega (arith, c .wide3 .ensures .0, start .pre)) in omega (arith, c .before .before .wide .ensures .0, start .pre) }
+    record
+    { fits = let h : c .before .wide2 .result * c .wide3 .result ≤ 4096 = cells-bound (c .before .wide2 .result) (c .wide3 .result) (omega (arith, c .before .wide2 .ensures .0, start .pre)) (omega (arith, c .wide3 .ensures .0, start .pre)) in omega (arith, c .before .before .wide .ensures .0, start .pre) }
 
 returns : tie.Need-returns
 returns c = rw (c .before .before .wide .ensures .0, c .before .wide2 .ensures .0, c .wide3 .ensures .0)

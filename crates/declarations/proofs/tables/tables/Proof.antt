@@ -34,10 +34,14 @@ add-behind c =
     record { fits = omega (arith, (byte-inside (start .args .model .now) (c .before .before .loop .at) 5 (omega arith) (sym (c .before .byte-at .ensures) ∙ c .if1 .taken)), start .good) }
 
 sub-sides : tie.Need-sub-sides Inv-loop μ-loop
-sub-sides c = omega (arith, (byte-inside (c .before .before .before .before .before .before .before .args .model .now) (c .before .before .loop .at) 5 (omega arith) (sym (c .before .byte-at .ensures) ∙ c .if1 .taken)))
+sub-sides c =
+    omega
+    (arith, (byte-inside (c .before .before .before .before .before .before .before .args .model .now) (c .before .before .loop .at) 5 (omega arith) (sym (c .before .byte-at .ensures) ∙ c .if1 .taken)))
 
 part-sides-start : tie.Need-part-sides-start Inv-loop μ-loop
-part-sides-start c = omega (arith, (byte-inside (c .before .before .before .before .before .before .before .args .model .now) (c .before .before .loop .at) 5 (omega arith) (sym (c .before .byte-at .ensures) ∙ c .if1 .taken)))
+part-sides-start c =
+    omega
+    (arith, (byte-inside (c .before .before .before .before .before .before .before .args .model .now) (c .before .before .loop .at) 5 (omega arith) (sym (c .before .byte-at .ensures) ∙ c .if1 .taken)))
 
 part-sides-end : tie.Need-part-sides-end Inv-loop μ-loop
 part-sides-end c = search needs
@@ -49,24 +53,34 @@ enum-known-r : tie.Need-enum-known-r Inv-loop μ-loop
 enum-known-r c = search needs
 
 same-length : tie.Need-same-length Inv-loop μ-loop
-same-length c = omega (arith, c .before .before .before .before .before .before .before .before .loop .inv .rows-length, c .before .before .before .before .before .before .before .before .before .before .before .before .before .pre)
+same-length c =
+    omega
+    (arith, c .before .before .before .before .before .before .before .before .loop .inv .rows-length, c .before .before .before .before .before .before .before .before .before .before .before .before .before .pre)
 
 same-length-2 : tie.Need-same-length-2 Inv-loop μ-loop
-same-length-2 c = omega (arith, c .before .before .before .before .before .before .before .before .loop .inv .columns-length, c .before .before .before .before .before .before .before .before .before .before .before .before .before .pre)
+same-length-2 c =
+    omega
+    (arith, c .before .before .before .before .before .before .before .before .loop .inv .columns-length, c .before .before .before .before .before .before .before .before .before .before .before .before .before .pre)
 
 same-length-3 : tie.Need-same-length-3 Inv-loop μ-loop
-same-length-3 c = omega (arith, c .before .before .before .before .before .before .before .before .loop .inv .words-length, c .before .before .before .before .before .before .before .before .before .before .before .before .before .pre)
+same-length-3 c =
+    omega
+    (arith, c .before .before .before .before .before .before .before .before .loop .inv .words-length, c .before .before .before .before .before .before .before .before .before .before .before .before .before .pre)
 
 returns : tie.Need-returns Inv-loop μ-loop
 returns c =
     let start = c .before .before .before .before .before .before .before .before .before .before .before .before .before in
     let turn = c .before .before .before .before .before .before .before .before .loop in
-    (turn .inv .rows-length, turn .inv .columns-length, turn .inv .words-length, table-too-many (start .args .model .now) (start .args .start) (turn .rows) (turn .columns) (turn .words) (turn .at) (turn .n) (turn .inv) (byte-inside (start .args .model .now) (turn .at) 5 (omega arith) (sym (c .before .before .before .before .before .before .before .byte-at .ensures) ∙ c .before .before .before .before .before .before .if1 .taken)) (sym (c .before .before .before .before .before .before .before .byte-at .ensures) ∙ c .before .before .before .before .before .before .if1 .taken) (c .before .before .r .given .0 .0) (c .before .before .r .given .0 .1 .0) (sides-told (drop (turn .at + 1) (start .args .model .now)) (c .before .before .r .given .0 .0) (c .before .before .r .given .0 .1 .0) (sym (c .before .before .r .given .1) ∙ rw (suffix (turn .at + 1) (start .args .model .now)) at (c .before .before .before .before .sides .ensures))) (c .if2 .taken))
+    let byte-at = c .before .before .before .before .before .before .before .byte-at in
+    let if1 = c .before .before .before .before .before .before .if1 in
+    let r = c .before .before .r in
+    (turn .inv .rows-length, turn .inv .columns-length, turn .inv .words-length, table-too-many (start .args .model .now) (start .args .start) (turn .rows) (turn .columns) (turn .words) (turn .at) (turn .n) (turn .inv) (byte-inside (start .args .model .now) (turn .at) 5 (omega arith) (sym (byte-at .ensures) ∙ if1 .taken)) (sym (byte-at .ensures) ∙ if1 .taken) (r .given .0 .0) (r .given .0 .1 .0) (sides-told (drop (turn .at + 1) (start .args .model .now)) (r .given .0 .0) (r .given .0 .1 .0) (sym (r .given .1) ∙ rw (suffix (turn .at + 1) (start .args .model .now)) at (c .before .before .before .before .sides .ensures))) (c .if2 .taken))
 
 add-first : tie.Need-add-first Inv-loop μ-loop
 add-first c =
     let start = c .before .before .before .before .before .before .before .before .before .before .before .before .before in
-    record { fits = omega (arith, (byte-inside (start .args .model .now) (c .before .before .before .before .before .before .before .before .loop .at) 5 (omega arith) (sym (c .before .before .before .before .before .before .before .byte-at .ensures) ∙ c .before .before .before .before .before .before .if1 .taken)), start .good) }
+    record
+    { fits = omega (arith, (byte-inside (start .args .model .now) (c .before .before .before .before .before .before .before .before .loop .at) 5 (omega arith) (sym (c .before .before .before .before .before .before .before .byte-at .ensures) ∙ c .before .before .before .before .before .before .if1 .taken)), start .good) }
 
 wide-requires : tie.Need-wide-requires Inv-loop μ-loop
 wide-requires c κs = search needs
@@ -78,7 +92,9 @@ mul-entries : tie.Need-mul-entries Inv-loop μ-loop
 mul-entries c =
     let start = c .before .before .before .before .before .before .before .before .before .before .before .before .before .before .before in
     let turn = c .before .before .before .before .before .before .before .before .before .before .loop in
-    record { fits = let g = (sides-told (drop (turn .at + 1) (start .args .model .now)) (c .before .before .before .before .r .given .0 .0) (c .before .before .before .before .r .given .0 .1 .0) (sym (c .before .before .before .before .r .given .1) ∙ rw (suffix (turn .at + 1) (start .args .model .now)) at (c .before .before .before .before .before .before .sides .ensures))) in let h : c .before .wide .result * c .wide2 .result ≤ 4096 = cells-bound (c .before .wide .result) (c .wide2 .result) (omega (arith, c .before .wide .ensures .0, g .low-rows)) (omega (arith, c .wide2 .ensures .0, g .low-columns)) in omega arith }
+    let r = c .before .before .before .before .r in
+    record
+    { fits = let g = (sides-told (drop (turn .at + 1) (start .args .model .now)) (r .given .0 .0) (r .given .0 .1 .0) (sym (r .given .1) ∙ rw (suffix (turn .at + 1) (start .args .model .now)) at (c .before .before .before .before .before .before .sides .ensures))) in let h : c .before .wide .result * c .wide2 .result ≤ 4096 = cells-bound (c .before .wide .result) (c .wide2 .result) (omega (arith, c .before .wide .ensures .0, g .low-rows)) (omega (arith, c .wide2 .ensures .0, g .low-columns)) in omega arith }
 
 entries-requires : tie.Need-entries-requires Inv-loop μ-loop
 entries-requires c κs = search needs
@@ -114,49 +130,79 @@ add-n : tie.Need-add-n Inv-loop μ-loop
 add-n c = omega (arith, c .before .before .before .before .before .before .before .before .before .before .before .before .before .before .before .loop .inv .few)
 
 loop-less : tie.Need-loop-less Inv-loop μ-loop
-loop-less c = omega (arith, c .before .before .before .before .before .before .before .before .before .before .before .before .before .before .before .loop .inv .few, c .before .before .before .before .before .before .before .if2 .left)
+loop-less c =
+    omega
+    (arith, c .before .before .before .before .before .before .before .before .before .before .before .before .before .before .before .loop .inv .few, c .before .before .before .before .before .before .before .if2 .left)
 
 loop-again : tie.Need-loop-again Inv-loop μ-loop
 loop-again c =
     let start = c .before .before .before .before .before .before .before .before .before .before .before .before .before .before .before .before .before .before .before .before in
     let turn = c .before .before .before .before .before .before .before .before .before .before .before .before .before .before .before .loop in
-    table-more (start .args .model .now) (start .args .start) (turn .rows) (turn .columns) (turn .words) (turn .at) (turn .n) (turn .inv) (byte-inside (start .args .model .now) (turn .at) 5 (omega arith) (sym (c .before .before .before .before .before .before .before .before .before .before .before .before .before .before .byte-at .ensures) ∙ c .before .before .before .before .before .before .before .before .before .before .before .before .before .if1 .taken)) (sym (c .before .before .before .before .before .before .before .before .before .before .before .before .before .before .byte-at .ensures) ∙ c .before .before .before .before .before .before .before .before .before .before .before .before .before .if1 .taken) (c .before .before .before .before .before .before .before .before .before .r .given .0 .0) (c .before .before .before .before .before .before .before .before .before .r .given .0 .1 .0) (sides-told (drop (turn .at + 1) (start .args .model .now)) (c .before .before .before .before .before .before .before .before .before .r .given .0 .0) (c .before .before .before .before .before .before .before .before .before .r .given .0 .1 .0) (sym (c .before .before .before .before .before .before .before .before .before .r .given .1) ∙ rw (suffix (turn .at + 1) (start .args .model .now)) at (c .before .before .before .before .before .before .before .before .before .before .before .sides .ensures))) (omega (arith, turn .inv .few, c .before .before .before .before .before .before .before .if2 .left)) (start .pre .0) (sym (c .before .before .end .given .1) ∙ (c .before .before .before .before .entries .ensures ∙ ap (λ (k : ℕ). placeOf (readAt (entries k) (turn .at + 3) (start .args .model .now))) (ap (λ (a : ℕ). a * c .before .before .before .before .before .wide2 .result) (c .before .before .before .before .before .before .wide .ensures .0) ∙ ap (λ (a : ℕ). c .before .before .before .before .before .before .before .before .before .r .given .0 .0 * a) (c .before .before .before .before .before .wide2 .ensures .0)))) (c .packed .ensures)
+    let byte-at = c .before .before .before .before .before .before .before .before .before .before .before .before .before .before .byte-at in
+    let if1 = c .before .before .before .before .before .before .before .before .before .before .before .before .before .if1 in
+    let r = c .before .before .before .before .before .before .before .before .before .r in
+    let wide2 = c .before .before .before .before .before .wide2 in
+    table-more (start .args .model .now) (start .args .start) (turn .rows) (turn .columns) (turn .words) (turn .at) (turn .n) (turn .inv)
+    (byte-inside (start .args .model .now) (turn .at) 5 (omega arith) (sym (byte-at .ensures) ∙ if1 .taken)) (sym (byte-at .ensures) ∙ if1 .taken)
+    (r .given .0 .0) (r .given .0 .1 .0)
+    (sides-told (drop (turn .at + 1) (start .args .model .now)) (r .given .0 .0) (r .given .0 .1 .0) (sym (r .given .1) ∙ rw (suffix (turn .at + 1) (start .args .model .now)) at (c .before .before .before .before .before .before .before .before .before .before .before .sides .ensures)))
+    (omega (arith, turn .inv .few, c .before .before .before .before .before .before .before .if2 .left)) (start .pre .0)
+    (sym (c .before .before .end .given .1) ∙ (c .before .before .before .before .entries .ensures ∙ ap (λ (k : ℕ). placeOf (readAt (entries k) (turn .at + 3) (start .args .model .now))) (ap (λ (a : ℕ). a * wide2 .result) (c .before .before .before .before .before .before .wide .ensures .0) ∙ ap (λ (a : ℕ). r .given .0 .0 * a) (wide2 .ensures .0))))
+    (c .packed .ensures)
 
 enum-known-t : tie.Need-enum-known-t Inv-loop μ-loop
 enum-known-t c = search needs
 
 same-length-4 : tie.Need-same-length-4 Inv-loop μ-loop
-same-length-4 c = omega (arith, c .before .before .before .before .before .before .before .before .before .before .before .before .before .before .loop .inv .rows-length, c .before .before .before .before .before .before .before .before .before .before .before .before .before .before .before .before .before .before .before .pre)
+same-length-4 c =
+    omega
+    (arith, c .before .before .before .before .before .before .before .before .before .before .before .before .before .before .loop .inv .rows-length, c .before .before .before .before .before .before .before .before .before .before .before .before .before .before .before .before .before .before .before .pre)
 
 same-length-5 : tie.Need-same-length-5 Inv-loop μ-loop
-same-length-5 c = omega (arith, c .before .before .before .before .before .before .before .before .before .before .before .before .before .before .loop .inv .columns-length, c .before .before .before .before .before .before .before .before .before .before .before .before .before .before .before .before .before .before .before .pre)
+same-length-5 c =
+    omega
+    (arith, c .before .before .before .before .before .before .before .before .before .before .before .before .before .before .loop .inv .columns-length, c .before .before .before .before .before .before .before .before .before .before .before .before .before .before .before .before .before .before .before .pre)
 
 same-length-6 : tie.Need-same-length-6 Inv-loop μ-loop
-same-length-6 c = omega (arith, c .before .before .before .before .before .before .before .before .before .before .before .before .before .before .loop .inv .words-length, c .before .before .before .before .before .before .before .before .before .before .before .before .before .before .before .before .before .before .before .pre)
+same-length-6 c =
+    omega
+    (arith, c .before .before .before .before .before .before .before .before .before .before .before .before .before .before .loop .inv .words-length, c .before .before .before .before .before .before .before .before .before .before .before .before .before .before .before .before .before .before .before .pre)
 
 returns-2 : tie.Need-returns-2 Inv-loop μ-loop
 returns-2 c =
     let start = c .before .before .before .before .before .before .before .before .before .before .before .before .before .before .before .before .before .before .before in
     let turn = c .before .before .before .before .before .before .before .before .before .before .before .before .before .before .loop in
-    (turn .inv .rows-length, turn .inv .columns-length, turn .inv .words-length, table-body-refused (start .args .model .now) (start .args .start) (turn .rows) (turn .columns) (turn .words) (turn .at) (turn .n) (turn .inv) (byte-inside (start .args .model .now) (turn .at) 5 (omega arith) (sym (c .before .before .before .before .before .before .before .before .before .before .before .before .before .byte-at .ensures) ∙ c .before .before .before .before .before .before .before .before .before .before .before .before .if1 .taken)) (sym (c .before .before .before .before .before .before .before .before .before .before .before .before .before .byte-at .ensures) ∙ c .before .before .before .before .before .before .before .before .before .before .before .before .if1 .taken) (c .before .before .before .before .before .before .before .before .r .given .0 .0) (c .before .before .before .before .before .before .before .before .r .given .0 .1 .0) (sides-told (drop (turn .at + 1) (start .args .model .now)) (c .before .before .before .before .before .before .before .before .r .given .0 .0) (c .before .before .before .before .before .before .before .before .r .given .0 .1 .0) (sym (c .before .before .before .before .before .before .before .before .r .given .1) ∙ rw (suffix (turn .at + 1) (start .args .model .now)) at (c .before .before .before .before .before .before .before .before .before .before .sides .ensures))) (omega (arith, turn .inv .few, c .before .before .before .before .before .before .if2 .left)) (sym (c .before .t .given .1) ∙ (c .before .before .before .entries .ensures ∙ ap (λ (k : ℕ). placeOf (readAt (entries k) (turn .at + 3) (start .args .model .now))) (ap (λ (a : ℕ). a * c .before .before .before .before .wide2 .result) (c .before .before .before .before .before .wide .ensures .0) ∙ ap (λ (a : ℕ). c .before .before .before .before .before .before .before .before .r .given .0 .0 * a) (c .before .before .before .before .wide2 .ensures .0)))))
+    let byte-at = c .before .before .before .before .before .before .before .before .before .before .before .before .before .byte-at in
+    let if1 = c .before .before .before .before .before .before .before .before .before .before .before .before .if1 in
+    let r = c .before .before .before .before .before .before .before .before .r in
+    let wide2 = c .before .before .before .before .wide2 in
+    (turn .inv .rows-length, turn .inv .columns-length, turn .inv .words-length, table-body-refused (start .args .model .now) (start .args .start) (turn .rows) (turn .columns) (turn .words) (turn .at) (turn .n) (turn .inv) (byte-inside (start .args .model .now) (turn .at) 5 (omega arith) (sym (byte-at .ensures) ∙ if1 .taken)) (sym (byte-at .ensures) ∙ if1 .taken) (r .given .0 .0) (r .given .0 .1 .0) (sides-told (drop (turn .at + 1) (start .args .model .now)) (r .given .0 .0) (r .given .0 .1 .0) (sym (r .given .1) ∙ rw (suffix (turn .at + 1) (start .args .model .now)) at (c .before .before .before .before .before .before .before .before .before .before .sides .ensures))) (omega (arith, turn .inv .few, c .before .before .before .before .before .before .if2 .left)) (sym (c .before .t .given .1) ∙ (c .before .before .before .entries .ensures ∙ ap (λ (k : ℕ). placeOf (readAt (entries k) (turn .at + 3) (start .args .model .now))) (ap (λ (a : ℕ). a * wide2 .result) (c .before .before .before .before .before .wide .ensures .0) ∙ ap (λ (a : ℕ). r .given .0 .0 * a) (wide2 .ensures .0)))))
 
 enum-known-t-2 : tie.Need-enum-known-t-2 Inv-loop μ-loop
 enum-known-t-2 c = search needs
 
 same-length-7 : tie.Need-same-length-7 Inv-loop μ-loop
-same-length-7 c = omega (arith, c .before .before .before .before .before .before .before .loop .inv .rows-length, c .before .before .before .before .before .before .before .before .before .before .before .before .pre)
+same-length-7 c =
+    omega
+    (arith, c .before .before .before .before .before .before .before .loop .inv .rows-length, c .before .before .before .before .before .before .before .before .before .before .before .before .pre)
 
 same-length-8 : tie.Need-same-length-8 Inv-loop μ-loop
-same-length-8 c = omega (arith, c .before .before .before .before .before .before .before .loop .inv .columns-length, c .before .before .before .before .before .before .before .before .before .before .before .before .pre)
+same-length-8 c =
+    omega
+    (arith, c .before .before .before .before .before .before .before .loop .inv .columns-length, c .before .before .before .before .before .before .before .before .before .before .before .before .pre)
 
 same-length-9 : tie.Need-same-length-9 Inv-loop μ-loop
-same-length-9 c = omega (arith, c .before .before .before .before .before .before .before .loop .inv .words-length, c .before .before .before .before .before .before .before .before .before .before .before .before .pre)
+same-length-9 c =
+    omega
+    (arith, c .before .before .before .before .before .before .before .loop .inv .words-length, c .before .before .before .before .before .before .before .before .before .before .before .before .pre)
 
 returns-3 : tie.Need-returns-3 Inv-loop μ-loop
 returns-3 c =
     let start = c .before .before .before .before .before .before .before .before .before .before .before .before in
     let turn = c .before .before .before .before .before .before .before .loop in
-    (turn .inv .rows-length, turn .inv .columns-length, turn .inv .words-length, table-head-refused (start .args .model .now) (start .args .start) (turn .rows) (turn .columns) (turn .words) (turn .at) (turn .n) (turn .inv) (byte-inside (start .args .model .now) (turn .at) 5 (omega arith) (sym (c .before .before .before .before .before .before .byte-at .ensures) ∙ c .before .before .before .before .before .if1 .taken)) (sym (c .before .before .before .before .before .before .byte-at .ensures) ∙ c .before .before .before .before .before .if1 .taken) (sides-refused (drop (turn .at + 1) (start .args .model .now)) (sym (c .before .t2 .given .1) ∙ rw (suffix (turn .at + 1) (start .args .model .now)) at (c .before .before .before .sides .ensures))))
+    let byte-at = c .before .before .before .before .before .before .byte-at in
+    let if1 = c .before .before .before .before .before .if1 in
+    (turn .inv .rows-length, turn .inv .columns-length, turn .inv .words-length, table-head-refused (start .args .model .now) (start .args .start) (turn .rows) (turn .columns) (turn .words) (turn .at) (turn .n) (turn .inv) (byte-inside (start .args .model .now) (turn .at) 5 (omega arith) (sym (byte-at .ensures) ∙ if1 .taken)) (sym (byte-at .ensures) ∙ if1 .taken) (sides-refused (drop (turn .at + 1) (start .args .model .now)) (sym (c .before .t2 .given .1) ∙ rw (suffix (turn .at + 1) (start .args .model .now)) at (c .before .before .before .sides .ensures))))
 
 same-length-10 : tie.Need-same-length-10 Inv-loop μ-loop
 same-length-10 c = omega (arith, c .before .before .before .loop .inv .rows-length, c .before .before .before .before .before .before .before .before .pre)

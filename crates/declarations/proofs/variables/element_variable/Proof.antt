@@ -27,7 +27,9 @@ returns c = let e = c .before .before .before .before .before .before .before .b
     element-declares _ (getD e 0 0) (getD e 1 0) (getD e 2 0) _ (element-good e (c .before .before .before .before .before .before .if1 .taken) t) t refl refl refl (c .wide .ensures .0)
 
 returns-2 : tie.Need-returns-2
-returns-2 c = element-beyond (c .before .before .before .before .before .before .before .args .e .now) (c .before .before .before .before .before .if1 .taken) (sym (c .before .element-fits .ensures) ∙ c .if2 .left)
+returns-2 c =
+    element-beyond (c .before .before .before .before .before .before .before .args .e .now) (c .before .before .before .before .before .if1 .taken)
+    (sym (c .before .element-fits .ensures) ∙ c .if2 .left)
 
 returns-3 : tie.Need-returns-3
 returns-3 c = element-cut (c .before .before .args .e .now) (c .if1 .left)

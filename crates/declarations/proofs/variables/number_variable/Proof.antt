@@ -30,8 +30,13 @@ biased-requires : tie.Need-biased-requires
 biased-requires c κs = rw (back {z = c .integer .result} (record { sfits = c .integer .ok })) (c .integer .ensures .1)
 
 returns : tie.Need-returns
-returns c = let e = c .before .before .before .before .before .before .before .args .e .now in
-    number-declares _ (getD e 0 0) (c .before .integer .result) _ (number-good e (c .before .before .before .before .before .if1 .taken) (rw (suffix 1 e) at (c .before .integer .ensures .0)) (c .before .before .before .if2 .taken)) (c .before .before .before .if2 .taken) refl refl refl (rw (back {z = c .before .integer .result} (record { sfits = c .before .integer .ok })) at (c .biased .ensures .0)) (c .biased .ensures .1)
+returns c =
+    let e = c .before .before .before .before .before .before .before .args .e .now in
+    let if2 = c .before .before .before .if2 in
+    number-declares _ (getD e 0 0) (c .before .integer .result) _
+    (number-good e (c .before .before .before .before .before .if1 .taken) (rw (suffix 1 e) at (c .before .integer .ensures .0)) (if2 .taken))
+    (if2 .taken) refl refl refl (rw (back {z = c .before .integer .result} (record { sfits = c .before .integer .ok })) at (c .biased .ensures .0))
+    (c .biased .ensures .1)
 
 returns-2 : tie.Need-returns-2
 returns-2 c = number-beyond (c .before .before .before .before .args .e .now) (c .before .before .if1 .taken) (c .if2 .left)

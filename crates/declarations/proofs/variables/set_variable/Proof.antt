@@ -44,10 +44,14 @@ full-requires c κs =
     let h = and-both (isCount (getD (start .args .e .now) 0 0)) (ltb (c .before .before .before .long .result) (2 ^ getD (start .args .e .now) 0 0)) (sym (c .before .before .members-fit .ensures) ∙ c .before .if2 .taken) in omega (arith, c .wide .ensures .0, count-bounds (getD (start .args .e .now) 0 0) (h .0))
 
 returns : tie.Need-returns
-returns c = let e = c .before .before .before .before .before .before .before .before .before .args .e .now in
+returns c =
+    let e = c .before .before .before .before .before .before .before .before .before .args .e .now in
     let t = sym (c .before .before .before .members-fit .ensures) ∙ c .before .before .if2 .taken in
     let h = and-both (isCount (getD e 0 0)) (ltb (c .before .before .before .before .long .result) (2 ^ getD e 0 0)) t in
-    set-declares _ (getD e 0 0) (c .before .before .before .before .long .result) _ (set-good e (c .before .before .before .before .before .before .before .if1 .taken) (rw (suffix 1 e) at (c .before .before .before .before .long .ensures)) t) (h .0) refl refl refl refl (c .full .ensures ∙ ap (λ (n : ℕ). 2 ^ n - 1) (c .before .wide .ensures .0))
+    let long = c .before .before .before .before .long in
+    set-declares _ (getD e 0 0) (long .result) _
+    (set-good e (c .before .before .before .before .before .before .before .if1 .taken) (rw (suffix 1 e) at (long .ensures)) t) (h .0) refl refl refl
+    refl (c .full .ensures ∙ ap (λ (n : ℕ). 2 ^ n - 1) (c .before .wide .ensures .0))
 
 returns-2 : tie.Need-returns-2
 returns-2 c = let e = c .before .before .before .before .before .before .before .args .e .now in

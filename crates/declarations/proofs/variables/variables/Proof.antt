@@ -27,7 +27,8 @@ add-behind : tie.Need-add-behind Inv-loop μ-loop
 add-behind c =
     let start = c .before .before .before .before .before .before .before in
     let turn = c .before .before .before .loop in
-    record { fits = let i = variable-inside (start .args .model .now) (turn .at) (variable-due (start .args .model .now) (turn .at) (c .before .before .byte-at .ensures) (c .before .declares-variable .ensures) (c .if1 .taken)) in omega (arith, start .good) }
+    record
+    { fits = let i = variable-inside (start .args .model .now) (turn .at) (variable-due (start .args .model .now) (turn .at) (c .before .before .byte-at .ensures) (c .before .declares-variable .ensures) (c .if1 .taken)) in omega (arith, start .good) }
 
 byte-at-requires-2 : tie.Need-byte-at-requires-2 Inv-loop μ-loop
 byte-at-requires-2 c κs = search needs
@@ -54,16 +55,24 @@ enum-known-d : tie.Need-enum-known-d Inv-loop μ-loop
 enum-known-d c = search needs
 
 same-length : tie.Need-same-length Inv-loop μ-loop
-same-length c = omega (arith, c .before .before .before .before .before .before .before .before .before .before .loop .inv .kinds-length, c .before .before .before .before .before .before .before .before .before .before .before .before .before .before .pre .0)
+same-length c =
+    omega
+    (arith, c .before .before .before .before .before .before .before .before .before .before .loop .inv .kinds-length, c .before .before .before .before .before .before .before .before .before .before .before .before .before .before .pre .0)
 
 same-length-2 : tie.Need-same-length-2 Inv-loop μ-loop
-same-length-2 c = omega (arith, c .before .before .before .before .before .before .before .before .before .before .loop .inv .words-length, c .before .before .before .before .before .before .before .before .before .before .before .before .before .before .pre .1)
+same-length-2 c =
+    omega
+    (arith, c .before .before .before .before .before .before .before .before .before .before .loop .inv .words-length, c .before .before .before .before .before .before .before .before .before .before .before .before .before .before .pre .1)
 
 returns : tie.Need-returns Inv-loop μ-loop
 returns c =
     let start = c .before .before .before .before .before .before .before .before .before .before .before .before .before .before in
     let turn = c .before .before .before .before .before .before .before .before .before .before .loop in
-    (turn .inv .kinds-length, turn .inv .words-length, variable-too-many (start .args .model .now) (start .args .start) (turn .kinds) (turn .words) (turn .at) (turn .n) (turn .inv) (variable-inside (start .args .model .now) (turn .at) (variable-due (start .args .model .now) (turn .at) (c .before .before .before .before .before .before .before .before .before .byte-at .ensures) (c .before .before .before .before .before .before .before .before .declares-variable .ensures) (c .before .before .before .before .before .before .before .if1 .taken))) (variable-due (start .args .model .now) (turn .at) (c .before .before .before .before .before .before .before .before .before .byte-at .ensures) (c .before .before .before .before .before .before .before .before .declares-variable .ensures) (c .before .before .before .before .before .before .before .if1 .taken)) (c .before .before .d .given .0 .0) (declared-here (start .args .model .now) (turn .at) (c .before .before .before .before .before .before .byte-at2 .ensures) (c .before .before .d .given .1) (c .before .before .before .before .variable .ensures)) (c .if2 .taken))
+    let byte-at = c .before .before .before .before .before .before .before .before .before .byte-at in
+    let declares-variable = c .before .before .before .before .before .before .before .before .declares-variable in
+    let if1 = c .before .before .before .before .before .before .before .if1 in
+    let d = c .before .before .d in
+    (turn .inv .kinds-length, turn .inv .words-length, variable-too-many (start .args .model .now) (start .args .start) (turn .kinds) (turn .words) (turn .at) (turn .n) (turn .inv) (variable-inside (start .args .model .now) (turn .at) (variable-due (start .args .model .now) (turn .at) (byte-at .ensures) (declares-variable .ensures) (if1 .taken))) (variable-due (start .args .model .now) (turn .at) (byte-at .ensures) (declares-variable .ensures) (if1 .taken)) (d .given .0 .0) (declared-here (start .args .model .now) (turn .at) (c .before .before .before .before .before .before .byte-at2 .ensures) (d .given .1) (c .before .before .before .before .variable .ensures)) (c .if2 .taken))
 
 slice-write-kinds : tie.Need-slice-write-kinds Inv-loop μ-loop
 slice-write-kinds c =
@@ -79,34 +88,49 @@ add-at : tie.Need-add-at Inv-loop μ-loop
 add-at c =
     let start = c .before .before .before .before .before .before .before .before .before .before .before .before .before .before .before .before .before .before .before in
     let turn = c .before .before .before .before .before .before .before .before .before .before .before .before .before .before .before .loop in
-    record { fits = let i = variable-inside (start .args .model .now) (turn .at) (variable-due (start .args .model .now) (turn .at) (c .before .before .before .before .before .before .before .before .before .before .before .before .before .before .byte-at .ensures) (c .before .before .before .before .before .before .before .before .before .before .before .before .before .declares-variable .ensures) (c .before .before .before .before .before .before .before .before .before .before .before .before .if1 .taken)) in let u = declared-here (start .args .model .now) (turn .at) (c .before .before .before .before .before .before .before .before .before .before .before .byte-at2 .ensures) (c .before .before .before .before .before .before .before .d .given .1) (c .before .before .before .before .before .before .before .before .before .variable .ensures) in omega (arith, start .good, u .short) }
+    record
+    { fits = let i = variable-inside (start .args .model .now) (turn .at) (variable-due (start .args .model .now) (turn .at) (c .before .before .before .before .before .before .before .before .before .before .before .before .before .before .byte-at .ensures) (c .before .before .before .before .before .before .before .before .before .before .before .before .before .declares-variable .ensures) (c .before .before .before .before .before .before .before .before .before .before .before .before .if1 .taken)) in let u = declared-here (start .args .model .now) (turn .at) (c .before .before .before .before .before .before .before .before .before .before .before .byte-at2 .ensures) (c .before .before .before .before .before .before .before .d .given .1) (c .before .before .before .before .before .before .before .before .before .variable .ensures) in omega (arith, start .good, u .short) }
 
 add-n : tie.Need-add-n Inv-loop μ-loop
 add-n c = omega (arith, c .before .before .before .before .before .before .before .before .before .before .before .before .before .before .before .loop .inv .few)
 
 loop-less : tie.Need-loop-less Inv-loop μ-loop
-loop-less c = omega (arith, c .before .before .before .before .before .before .before .before .before .before .before .before .before .before .before .loop .inv .few, c .before .before .before .before .before .if2 .left)
+loop-less c =
+    omega
+    (arith, c .before .before .before .before .before .before .before .before .before .before .before .before .before .before .before .loop .inv .few, c .before .before .before .before .before .if2 .left)
 
 loop-again : tie.Need-loop-again Inv-loop μ-loop
 loop-again c =
     let start = c .before .before .before .before .before .before .before .before .before .before .before .before .before .before .before .before .before .before .before in
     let turn = c .before .before .before .before .before .before .before .before .before .before .before .before .before .before .before .loop in
-    rw (c .before .before .before .store .ensures) (variable-more (start .args .model .now) (start .args .start) (turn .kinds) (turn .words) (turn .at) (turn .n) (turn .inv) (variable-inside (start .args .model .now) (turn .at) (variable-due (start .args .model .now) (turn .at) (c .before .before .before .before .before .before .before .before .before .before .before .before .before .before .byte-at .ensures) (c .before .before .before .before .before .before .before .before .before .before .before .before .before .declares-variable .ensures) (c .before .before .before .before .before .before .before .before .before .before .before .before .if1 .taken))) (variable-due (start .args .model .now) (turn .at) (c .before .before .before .before .before .before .before .before .before .before .before .before .before .before .byte-at .ensures) (c .before .before .before .before .before .before .before .before .before .before .before .before .before .declares-variable .ensures) (c .before .before .before .before .before .before .before .before .before .before .before .before .if1 .taken)) (c .before .before .before .before .before .before .before .d .given .0 .0) (declared-here (start .args .model .now) (turn .at) (c .before .before .before .before .before .before .before .before .before .before .before .byte-at2 .ensures) (c .before .before .before .before .before .before .before .d .given .1) (c .before .before .before .before .before .before .before .before .before .variable .ensures)) (omega (arith, turn .inv .few, c .before .before .before .before .before .if2 .left)))
+    let byte-at = c .before .before .before .before .before .before .before .before .before .before .before .before .before .before .byte-at in
+    let declares-variable = c .before .before .before .before .before .before .before .before .before .before .before .before .before .declares-variable in
+    let if1 = c .before .before .before .before .before .before .before .before .before .before .before .before .if1 in
+    let d = c .before .before .before .before .before .before .before .d in
+    rw (c .before .before .before .store .ensures)
+    (variable-more (start .args .model .now) (start .args .start) (turn .kinds) (turn .words) (turn .at) (turn .n) (turn .inv) (variable-inside (start .args .model .now) (turn .at) (variable-due (start .args .model .now) (turn .at) (byte-at .ensures) (declares-variable .ensures) (if1 .taken))) (variable-due (start .args .model .now) (turn .at) (byte-at .ensures) (declares-variable .ensures) (if1 .taken)) (d .given .0 .0) (declared-here (start .args .model .now) (turn .at) (c .before .before .before .before .before .before .before .before .before .before .before .byte-at2 .ensures) (d .given .1) (c .before .before .before .before .before .before .before .before .before .variable .ensures)) (omega (arith, turn .inv .few, c .before .before .before .before .before .if2 .left)))
 
 enum-known-t : tie.Need-enum-known-t Inv-loop μ-loop
 enum-known-t c = search needs
 
 same-length-3 : tie.Need-same-length-3 Inv-loop μ-loop
-same-length-3 c = omega (arith, c .before .before .before .before .before .before .before .before .before .loop .inv .kinds-length, c .before .before .before .before .before .before .before .before .before .before .before .before .before .pre .0)
+same-length-3 c =
+    omega
+    (arith, c .before .before .before .before .before .before .before .before .before .loop .inv .kinds-length, c .before .before .before .before .before .before .before .before .before .before .before .before .before .pre .0)
 
 same-length-4 : tie.Need-same-length-4 Inv-loop μ-loop
-same-length-4 c = omega (arith, c .before .before .before .before .before .before .before .before .before .loop .inv .words-length, c .before .before .before .before .before .before .before .before .before .before .before .before .before .pre .1)
+same-length-4 c =
+    omega
+    (arith, c .before .before .before .before .before .before .before .before .before .loop .inv .words-length, c .before .before .before .before .before .before .before .before .before .before .before .before .before .pre .1)
 
 returns-2 : tie.Need-returns-2 Inv-loop μ-loop
 returns-2 c =
     let start = c .before .before .before .before .before .before .before .before .before .before .before .before .before in
     let turn = c .before .before .before .before .before .before .before .before .before .loop in
-    (turn .inv .kinds-length, turn .inv .words-length, variable-refused (start .args .model .now) (start .args .start) (turn .kinds) (turn .words) (turn .at) (turn .n) (turn .inv) (variable-inside (start .args .model .now) (turn .at) (variable-due (start .args .model .now) (turn .at) (c .before .before .before .before .before .before .before .before .byte-at .ensures) (c .before .before .before .before .before .before .before .declares-variable .ensures) (c .before .before .before .before .before .before .if1 .taken))) (variable-due (start .args .model .now) (turn .at) (c .before .before .before .before .before .before .before .before .byte-at .ensures) (c .before .before .before .before .before .before .before .declares-variable .ensures) (c .before .before .before .before .before .before .if1 .taken)) (declared-here (start .args .model .now) (turn .at) (c .before .before .before .before .before .byte-at2 .ensures) (c .before .t .given .1) (c .before .before .before .variable .ensures)))
+    let byte-at = c .before .before .before .before .before .before .before .before .byte-at in
+    let declares-variable = c .before .before .before .before .before .before .before .declares-variable in
+    let if1 = c .before .before .before .before .before .before .if1 in
+    (turn .inv .kinds-length, turn .inv .words-length, variable-refused (start .args .model .now) (start .args .start) (turn .kinds) (turn .words) (turn .at) (turn .n) (turn .inv) (variable-inside (start .args .model .now) (turn .at) (variable-due (start .args .model .now) (turn .at) (byte-at .ensures) (declares-variable .ensures) (if1 .taken))) (variable-due (start .args .model .now) (turn .at) (byte-at .ensures) (declares-variable .ensures) (if1 .taken)) (declared-here (start .args .model .now) (turn .at) (c .before .before .before .before .before .byte-at2 .ensures) (c .before .t .given .1) (c .before .before .before .variable .ensures)))
 
 same-length-5 : tie.Need-same-length-5 Inv-loop μ-loop
 same-length-5 c = omega (arith, c .before .before .before .before .loop .inv .kinds-length, c .before .before .before .before .before .before .before .before .pre .0)

@@ -32,7 +32,9 @@ entry-requires : tie.Need-entry-requires
 entry-requires c κs = let h = rw (← (c .two-elements .ensures)) at (elements-small (c .before .before .before .before .before .before .before .before .before .args .state .now) (c .before .after .result .now)) in omega (arith, h .0, h .1)
 
 add-ranged : tie.Need-add-ranged
-add-ranged c = omega (arith, rw (← (c .before .before .two-elements .ensures)) at (elements-used (c .before .before .before .before .before .before .before .before .before .before .before .args .state .now) (c .before .before .before .after .result .now)))
+add-ranged c =
+    omega
+    (arith, rw (← (c .before .before .two-elements .ensures)) at (elements-used (c .before .before .before .before .before .before .before .before .before .before .before .args .state .now) (c .before .before .before .after .result .now)))
 
 ranged-requires : tie.Need-ranged-requires
 ranged-requires c κs = search needs

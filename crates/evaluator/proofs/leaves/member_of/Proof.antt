@@ -17,7 +17,9 @@ element-requires c κs = search needs
 add-set-near : tie.Need-add-set-near
 add-set-near c =
     let a = c .before .before .before .before .before .before .args in
-    omega (arith, element-past (a .state .now) (a .at) (a .e .now) (c .before .before .after .result .now) (c .before .element .result) (c .before .before .after .ensures) (c .before .element .ensures .0), c .before .before .before .before .before .before .good .0 .1)
+    let after = c .before .before .after in
+    omega
+    (arith, element-past (a .state .now) (a .at) (a .e .now) (after .result .now) (c .before .element .result) (after .ensures) (c .before .element .ensures .0), c .before .before .before .before .before .before .good .0 .1)
 
 set-near-requires : tie.Need-set-near-requires
 set-near-requires c κs = search needs
@@ -28,7 +30,11 @@ is-member-requires c κs = search needs
 add-t9 : tie.Need-add-t9
 add-t9 c =
     let a = c .before .before .before .before .before .before .before .before .before .before .args in
-    omega (arith, element-past (a .state .now) (a .at) (a .e .now) (c .before .before .before .before .before .before .after .result .now) (c .before .before .before .before .before .element .result) (c .before .before .before .before .before .before .after .ensures) (c .before .before .before .before .before .element .ensures .0), set-past (a .depth) (a .state .now) (a .full .now) (a .at + c .before .before .before .before .before .element .result .used) (a .e .now) (c .before .before .before .set-near .result) (c .before .before .before .set-near .ensures), c .before .before .before .before .before .before .before .before .before .before .good .0 .1)
+    let after = c .before .before .before .before .before .before .after in
+    let element = c .before .before .before .before .before .element in
+    let set-near = c .before .before .before .set-near in
+    omega
+    (arith, element-past (a .state .now) (a .at) (a .e .now) (after .result .now) (element .result) (after .ensures) (element .ensures .0), set-past (a .depth) (a .state .now) (a .full .now) (a .at + element .result .used) (a .e .now) (set-near .result) (set-near .ensures), c .before .before .before .before .before .before .before .before .before .before .good .0 .1)
 
 returns : tie.Need-returns
 unfolding memberOf elementThenSet

@@ -43,7 +43,8 @@ add-ranged : tie.Need-add-ranged
 add-ranged c =
     let a = c .before .before .before .before .before .before .before .before .before .before .before .before .args in
     let h = set-element-within (a .state .now) (λ f. runSet (a .depth) (a .state .now) (a .full .now) f) (λ f. set-within (a .depth) (a .state .now) (a .full .now) f) (drop (a .at + 1) (a .e .now)) in
-    omega (arith, rw (← (c .before .before .set-then-element .ensures)) at h, length-drop (a .at + 1) (a .e .now), c .before .before .before .before .before .before .before .before .before .before .before .before .good .0 .1)
+    omega
+    (arith, rw (← (c .before .before .set-then-element .ensures)) at h, length-drop (a .at + 1) (a .e .now), c .before .before .before .before .before .before .before .before .before .before .before .before .good .0 .1)
 
 ranged-requires : tie.Need-ranged-requires
 ranged-requires c κs = search needs

@@ -92,7 +92,9 @@ element-then-set-element-requires t c κs = search needs
 element-then-set-add-set-from : (t : ℕ) → element-then-set-lts.Need-add-set-from (element-then-set-calls t) (element-then-set-at t) element-then-set.Post
 element-then-set-add-set-from t c =
     let a = c .before .before .before .before .before .before .args in
-    omega (arith, element-past (a .state .now) (a .at) (a .e .now) (c .before .before .after .result .now) (c .before .element .result) (c .before .before .after .ensures) (c .before .element .ensures .0), c .before .before .before .before .before .before .good .0 .1)
+    let after = c .before .before .after in
+    omega
+    (arith, element-past (a .state .now) (a .at) (a .e .now) (after .result .now) (c .before .element .result) (after .ensures) (c .before .element .ensures .0), c .before .before .before .before .before .before .good .0 .1)
 
 element-then-set-set-from-requires : (t : ℕ) → element-then-set-lts.Need-set-from-requires (element-then-set-calls t) (element-then-set-at t) element-then-set.Post
 element-then-set-set-from-requires t c κs =
@@ -101,7 +103,11 @@ element-then-set-set-from-requires t c κs =
 element-then-set-add-t9 : (t : ℕ) → element-then-set-lts.Need-add-t9 (element-then-set-calls t) (element-then-set-at t) element-then-set.Post
 element-then-set-add-t9 t c =
     let a = c .before .before .before .before .before .before .before .before .before .args in
-    omega (arith, element-past (a .state .now) (a .at) (a .e .now) (c .before .before .before .before .before .after .result .now) (c .before .before .before .before .element .result) (c .before .before .before .before .before .after .ensures) (c .before .before .before .before .element .ensures .0), set-past (a .depth) (a .state .now) (a .full .now) (a .at + c .before .before .before .before .element .result .used) (a .e .now) (c .before .before .set-from .result) (c .before .before .set-from .ensures), c .before .before .before .before .before .before .before .before .before .good .0 .1)
+    let after = c .before .before .before .before .before .after in
+    let element = c .before .before .before .before .element in
+    let set-from = c .before .before .set-from in
+    omega
+    (arith, element-past (a .state .now) (a .at) (a .e .now) (after .result .now) (element .result) (after .ensures) (element .ensures .0), set-past (a .depth) (a .state .now) (a .full .now) (a .at + element .result .used) (a .e .now) (set-from .result) (set-from .ensures), c .before .before .before .before .before .before .before .before .before .good .0 .1)
 
 element-then-set-returns : (t : ℕ) → element-then-set-lts.Need-returns (element-then-set-calls t) (element-then-set-at t) element-then-set.Post
 unfolding elementSet
@@ -134,7 +140,9 @@ set-behind-element-then-set-requires t c κs =
     let q : 3 * c .before .before .before .before .before .before .args .depth + 2 ≡ t = c .before .before .before .before .before .before .pre .0 in (omega arith, tt)
 
 set-behind-changed-requires : (t : ℕ) → set-behind-lts.Need-changed-requires (set-behind-calls t) (set-behind-at t) set-behind.Post
-set-behind-changed-requires t c κs = rw (c .element-then-set .ensures) (element-set-small (c .before .before .before .before .before .before .before .args .state .now) _ (drop (c .before .before .before .before .before .before .before .args .at) (c .before .before .before .before .before .before .before .args .e .now)))
+set-behind-changed-requires t c κs =
+    let the-args = c .before .before .before .before .before .before .before .args in
+    rw (c .element-then-set .ensures) (element-set-small (the-args .state .now) _ (drop (the-args .at) (the-args .e .now)))
 
 set-behind-enum-known-form-2 : (t : ℕ) → set-behind-lts.Need-enum-known-form-2 (set-behind-calls t) (set-behind-at t) set-behind.Post
 set-behind-enum-known-form-2 t c = search needs
@@ -238,7 +246,8 @@ two-sets-set-from-requires t c κs =
 two-sets-add-set-from : (t : ℕ) → two-sets-lts.Need-add-set-from (two-sets-calls t) (two-sets-at t) two-sets.Post
 two-sets-add-set-from t c =
     let a = c .before .before .before .before .before .args in
-    omega (arith, set-past (a .depth) (a .state .now) (a .full .now) (a .at) (a .e .now) (c .before .set-from .result) (c .before .set-from .ensures), c .before .before .before .before .before .good .0 .1)
+    omega
+    (arith, set-past (a .depth) (a .state .now) (a .full .now) (a .at) (a .e .now) (c .before .set-from .result) (c .before .set-from .ensures), c .before .before .before .before .before .good .0 .1)
 
 two-sets-set-from-requires-2 : (t : ℕ) → two-sets-lts.Need-set-from-requires-2 (two-sets-calls t) (two-sets-at t) two-sets.Post
 two-sets-set-from-requires-2 t c κs =
@@ -247,7 +256,10 @@ two-sets-set-from-requires-2 t c κs =
 two-sets-add-t8 : (t : ℕ) → two-sets-lts.Need-add-t8 (two-sets-calls t) (two-sets-at t) two-sets.Post
 two-sets-add-t8 t c =
     let a = c .before .before .before .before .before .before .before .before .args in
-    omega (arith, set-past (a .depth) (a .state .now) (a .full .now) (a .at) (a .e .now) (c .before .before .before .before .set-from .result) (c .before .before .before .before .set-from .ensures), set-past (a .depth) (a .state .now) (a .full .now) (a .at + c .before .before .before .before .set-from .result .used) (a .e .now) (c .before .before .set-from2 .result) (c .before .before .set-from2 .ensures), c .before .before .before .before .before .before .before .before .good .0 .1)
+    let set-from = c .before .before .before .before .set-from in
+    let set-from2 = c .before .before .set-from2 in
+    omega
+    (arith, set-past (a .depth) (a .state .now) (a .full .now) (a .at) (a .e .now) (set-from .result) (set-from .ensures), set-past (a .depth) (a .state .now) (a .full .now) (a .at + set-from .result .used) (a .e .now) (set-from2 .result) (set-from2 .ensures), c .before .before .before .before .before .before .before .before .good .0 .1)
 
 two-sets-returns : (t : ℕ) → two-sets-lts.Need-returns (two-sets-calls t) (two-sets-at t) two-sets.Post
 unfolding twoSets

@@ -26,7 +26,8 @@ word-at-requires-2 c κs = search needs
 returns-2 : tie.Need-returns-2
 returns-2 c =
     let start = c .before .before .before .before .before .before .before in
-    rw (c .before .word-at .ensures, c .word-at2 .ensures, c .before .before .name .ensures) (sym (variable-some (start .args .state .now) (start .args .full .now) (start .args .e .now) (c .before .before .before .if1 .left)))
+    rw (c .before .word-at .ensures, c .word-at2 .ensures, c .before .before .name .ensures)
+    (sym (variable-some (start .args .state .now) (start .args .full .now) (start .args .e .now) (c .before .before .before .if1 .left)))
 
 pub set-variable-spec : {M : Type 1} → statement M
 set-variable-spec =

@@ -63,7 +63,11 @@ same-length-2 c = search needs
 returns : tie.Need-returns
 returns c =
     let start = c .before .before .before .before .before .before .before .before .before .before .before .before .before .before .before .before .before .before in
-    bounded-value (start .pre .1 .0) _ _ _ _ _ _ _ _ _ _ (c .before .before .offer .result) (start .pre .1 .1 .1 .1 .1 .1 .1) (start .pre .1 .1 .1 .1 .1 .0) (sym (c .before .before .before .before .before .before .before .before .before .bound .ensures) ∙ c .before .before .before .before .before .before .before .h .given .1) (c .before .before .before .before .before .before .before .before .before .before .before .combine .ensures) (c .before .before .before .before .before .combine2 .ensures) (c .before .before .offer .ensures)
+    let offer = c .before .before .offer in
+    bounded-value (start .pre .1 .0) _ _ _ _ _ _ _ _ _ _ (offer .result) (start .pre .1 .1 .1 .1 .1 .1 .1) (start .pre .1 .1 .1 .1 .1 .0)
+    (sym (c .before .before .before .before .before .before .before .before .before .bound .ensures) ∙ c .before .before .before .before .before .before .before .h .given .1)
+    (c .before .before .before .before .before .before .before .before .before .before .before .combine .ensures)
+    (c .before .before .before .before .before .combine2 .ensures) (offer .ensures)
 
 same-length-3 : tie.Need-same-length-3
 same-length-3 c = search needs
@@ -71,7 +75,9 @@ same-length-3 c = search needs
 returns-2 : tie.Need-returns-2
 returns-2 c =
     let start = c .before .before .before .before .before .before .before .before .before .before .before .before in
-    bounded-trouble (start .pre .1 .0) _ _ _ _ _ _ _ _ _ _ (start .pre .1 .1 .1 .1 .1 .0) (sym (c .before .before .before .bound .ensures) ∙ c .before .e .given .1) (c .before .before .before .before .before .combine .ensures) (start .pre .0)
+    bounded-trouble (start .pre .1 .0) _ _ _ _ _ _ _ _ _ _ (start .pre .1 .1 .1 .1 .1 .0)
+    (sym (c .before .before .before .bound .ensures) ∙ c .before .e .given .1) (c .before .before .before .before .before .combine .ensures)
+    (start .pre .0)
 
 pub bounded-spec : {M : Type 1} → statement M
 bounded-spec =

@@ -41,7 +41,10 @@ loop-less c = search needs
 loop-again : tie.Need-loop-again Inv-loop μ-loop
 loop-again c =
     let start = c .before .before .before .before .before .before .before .before .before .before .before .before .before .before in
-    expanding-more _ _ _ _ _ _ _ _ _ (c .before .before .before .before .before .before .before .before .loop .inv) (omega (arith, c .before .before .before .before .before .before .before .loop-test .taken, c .before .before .before .before .before .before .before .before .before .word-at .ensures, transitions-in (start .pre .1 .0))) (c .before .before .before .before .before .try-transition .ensures) (c .before .before .either .ensures) (c .before .before .before .before .before .try-transition .kept .0) (c .enum-told .given .1)
+    let try-transition = c .before .before .before .before .before .try-transition in
+    expanding-more _ _ _ _ _ _ _ _ _ (c .before .before .before .before .before .before .before .before .loop .inv)
+    (omega (arith, c .before .before .before .before .before .before .before .loop-test .taken, c .before .before .before .before .before .before .before .before .before .word-at .ensures, transitions-in (start .pre .1 .0)))
+    (try-transition .ensures) (c .before .before .either .ensures) (try-transition .kept .0) (c .enum-told .given .1)
 
 enum-known-trial : tie.Need-enum-known-trial Inv-loop μ-loop
 enum-known-trial c = search needs
@@ -52,7 +55,10 @@ same-length c = c .before .before .before .before .before .before .try-transitio
 returns : tie.Need-returns Inv-loop μ-loop
 returns c =
     let start = c .before .before .before .before .before .before .before .before .before .before .before .before .before .before .before in
-    expanded-before _ _ _ _ _ _ _ _ _ (c .before .before .before .before .before .before .before .before .before .loop .inv) (omega (arith, c .before .before .before .before .before .before .before .before .loop-test .taken, c .before .before .before .before .before .before .before .before .before .before .word-at .ensures, transitions-in (start .pre .1 .0))) (c .before .before .before .before .before .before .try-transition .ensures) (c .before .before .before .either .ensures) (c .before .trial .given .1)
+    expanded-before _ _ _ _ _ _ _ _ _ (c .before .before .before .before .before .before .before .before .before .loop .inv)
+    (omega (arith, c .before .before .before .before .before .before .before .before .loop-test .taken, c .before .before .before .before .before .before .before .before .before .before .word-at .ensures, transitions-in (start .pre .1 .0)))
+    (c .before .before .before .before .before .before .try-transition .ensures) (c .before .before .before .either .ensures)
+    (c .before .trial .given .1)
 
 enum-known-trial-2 : tie.Need-enum-known-trial-2 Inv-loop μ-loop
 enum-known-trial-2 c = search needs
@@ -63,7 +69,10 @@ same-length-2 c = c .before .before .before .before .before .before .try-transit
 returns-2 : tie.Need-returns-2 Inv-loop μ-loop
 returns-2 c =
     let start = c .before .before .before .before .before .before .before .before .before .before .before .before .before .before .before in
-    expanded-at _ _ _ _ _ _ _ _ _ (c .before .before .before .before .before .before .before .before .before .loop .inv) (omega (arith, c .before .before .before .before .before .before .before .before .loop-test .taken, c .before .before .before .before .before .before .before .before .before .before .word-at .ensures, transitions-in (start .pre .1 .0))) (c .before .before .before .before .before .before .try-transition .ensures) (c .before .before .before .either .ensures) (c .before .trial2 .given .1)
+    expanded-at _ _ _ _ _ _ _ _ _ (c .before .before .before .before .before .before .before .before .before .loop .inv)
+    (omega (arith, c .before .before .before .before .before .before .before .before .loop-test .taken, c .before .before .before .before .before .before .before .before .before .before .word-at .ensures, transitions-in (start .pre .1 .0)))
+    (c .before .before .before .before .before .before .try-transition .ensures) (c .before .before .before .either .ensures)
+    (c .before .trial2 .given .1)
 
 same-length-3 : tie.Need-same-length-3 Inv-loop μ-loop
 same-length-3 c = c .before .loop .inv .long

@@ -18,7 +18,10 @@ same-length : tie.Need-same-length
 same-length c = search needs
 
 returns : tie.Need-returns
-returns c = offered-below (c .before .before .insert .result) (sym (c .before .before .before .before .before .below-best .ensures) ∙ c .before .before .before .before .if1 .taken) (c .before .before .insert .ensures)
+returns c =
+    let insert = c .before .before .insert in
+    offered-below (insert .result)
+    (sym (c .before .before .before .before .before .below-best .ensures) ∙ c .before .before .before .before .if1 .taken) (insert .ensures)
 
 returns-2 : tie.Need-returns-2
 returns-2 c =

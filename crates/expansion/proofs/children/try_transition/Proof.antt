@@ -50,7 +50,8 @@ same-length c = search needs
 returns-2 : tie.Need-returns-2
 returns-2 c =
     let start = c .before .before .before .before .before .before .before .before .before .before .before .before .before .before .before .before in
-    tried-moved (start .pre .1 .0) _ _ _ _ _ _ _ _ (c .before .before .before .before .before .before .before .before .before .before .step .ensures) _ (c .before .before .before .before .before .before .before .c .given .1) (c .before .before .before .bounded .ensures)
+    tried-moved (start .pre .1 .0) _ _ _ _ _ _ _ _ (c .before .before .before .before .before .before .before .before .before .before .step .ensures)
+    _ (c .before .before .before .before .before .before .before .c .given .1) (c .before .before .before .bounded .ensures)
 
 returns-3 : tie.Need-returns-3
 returns-3 c =
@@ -60,7 +61,8 @@ returns-3 c =
 returns-4 : tie.Need-returns-4
 returns-4 c =
     let start = c .before .before .before .before .before .before .before .before .before .before .before .before in
-    tried-after (start .pre .1 .0) _ _ _ _ _ _ _ _ (c .before .before .before .before .before .before .step .ensures) (c .before .before .before .c2 .given .1) (start .pre .1 .1 .1 .1 .1) (c .combine .ensures) (start .pre .0)
+    tried-after (start .pre .1 .0) _ _ _ _ _ _ _ _ (c .before .before .before .before .before .before .step .ensures)
+    (c .before .before .before .c2 .given .1) (start .pre .1 .1 .1 .1 .1) (c .combine .ensures) (start .pre .0)
 
 pub try-transition-spec : {M : Type 1} → statement M
 try-transition-spec =

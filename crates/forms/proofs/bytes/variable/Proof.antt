@@ -31,12 +31,18 @@ objects-requires : tie.Need-objects-requires
 objects-requires c κs = search needs
 
 returns-2 : tie.Need-returns-2
-returns-2 c = let a = c .before .before .before .before .before .before .before .before .before .before .args in
-    variable-read (a .due) (a .kinds .now) (a .e .now) (c .before .before .before .before .before .before .before .if1 .left) (c .before .before .before .before .before .if2 .taken) (c .before .before .before .due-number .ensures) (c .before .before .kind-number .ensures) (c .objects .ensures) true (eq-eqb _ _ (c .before .if3 .taken))
+returns-2 c =
+    let a = c .before .before .before .before .before .before .before .before .before .before .args in
+    variable-read (a .due) (a .kinds .now) (a .e .now) (c .before .before .before .before .before .before .before .if1 .left)
+    (c .before .before .before .before .before .if2 .taken) (c .before .before .before .due-number .ensures) (c .before .before .kind-number .ensures)
+    (c .objects .ensures) true (eq-eqb _ _ (c .before .if3 .taken))
 
 returns-3 : tie.Need-returns-3
-returns-3 c = let a = c .before .before .before .before .before .before .before .before .before .args in
-    variable-read (a .due) (a .kinds .now) (a .e .now) (c .before .before .before .before .before .before .if1 .left) (c .before .before .before .before .if2 .taken) (c .before .before .due-number .ensures) (c .before .kind-number .ensures) refl false (ne-eqb _ _ (c .if3 .left))
+returns-3 c =
+    let a = c .before .before .before .before .before .before .before .before .before .args in
+    variable-read (a .due) (a .kinds .now) (a .e .now) (c .before .before .before .before .before .before .if1 .left)
+    (c .before .before .before .before .if2 .taken) (c .before .before .due-number .ensures) (c .before .kind-number .ensures) refl false
+    (ne-eqb _ _ (c .if3 .left))
 
 returns-4 : tie.Need-returns-4
 returns-4 c = let a = c .before .before .before .before .before .args in

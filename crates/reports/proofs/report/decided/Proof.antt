@@ -15,7 +15,9 @@ same-length : tie.Need-same-length
 same-length c = search needs
 
 returns : tie.Need-returns
-returns c = decides-found _ _ _ _ _ _ (c .before .before .before .before .before .before .bound-at .ensures) (c .before .before .before .before .if1 .taken) (c .before .before .before .before .before .before .before .before .before .before .before .pre .0) (c .before .before .copy-bytes .ensures)
+returns c =
+    decides-found _ _ _ _ _ _ (c .before .before .before .before .before .before .bound-at .ensures) (c .before .before .before .before .if1 .taken)
+    (c .before .before .before .before .before .before .before .before .before .before .before .pre .0) (c .before .before .copy-bytes .ensures)
 
 returns-2 : tie.Need-returns-2
 returns-2 c = decides-none _ _ _ _ _ _ (c .before .before .bound-at .ensures) (c .if1 .left) refl

@@ -26,7 +26,9 @@ same-length c = search needs
 returns-2 : tie.Need-returns-2
 returns-2 c =
     let start = c .before .before .before .before .before .before .before .before .before .before in
-    moves _ _ _ _ _ _ (start .pre .0) (omega (arith, start .pre .1 .1 .1 .0)) (omega (arith, eqb-false (start .args .round .count) 0 (c .before .before .before .before .before .before .before .if2 .left))) (c .before .before .before .before .before .before .if3 .left) (c .before .before .before .before .next-layer .ensures)
+    moves _ _ _ _ _ _ (start .pre .0) (omega (arith, start .pre .1 .1 .1 .0))
+    (omega (arith, eqb-false (start .args .round .count) 0 (c .before .before .before .before .before .before .before .if2 .left)))
+    (c .before .before .before .before .before .before .if3 .left) (c .before .before .before .before .next-layer .ensures)
 
 pub move-on-spec : {M : Type 1} → statement M
 move-on-spec = tie.close (tie.spec returns next-layer-requires same-length returns-2)

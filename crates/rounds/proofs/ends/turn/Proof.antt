@@ -38,7 +38,8 @@ returns c =
     let start = c .before .before .before .before .before .before .before .before .before .before .before .before .before .before .before .before .before .before .before .before in
     let end = c .before .before .before .before .layer-end in
     let taken = c .before .before .before .before .before .before .before .before .before .before .before .before .before .layer in
-    turns-on _ (start .pre .0) (taken .ensures) (c .before .before .before .before .before .before .enum-told .given .1) (end .ensures) (start .pre .1 .0) (taken .kept .1 .0) (c .before .before .move-on .ensures)
+    turns-on _ (start .pre .0) (taken .ensures) (c .before .before .before .before .before .before .enum-told .given .1) (end .ensures)
+    (start .pre .1 .0) (taken .kept .1 .0) (c .before .before .move-on .ensures)
 
 same-length-3 : tie.Need-same-length-3
 same-length-3 c = search needs

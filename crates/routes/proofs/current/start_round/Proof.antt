@@ -69,7 +69,8 @@ returns c =
     let state = c .before .before .before .before .before .before .before .before .before .before .start in
     let first = c .before .before .before .before .before .before .copy-words in
     let none = c .before .before .empty in
-    round-started (start .args .words .now) (state .last .1 .1 .0) (first .last .1 .0) (none .last .0) (start .args .w) (start .args .h) (start .pre .0) (start .pre .1 .0) (start .pre .1 .1 .1) (state .kept .1 .1 .0) (state .ensures) (first .ensures) (none .kept .0) (none .ensures)
+    round-started (start .args .words .now) (state .last .1 .1 .0) (first .last .1 .0) (none .last .0) (start .args .w) (start .args .h)
+    (start .pre .0) (start .pre .1 .0) (start .pre .1 .1 .1) (state .kept .1 .1 .0) (state .ensures) (first .ensures) (none .kept .0) (none .ensures)
 
 pub start-round-spec : {M : Type 1} → statement M
 start-round-spec =

@@ -18,10 +18,14 @@ returns-3 : tie.Need-returns-3
 returns-3 c = judged-better _ _ (sym (c .before .before .nothing-left .ensures) ∙ c .before .if1 .left) (c .if3 .taken)
 
 returns-4 : tie.Need-returns-4
-returns-4 c = judged-width-stop _ _ (sym (c .before .before .before .before .nothing-left .ensures) ∙ c .before .before .before .if1 .left) (c .before .before .if3 .left) (c .before .if4 .taken) (c .if5 .taken)
+returns-4 c =
+    judged-width-stop _ _ (sym (c .before .before .before .before .nothing-left .ensures) ∙ c .before .before .before .if1 .left)
+    (c .before .before .if3 .left) (c .before .if4 .taken) (c .if5 .taken)
 
 returns-5 : tie.Need-returns-5
-returns-5 c = judged-wider _ _ (sym (c .before .before .before .before .nothing-left .ensures) ∙ c .before .before .before .if1 .left) (c .before .before .if3 .left) (c .before .if4 .taken) (c .if5 .left)
+returns-5 c =
+    judged-wider _ _ (sym (c .before .before .before .before .nothing-left .ensures) ∙ c .before .before .before .if1 .left)
+    (c .before .before .if3 .left) (c .before .if4 .taken) (c .if5 .left)
 
 returns-6 : tie.Need-returns-6
 returns-6 c = judged-length-stop _ _ (sym (c .before .before .before .nothing-left .ensures) ∙ c .before .before .if1 .left) (c .before .if3 .left) (c .if4 .left)

@@ -56,7 +56,9 @@ enum-known-t c = search needs
 returns : tie.Need-returns Inv-loop μ-loop
 returns c =
     let start = c .before .before .before .before .before .before .before .before .before .before .before in
-    raising-troubles _ _ (start .pre) _ _ _ (c .before .before .before .before .before .before .loop .inv) (omega (arith, c .before .before .before .before .before .loop-test .taken, c .before .before .before .before .before .before .before .word-at .ensures, start .pre .outlines .bound-count)) _ (c .before .before .before .before .word-at2 .ensures) _ (c .before .before .before .number-at .ensures .0) (c .before .t .given .1)
+    raising-troubles _ _ (start .pre) _ _ _ (c .before .before .before .before .before .before .loop .inv)
+    (omega (arith, c .before .before .before .before .before .loop-test .taken, c .before .before .before .before .before .before .before .word-at .ensures, start .pre .outlines .bound-count))
+    _ (c .before .before .before .before .word-at2 .ensures) _ (c .before .before .before .number-at .ensures .0) (c .before .t .given .1)
 
 returns-2 : tie.Need-returns-2 Inv-loop μ-loop
 returns-2 c =

@@ -58,7 +58,10 @@ enum-known-n : tie.Need-enum-known-n Inv-loop μ-loop
 enum-known-n c = search needs
 
 returns : tie.Need-returns Inv-loop μ-loop
-returns c = followed-ended _ _ _ _ _ _ (c .before .before .before .before .before .before .before .before .before .loop .inv) (c .before .before .before .before .before .before .before .before .loop-test .taken) _ _ (c .before .before .before .before .turn .ensures) (c .before .n .given .1)
+returns c =
+    followed-ended _ _ _ _ _ _ (c .before .before .before .before .before .before .before .before .before .loop .inv)
+    (c .before .before .before .before .before .before .before .before .loop-test .taken) _ _ (c .before .before .before .before .turn .ensures)
+    (c .before .n .given .1)
 
 slice-aggregate-finish : tie.Need-slice-aggregate-finish Inv-loop μ-loop
 slice-aggregate-finish c = sym (c .before .before .loop .inv .long)

@@ -29,7 +29,10 @@ same-length c = search needs
 returns-2 : tie.Need-returns-2
 returns-2 c =
     let start = c .before .before .before .before .before .before .before .before .before .before .before in
-    turn-on _ _ (start .args .t) (start .args .g) _ (sym (c .before .before .before .before .enum-told2 .given .1) ∙ c .before .before .before .before .before .before .status .ensures) (c .before .before .move-on .result) (c .before .before .move-on .ensures)
+    let move-on = c .before .before .move-on in
+    turn-on _ _ (start .args .t) (start .args .g) _
+    (sym (c .before .before .before .before .enum-told2 .given .1) ∙ c .before .before .before .before .before .before .status .ensures)
+    (move-on .result) (move-on .ensures)
 
 returns-3 : tie.Need-returns-3
 returns-3 c = turn-troubles _ _ _ _ (c .before .before .before .before .before .before .before .before .args .child .now) (sym (c .before .n .given .1) ∙ c .before .before .before .status .ensures)

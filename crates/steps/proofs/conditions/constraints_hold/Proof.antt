@@ -44,12 +44,18 @@ loop-less c = search needs
 loop-again : tie.Need-loop-again Inv-loop μ-loop
 loop-again c =
     let start = c .before .before .before .before .before .before .before .before .before .before .before .before in
-    meeting-more _ _ (start .pre) _ _ (c .before .before .before .before .before .before .before .loop .inv) (omega (arith, c .before .before .before .before .before .before .loop-test .taken, c .before .before .before .before .before .before .before .before .word-at .ensures, start .pre .outlines .constraint-count)) _ (c .before .before .before .before .before .word-at2 .ensures) _ (c .before .before .before .before .condition-at .ensures .0) (c .before .before .holds .given .1) (c .if1 .taken)
+    meeting-more _ _ (start .pre) _ _ (c .before .before .before .before .before .before .before .loop .inv)
+    (omega (arith, c .before .before .before .before .before .before .loop-test .taken, c .before .before .before .before .before .before .before .before .word-at .ensures, start .pre .outlines .constraint-count))
+    _ (c .before .before .before .before .before .word-at2 .ensures) _ (c .before .before .before .before .condition-at .ensures .0)
+    (c .before .before .holds .given .1) (c .if1 .taken)
 
 returns : tie.Need-returns Inv-loop μ-loop
 returns c =
     let start = c .before .before .before .before .before .before .before .before .before .before .before .before in
-    meeting-fails _ _ (start .pre) _ _ (c .before .before .before .before .before .before .before .loop .inv) (omega (arith, c .before .before .before .before .before .before .loop-test .taken, c .before .before .before .before .before .before .before .before .word-at .ensures, start .pre .outlines .constraint-count)) _ (c .before .before .before .before .before .word-at2 .ensures) _ (c .before .before .before .before .condition-at .ensures .0) (c .before .before .holds .given .1) (c .if1 .left)
+    meeting-fails _ _ (start .pre) _ _ (c .before .before .before .before .before .before .before .loop .inv)
+    (omega (arith, c .before .before .before .before .before .before .loop-test .taken, c .before .before .before .before .before .before .before .before .word-at .ensures, start .pre .outlines .constraint-count))
+    _ (c .before .before .before .before .before .word-at2 .ensures) _ (c .before .before .before .before .condition-at .ensures .0)
+    (c .before .before .holds .given .1) (c .if1 .left)
 
 enum-known-t : tie.Need-enum-known-t Inv-loop μ-loop
 enum-known-t c = search needs
@@ -57,7 +63,9 @@ enum-known-t c = search needs
 returns-2 : tie.Need-returns-2 Inv-loop μ-loop
 returns-2 c =
     let start = c .before .before .before .before .before .before .before .before .before .before .before in
-    meeting-troubles _ _ (start .pre) _ _ (c .before .before .before .before .before .before .loop .inv) (omega (arith, c .before .before .before .before .before .loop-test .taken, c .before .before .before .before .before .before .before .word-at .ensures, start .pre .outlines .constraint-count)) _ (c .before .before .before .before .word-at2 .ensures) _ (c .before .before .before .condition-at .ensures .0) (c .before .t .given .1)
+    meeting-troubles _ _ (start .pre) _ _ (c .before .before .before .before .before .before .loop .inv)
+    (omega (arith, c .before .before .before .before .before .loop-test .taken, c .before .before .before .before .before .before .before .word-at .ensures, start .pre .outlines .constraint-count))
+    _ (c .before .before .before .before .word-at2 .ensures) _ (c .before .before .before .condition-at .ensures .0) (c .before .t .given .1)
 
 returns-3 : tie.Need-returns-3 Inv-loop μ-loop
 returns-3 c =

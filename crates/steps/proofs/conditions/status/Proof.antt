@@ -36,7 +36,9 @@ enum-told c = search needs
 returns : tie.Need-returns Inv-loop μ-loop
 returns c =
     let start = c .before .before .before .before .before .before .before .before .before .before in
-    seeking-base _ _ (start .pre) _ _ (c .before .before .before .before .before .loop .inv) (omega (arith, c .before .before .before .before .loop-test .taken, c .before .before .before .before .before .before .word-at .ensures, start .pre .outlines .base-case-count)) _ (c .before .before .before .word-at2 .ensures) _ (c .before .before .conditions-hold .ensures) (c .enum-told .given .1)
+    seeking-base _ _ (start .pre) _ _ (c .before .before .before .before .before .loop .inv)
+    (omega (arith, c .before .before .before .before .loop-test .taken, c .before .before .before .before .before .before .word-at .ensures, start .pre .outlines .base-case-count))
+    _ (c .before .before .before .word-at2 .ensures) _ (c .before .before .conditions-hold .ensures) (c .enum-told .given .1)
 
 enum-told-2 : tie.Need-enum-told-2 Inv-loop μ-loop
 enum-told-2 c = search needs
@@ -50,7 +52,9 @@ loop-less c = search needs
 loop-again : tie.Need-loop-again Inv-loop μ-loop
 loop-again c =
     let start = c .before .before .before .before .before .before .before .before .before .before in
-    seeking-more _ _ (start .pre) _ _ (c .before .before .before .before .before .loop .inv) (omega (arith, c .before .before .before .before .loop-test .taken, c .before .before .before .before .before .before .word-at .ensures, start .pre .outlines .base-case-count)) _ (c .before .before .before .word-at2 .ensures) _ (c .before .before .conditions-hold .ensures) (c .enum-told2 .given .1)
+    seeking-more _ _ (start .pre) _ _ (c .before .before .before .before .before .loop .inv)
+    (omega (arith, c .before .before .before .before .loop-test .taken, c .before .before .before .before .before .before .word-at .ensures, start .pre .outlines .base-case-count))
+    _ (c .before .before .before .word-at2 .ensures) _ (c .before .before .conditions-hold .ensures) (c .enum-told2 .given .1)
 
 enum-known-t : tie.Need-enum-known-t Inv-loop μ-loop
 enum-known-t c = search needs
@@ -58,7 +62,9 @@ enum-known-t c = search needs
 returns-2 : tie.Need-returns-2 Inv-loop μ-loop
 returns-2 c =
     let start = c .before .before .before .before .before .before .before .before .before .before .before in
-    seeking-troubles _ _ (start .pre) _ _ (c .before .before .before .before .before .before .loop .inv) (omega (arith, c .before .before .before .before .before .loop-test .taken, c .before .before .before .before .before .before .before .word-at .ensures, start .pre .outlines .base-case-count)) _ (c .before .before .before .before .word-at2 .ensures) _ (c .before .before .before .conditions-hold .ensures) (c .before .t .given .1)
+    seeking-troubles _ _ (start .pre) _ _ (c .before .before .before .before .before .before .loop .inv)
+    (omega (arith, c .before .before .before .before .before .loop-test .taken, c .before .before .before .before .before .before .before .word-at .ensures, start .pre .outlines .base-case-count))
+    _ (c .before .before .before .before .word-at2 .ensures) _ (c .before .before .before .conditions-hold .ensures) (c .before .t .given .1)
 
 returns-3 : tie.Need-returns-3 Inv-loop μ-loop
 returns-3 c =

@@ -12,7 +12,9 @@ enum-known-next : tie.Need-enum-known-next
 enum-known-next c = search needs
 
 add-take : tie.Need-add-take
-add-take c = record { fits = omega (arith, rest-read _ _ _ _ (c .before .before .before .conditions-hold .ensures) (c .before .next .given .1) (c .before .before .before .before .before .before .before .before .pre .1) .inside) }
+add-take c =
+    record
+    { fits = omega (arith, rest-read _ _ _ _ (c .before .before .before .conditions-hold .ensures) (c .before .next .given .1) (c .before .before .before .before .before .before .before .before .pre .1) .inside) }
 
 take-requires : tie.Need-take-requires
 take-requires c κs =
@@ -29,7 +31,9 @@ same-length : tie.Need-same-length
 same-length c = search needs
 
 returns : tie.Need-returns
-returns c = attempt-taken _ _ _ _ (c .before .before .before .before .before .before .before .conditions-hold .ensures) (c .before .before .before .before .before .next .given .1) _ _ (c .before .before .take .ensures)
+returns c =
+    attempt-taken _ _ _ _ (c .before .before .before .before .before .before .before .conditions-hold .ensures)
+    (c .before .before .before .before .before .next .given .1) _ _ (c .before .before .take .ensures)
 
 returns-2 : tie.Need-returns-2
 returns-2 c = attempt-blocked _ _ _ _ (c .before .before .conditions-hold .ensures) _ (c .enum-told .given .1)

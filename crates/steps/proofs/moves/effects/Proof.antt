@@ -22,7 +22,9 @@ byte-at-requires : tie.Need-byte-at-requires Inv-loop μ-loop
 byte-at-requires c κs = search needs
 
 add-byte-at : tie.Need-add-byte-at Inv-loop μ-loop
-add-byte-at c = record { fits = omega (arith, byte-inside (c .before .before .before .before .before .before .before .args .model .now) (c .before .before .loop .next) 10 (omega arith) (sym (c .before .byte-at .ensures) ∙ c .if1 .taken)) }
+add-byte-at c =
+    record
+    { fits = omega (arith, byte-inside (c .before .before .before .before .before .before .before .args .model .now) (c .before .before .loop .next) 10 (omega arith) (sym (c .before .byte-at .ensures) ∙ c .if1 .taken)) }
 
 byte-at-requires-2 : tie.Need-byte-at-requires-2 Inv-loop μ-loop
 byte-at-requires-2 c κs = search needs
@@ -50,27 +52,37 @@ slice-write-child : tie.Need-slice-write-child Inv-loop μ-loop
 slice-write-child c =
     let start = c .before .before .before .before .before .before .before .before .before .before .before .before in
     let turn = c .before .before .before .before .before .before .before .loop in
-    omega (arith, next-inside _ _ _ _ _ _ (turn .inv) _ (start .pre .0) (sym (c .before .before .before .before .before .before .byte-at .ensures) ∙ c .before .before .before .before .before .if1 .taken) (start .pre .1) .1, c .before .before .before .before .byte-at2 .ensures, turn .inv .long, start .pre .2)
+    omega
+    (arith, next-inside _ _ _ _ _ _ (turn .inv) _ (start .pre .0) (sym (c .before .before .before .before .before .before .byte-at .ensures) ∙ c .before .before .before .before .before .if1 .taken) (start .pre .1) .1, c .before .before .before .before .byte-at2 .ensures, turn .inv .long, start .pre .2)
 
 add-next : tie.Need-add-next Inv-loop μ-loop
 add-next c =
     let start = c .before .before .before .before .before .before .before .before .before .before .before .before in
-    record { fits = omega (arith, next-inside _ _ _ _ _ _ (c .before .before .before .before .before .before .before .loop .inv) _ (start .pre .0) (sym (c .before .before .before .before .before .before .byte-at .ensures) ∙ c .before .before .before .before .before .if1 .taken) (start .pre .1) .0) }
+    record
+    { fits = omega (arith, next-inside _ _ _ _ _ _ (c .before .before .before .before .before .before .before .loop .inv) _ (start .pre .0) (sym (c .before .before .before .before .before .before .byte-at .ensures) ∙ c .before .before .before .before .before .if1 .taken) (start .pre .1) .0) }
 
 add-next-2 : tie.Need-add-next-2 Inv-loop μ-loop
 add-next-2 c =
     let start = c .before .before .before .before .before .before .before .before .before .before .before .before in
-    record { fits = omega (arith, next-inside _ _ _ _ _ _ (c .before .before .before .before .before .before .before .loop .inv) _ (start .pre .0) (sym (c .before .before .before .before .before .before .byte-at .ensures) ∙ c .before .before .before .before .before .if1 .taken) (start .pre .1) .0, word-within _ (c .before .w .given .1) (c .before .before .before .word-for .ensures .1)) }
+    record
+    { fits = omega (arith, next-inside _ _ _ _ _ _ (c .before .before .before .before .before .before .before .loop .inv) _ (start .pre .0) (sym (c .before .before .before .before .before .before .byte-at .ensures) ∙ c .before .before .before .before .before .if1 .taken) (start .pre .1) .0, word-within _ (c .before .w .given .1) (c .before .before .before .word-for .ensures .1)) }
 
 loop-less : tie.Need-loop-less Inv-loop μ-loop
 loop-less c =
     let start = c .before .before .before .before .before .before .before .before .before .before .before .before in
-    omega (arith, next-inside _ _ _ _ _ _ (c .before .before .before .before .before .before .before .loop .inv) _ (start .pre .0) (sym (c .before .before .before .before .before .before .byte-at .ensures) ∙ c .before .before .before .before .before .if1 .taken) (start .pre .1) .0)
+    omega
+    (arith, next-inside _ _ _ _ _ _ (c .before .before .before .before .before .before .before .loop .inv) _ (start .pre .0) (sym (c .before .before .before .before .before .before .byte-at .ensures) ∙ c .before .before .before .before .before .if1 .taken) (start .pre .1) .0)
 
 loop-again : tie.Need-loop-again Inv-loop μ-loop
 loop-again c =
     let i = next-inside _ _ _ _ _ _ (c .before .before .before .before .before .before .before .loop .inv) _ (c .before .before .before .before .before .before .before .before .before .before .before .before .pre .0) (sym (c .before .before .before .before .before .before .byte-at .ensures) ∙ c .before .before .before .before .before .if1 .taken) (c .before .before .before .before .before .before .before .before .before .before .before .before .pre .1) in
-    writing-more _ _ _ _ _ _ (c .before .before .before .before .before .before .before .loop .inv) _ (c .before .before .before .before .before .before .before .before .before .before .before .before .pre .0) (sym (c .before .before .before .before .before .before .byte-at .ensures) ∙ c .before .before .before .before .before .if1 .taken) _ (c .before .before .before .before .byte-at2 .ensures) _ (c .before .before .before .word-for .ensures .0) (omega (arith, i .1, c .before .before .before .before .byte-at2 .ensures, c .before .before .before .before .before .before .before .loop .inv .long, c .before .before .before .before .before .before .before .before .before .before .before .before .pre .2)) (c .before .w .given .1)
+    let pre = c .before .before .before .before .before .before .before .before .before .before .before .before .pre in
+    let loop = c .before .before .before .before .before .before .before .loop in
+    let byte-at2 = c .before .before .before .before .byte-at2 in
+    writing-more _ _ _ _ _ _ (loop .inv) _ (pre .0)
+    (sym (c .before .before .before .before .before .before .byte-at .ensures) ∙ c .before .before .before .before .before .if1 .taken) _
+    (byte-at2 .ensures) _ (c .before .before .before .word-for .ensures .0) (omega (arith, i .1, byte-at2 .ensures, loop .inv .long, pre .2))
+    (c .before .w .given .1)
 
 enum-known-t : tie.Need-enum-known-t Inv-loop μ-loop
 enum-known-t c = search needs
@@ -79,7 +91,11 @@ same-length : tie.Need-same-length Inv-loop μ-loop
 same-length c = c .before .before .before .before .before .before .before .loop .inv .long
 
 returns : tie.Need-returns Inv-loop μ-loop
-returns c = writing-troubles _ _ _ _ _ _ (c .before .before .before .before .before .before .before .loop .inv) _ (c .before .before .before .before .before .before .before .before .before .before .before .before .pre .0) (sym (c .before .before .before .before .before .before .byte-at .ensures) ∙ c .before .before .before .before .before .if1 .taken) _ (c .before .before .before .before .byte-at2 .ensures) _ (c .before .before .before .word-for .ensures .0) (c .before .t .given .1)
+returns c =
+    writing-troubles _ _ _ _ _ _ (c .before .before .before .before .before .before .before .loop .inv) _
+    (c .before .before .before .before .before .before .before .before .before .before .before .before .pre .0)
+    (sym (c .before .before .before .before .before .before .byte-at .ensures) ∙ c .before .before .before .before .before .if1 .taken) _
+    (c .before .before .before .before .byte-at2 .ensures) _ (c .before .before .before .word-for .ensures .0) (c .before .t .given .1)
 
 same-length-2 : tie.Need-same-length-2 Inv-loop μ-loop
 same-length-2 c = c .before .before .loop .inv .long

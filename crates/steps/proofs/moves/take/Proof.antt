@@ -19,7 +19,9 @@ copy-state-requires : tie.Need-copy-state-requires
 copy-state-requires c κs = (c .before .before .before .before .before .before .before .before .before .pre .2, c .before .before .before .before .before .before .before .before .before .pre .3)
 
 add-effects : tie.Need-add-effects
-add-effects c = record { fits = omega (arith, cost-within _ (c .before .before .before .before .before .cost .given .1) (c .before .before .before .before .before .before .before .cost-at .ensures .1), c .before .before .before .before .before .before .before .before .before .before .before .before .pre .1 .inside) }
+add-effects c =
+    record
+    { fits = omega (arith, cost-within _ (c .before .before .before .before .before .cost .given .1) (c .before .before .before .before .before .before .before .cost-at .ensures .1), c .before .before .before .before .before .before .before .before .before .before .before .before .pre .1 .inside) }
 
 effects-requires : tie.Need-effects-requires
 effects-requires c κs =
@@ -41,7 +43,11 @@ same-length c = search needs
 returns : tie.Need-returns
 returns c =
     let start = c .before .before .before .before .before .before .before .before .before .before .before .before .before .before .before .before .before .before in
-    take-done _ (start .args .at) _ _ (c .before .before .before .before .before .before .before .before .before .before .before .before .before .cost-at .ensures .0) (c .before .before .before .before .before .before .before .before .before .before .before .cost .given .1) _ _ (ap (stateIn _) (c .before .before .before .before .before .before .before .before .copy-state .ensures) ∙ copied-state _ _ (start .pre .0) _ _ (start .pre .2)) _ (c .before .before .before .before .effects .ensures) (c .enum-told .given .1)
+    take-done _ (start .args .at) _ _
+    (c .before .before .before .before .before .before .before .before .before .before .before .before .before .cost-at .ensures .0)
+    (c .before .before .before .before .before .before .before .before .before .before .before .cost .given .1) _ _
+    (ap (stateIn _) (c .before .before .before .before .before .before .before .before .copy-state .ensures) ∙ copied-state _ _ (start .pre .0) _ _ (start .pre .2))
+    _ (c .before .before .before .before .effects .ensures) (c .enum-told .given .1)
 
 same-length-2 : tie.Need-same-length-2
 same-length-2 c = search needs
@@ -49,7 +55,11 @@ same-length-2 c = search needs
 returns-2 : tie.Need-returns-2
 returns-2 c =
     let start = c .before .before .before .before .before .before .before .before .before .before .before .before .before .before .before .before .before .before .before in
-    take-troubles _ (start .args .at) _ _ (c .before .before .before .before .before .before .before .before .before .before .before .before .before .before .cost-at .ensures .0) (c .before .before .before .before .before .before .before .before .before .before .before .before .cost .given .1) _ _ (ap (stateIn _) (c .before .before .before .before .before .before .before .before .before .copy-state .ensures) ∙ copied-state _ _ (start .pre .0) _ _ (start .pre .2)) _ (c .before .before .before .before .before .effects .ensures) (c .before .t .given .1)
+    take-troubles _ (start .args .at) _ _
+    (c .before .before .before .before .before .before .before .before .before .before .before .before .before .before .cost-at .ensures .0)
+    (c .before .before .before .before .before .before .before .before .before .before .before .before .cost .given .1) _ _
+    (ap (stateIn _) (c .before .before .before .before .before .before .before .before .before .copy-state .ensures) ∙ copied-state _ _ (start .pre .0) _ _ (start .pre .2))
+    _ (c .before .before .before .before .before .effects .ensures) (c .before .t .given .1)
 
 returns-3 : tie.Need-returns-3
 returns-3 c = take-stops _ (c .before .before .before .before .before .before .before .before .args .at) _ _ (c .before .before .before .cost-at .ensures .0) _ (c .before .t2 .given .1)

@@ -33,12 +33,16 @@ loop-less c = search needs
 loop-again : tie.Need-loop-again Inv-loop μ-loop
 loop-again c =
     let start = c .before .before .before .before .before .before .before .before .before in
-    comparing-more _ _ (start .pre) _ _ _ (omega (arith, c .before .before .loop-test .taken, c .before .before .before .before .word-at .ensures, start .pre .outlines .variable-count)) (sym (c .if1 .taken) ∙ c .before .no-worse-at .ensures) (c .before .before .before .loop .inv)
+    comparing-more _ _ (start .pre) _ _ _
+    (omega (arith, c .before .before .loop-test .taken, c .before .before .before .before .word-at .ensures, start .pre .outlines .variable-count))
+    (sym (c .if1 .taken) ∙ c .before .no-worse-at .ensures) (c .before .before .before .loop .inv)
 
 returns : tie.Need-returns Inv-loop μ-loop
 returns c =
     let start = c .before .before .before .before .before .before .before .before .before in
-    comparing-fails _ _ (start .pre) _ _ _ (omega (arith, c .before .before .loop-test .taken, c .before .before .before .before .word-at .ensures, start .pre .outlines .variable-count)) (sym (c .if1 .left) ∙ c .before .no-worse-at .ensures) (c .before .before .before .loop .inv)
+    comparing-fails _ _ (start .pre) _ _ _
+    (omega (arith, c .before .before .loop-test .taken, c .before .before .before .before .word-at .ensures, start .pre .outlines .variable-count))
+    (sym (c .if1 .left) ∙ c .before .no-worse-at .ensures) (c .before .before .before .loop .inv)
 
 returns-2 : tie.Need-returns-2 Inv-loop μ-loop
 returns-2 c =

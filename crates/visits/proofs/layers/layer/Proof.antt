@@ -16,7 +16,8 @@ abbrev μ-loop : tie.MeasureT-loop
 loop-holds : tie.Need-loop-holds Inv-loop μ-loop
 loop-holds c =
     let start = c .before .before .before .before in
-    halfway-first (start .args .model .now) (start .args .outline .now) (start .args .words .now) (start .args .plan .now) (start .args .w) (start .args .budget) (start .args .limit) (start .args .k) (start .args .n) (start .args .round) (start .pre)
+    halfway-first (start .args .model .now) (start .args .outline .now) (start .args .words .now) (start .args .plan .now) (start .args .w)
+    (start .args .budget) (start .args .limit) (start .args .k) (start .args .n) (start .args .round) (start .pre)
 
 visit-requires : tie.Need-visit-requires Inv-loop μ-loop
 visit-requires c κs = (c .before .before .before .loop .inv .ready, c .before .before .loop-test .taken)
@@ -33,21 +34,29 @@ loop-less c = omega (arith, c .before .before .before .before .before .before .b
 loop-again : tie.Need-loop-again Inv-loop μ-loop
 loop-again c =
     let call = c .before .before .before .before .before .before .before .visit in
-    halfway-more (c .before .before .before .before .before .before .before .before .before .before .before .loop .inv) (c .before .before .before .before .before .before .before .before .before .before .loop-test .taken) _ _ (call .result) (call .ensures) (call .kept .0) (call .kept .1 .0) (c .enum-told .given .1)
+    halfway-more (c .before .before .before .before .before .before .before .before .before .before .before .loop .inv)
+    (c .before .before .before .before .before .before .before .before .before .before .loop-test .taken) _ _ (call .result) (call .ensures)
+    (call .kept .0) (call .kept .1 .0) (c .enum-told .given .1)
 
 enum-known-next : tie.Need-enum-known-next Inv-loop μ-loop
 enum-known-next c = search needs
 
 same-length : tie.Need-same-length Inv-loop μ-loop
-same-length c = c .before .before .before .before .before .before .before .before .visit .kept .0 ∙ c .before .before .before .before .before .before .before .before .before .before .before .before .loop .inv .room-same
+same-length c =
+    c .before .before .before .before .before .before .before .before .visit .kept .0
+    ∙ c .before .before .before .before .before .before .before .before .before .before .before .before .loop .inv .room-same
 
 same-length-2 : tie.Need-same-length-2 Inv-loop μ-loop
-same-length-2 c = c .before .before .before .before .before .before .before .before .visit .kept .1 .0 ∙ c .before .before .before .before .before .before .before .before .before .before .before .before .loop .inv .plan-same
+same-length-2 c =
+    c .before .before .before .before .before .before .before .before .visit .kept .1 .0
+    ∙ c .before .before .before .before .before .before .before .before .before .before .before .before .loop .inv .plan-same
 
 returns : tie.Need-returns Inv-loop μ-loop
 returns c =
     let call = c .before .before .before .before .before .before .before .before .visit in
-    layer-over (c .before .before .before .before .before .before .before .before .before .before .before .before .loop .inv) (c .before .before .before .before .before .before .before .before .before .before .before .loop-test .taken) _ _ (call .result) (call .ensures) (call .kept .0) (call .kept .1 .0) (c .before .next .given .1)
+    layer-over (c .before .before .before .before .before .before .before .before .before .before .before .before .loop .inv)
+    (c .before .before .before .before .before .before .before .before .before .before .before .loop-test .taken) _ _ (call .result) (call .ensures)
+    (call .kept .0) (call .kept .1 .0) (c .before .next .given .1)
 
 same-length-3 : tie.Need-same-length-3 Inv-loop μ-loop
 same-length-3 c = c .before .loop .inv .room-same

@@ -14,7 +14,9 @@ at-limit-requires c κs = search needs
 returns : tie.Need-returns
 returns c =
     let start = c .before .before .before .before .before .before .before in
-    limit-leaves (start .args .model .now) (start .args .outline .now) (start .args .words .now) (start .args .node .now) (start .args .w) (start .args .limit) (start .args .k) (start .args .i) (start .args .round) (start .pre) (start .args .budget) (c .at-limit .result) (c .before .before .if1 .taken) (c .at-limit .ensures)
+    limit-leaves (start .args .model .now) (start .args .outline .now) (start .args .words .now) (start .args .node .now) (start .args .w)
+    (start .args .limit) (start .args .k) (start .args .i) (start .args .round) (start .pre) (start .args .budget) (c .at-limit .result)
+    (c .before .before .if1 .taken) (c .at-limit .ensures)
 
 expand-node-requires : tie.Need-expand-node-requires
 expand-node-requires c κs =
@@ -27,12 +29,18 @@ same-length c = search needs
 returns-2 : tie.Need-returns-2
 returns-2 c =
     let start = c .before .before .before .before .before .before .before .before .before .before .before in
-    expanded-leaves (start .args .model .now) (start .args .outline .now) (start .args .words .now) (start .args .node .now) (start .args .w) (start .args .limit) (start .args .k) (start .args .i) (start .args .round) (start .pre) (start .args .budget) _ (c .before .before .expand-node .result) (omega (arith, c .before .before .before .before .before .before .if1 .left, start .pre .depth)) (omega (arith, c .before .before .before .before .if2 .taken)) (c .before .before .expand-node .ensures)
+    let expand-node = c .before .before .expand-node in
+    expanded-leaves (start .args .model .now) (start .args .outline .now) (start .args .words .now) (start .args .node .now) (start .args .w)
+    (start .args .limit) (start .args .k) (start .args .i) (start .args .round) (start .pre) (start .args .budget) _ (expand-node .result)
+    (omega (arith, c .before .before .before .before .before .before .if1 .left, start .pre .depth))
+    (omega (arith, c .before .before .before .before .if2 .taken)) (expand-node .ensures)
 
 returns-3 : tie.Need-returns-3
 returns-3 c =
     let start = c .before .before .before .before .before .before .before in
-    spent-leaves (start .args .model .now) (start .args .outline .now) (start .args .words .now) (start .args .node .now) (start .args .w) (start .args .limit) (start .args .k) (start .args .i) (start .args .round) (start .pre) (start .args .budget) (omega (arith, c .before .before .if1 .left, start .pre .depth)) (omega (arith, c .if2 .left))
+    spent-leaves (start .args .model .now) (start .args .outline .now) (start .args .words .now) (start .args .node .now) (start .args .w)
+    (start .args .limit) (start .args .k) (start .args .i) (start .args .round) (start .pre) (start .args .budget)
+    (omega (arith, c .before .before .if1 .left, start .pre .depth)) (omega (arith, c .if2 .left))
 
 pub advance-spec : {M : Type 1} → statement M
 advance-spec =

@@ -46,7 +46,9 @@ returns : tie.Need-returns
 returns c =
     let start = c .before .before .before .before .before .before .before .before .before .before .before .before in
     let call = c .before .before .before .before .expand in
-    grown-leaves (start .args .model .now) (start .args .outline .now) (start .args .words .now) (start .args .node .now) (start .args .w) (start .args .limit) (start .args .k) (start .args .i) (start .args .round) (start .pre .0) (call .last .0) (start .pre .1 .0) (call .kept .0) (call .result) (call .ensures) (c .before .count-one .result) (c .before .count-one .ensures) (c .told .result) (c .told .ensures)
+    grown-leaves (start .args .model .now) (start .args .outline .now) (start .args .words .now) (start .args .node .now) (start .args .w)
+    (start .args .limit) (start .args .k) (start .args .i) (start .args .round) (start .pre .0) (call .last .0) (start .pre .1 .0) (call .kept .0)
+    (call .result) (call .ensures) (c .before .count-one .result) (c .before .count-one .ensures) (c .told .result) (c .told .ensures)
 
 pub expand-node-spec : {M : Type 1} → statement M
 expand-node-spec =

@@ -20,12 +20,17 @@ same-length c = search needs
 returns : tie.Need-returns
 returns c =
     let start = c .before .before .before .before .before .before .before .before .before in
-    reached-best (start .args .words .now) (start .args .plan .now) (start .args .w) (start .args .k) (start .args .i) (start .args .g) (start .args .round) _ (c .new-best .result) (sym (c .before .before .before .before .before .if1 .taken) ∙ c .before .before .before .before .before .before .below-best .ensures) (traced (start .args .words .now) (start .args .plan .now) _ (start .args .w) (start .args .k) (start .args .i) (c .before .before .before .trace .ensures)) (c .new-best .ensures)
+    reached-best (start .args .words .now) (start .args .plan .now) (start .args .w) (start .args .k) (start .args .i) (start .args .g)
+    (start .args .round) _ (c .new-best .result)
+    (sym (c .before .before .before .before .before .if1 .taken) ∙ c .before .before .before .before .before .before .below-best .ensures)
+    (traced (start .args .words .now) (start .args .plan .now) _ (start .args .w) (start .args .k) (start .args .i) (c .before .before .before .trace .ensures))
+    (c .new-best .ensures)
 
 returns-2 : tie.Need-returns-2
 returns-2 c =
     let start = c .before .before .before .before in
-    reached-worse (start .args .words .now) (start .args .plan .now) (start .args .w) (start .args .k) (start .args .i) (start .args .g) (start .args .round) (sym (c .if1 .left) ∙ c .before .below-best .ensures)
+    reached-worse (start .args .words .now) (start .args .plan .now) (start .args .w) (start .args .k) (start .args .i) (start .args .g)
+    (start .args .round) (sym (c .if1 .left) ∙ c .before .below-best .ensures)
 
 pub reached-spec : {M : Type 1} → statement M
 reached-spec =

@@ -24,7 +24,9 @@ returns c =
 returns-2 : tie.Need-returns-2
 returns-2 c =
     let start = c .before .before .before .before .before in
-    told-before (start .args .g) (start .args .i) (start .args .x) (start .args .round) (c .before .before .before .either .result) (c .before .before .before .either .ensures) (c .before .trial .given .1)
+    let either = c .before .before .before .either in
+    told-before (start .args .g) (start .args .i) (start .args .x) (start .args .round) (either .result) (either .ensures)
+    (c .before .trial .given .1)
 
 returns-3 : tie.Need-returns-3
 returns-3 c =

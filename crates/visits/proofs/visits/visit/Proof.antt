@@ -30,7 +30,10 @@ same-length-2 c = search needs
 returns : tie.Need-returns
 returns c =
     let start = c .before .before .before .before .before .before .before .before .before .before .before .before .before .before .before .before in
-    visited-at (start .args .model .now) (start .args .outline .now) (start .args .words .now) _ (start .args .plan .now) _ (start .args .w) (start .args .budget) (start .args .limit) (start .args .k) (start .args .i) (start .args .round) (c .before .before .before .before .visit-node .result) _ (c .before .before .before .before .before .before .before .before .before .copy-node .ensures) (c .before .before .before .before .visit-node .ensures)
+    let visit-node = c .before .before .before .before .visit-node in
+    visited-at (start .args .model .now) (start .args .outline .now) (start .args .words .now) _ (start .args .plan .now) _ (start .args .w)
+    (start .args .budget) (start .args .limit) (start .args .k) (start .args .i) (start .args .round) (visit-node .result) _
+    (c .before .before .before .before .before .before .before .before .before .copy-node .ensures) (visit-node .ensures)
 
 pub visit-spec : {M : Type 1} → statement M
 visit-spec =

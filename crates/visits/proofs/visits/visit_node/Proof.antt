@@ -42,7 +42,12 @@ same-length-2 c = search needs
 returns : tie.Need-returns
 returns c =
     let start = c .before .before .before .before .before .before .before .before .before .before .before .before .before .before .before in
-    base-leaves (start .args .model .now) (start .args .outline .now) (start .args .words .now) (start .args .node .now) (start .args .w) (start .args .limit) (start .args .k) (start .args .i) (start .args .round) (start .pre .0) (start .args .budget) (start .args .plan .now) _ (c .before .before .reached .result) (sym (c .before .before .before .before .before .enum-told .given .1) ∙ c .before .before .before .before .before .before .before .status .ensures) (c .before .before .reached .ensures)
+    let reached = c .before .before .reached in
+    base-leaves (start .args .model .now) (start .args .outline .now) (start .args .words .now) (start .args .node .now) (start .args .w)
+    (start .args .limit) (start .args .k) (start .args .i) (start .args .round) (start .pre .0) (start .args .budget) (start .args .plan .now) _
+    (reached .result)
+    (sym (c .before .before .before .before .before .enum-told .given .1) ∙ c .before .before .before .before .before .before .before .status .ensures)
+    (reached .ensures)
 
 same-length-3 : tie.Need-same-length-3
 same-length-3 c = search needs
@@ -50,12 +55,19 @@ same-length-3 c = search needs
 returns-2 : tie.Need-returns-2
 returns-2 c =
     let start = c .before .before .before .before .before .before .before .before .before .before .before .before .before .before in
-    advance-leaves (start .args .model .now) (start .args .outline .now) (start .args .words .now) (start .args .node .now) (start .args .w) (start .args .limit) (start .args .k) (start .args .i) (start .args .round) (start .pre .0) (start .args .budget) _ (start .args .plan .now) (c .before .before .advance .result) (sym (c .before .before .before .before .enum-told2 .given .1) ∙ c .before .before .before .before .before .before .status .ensures) (c .before .before .advance .ensures)
+    let advance = c .before .before .advance in
+    advance-leaves (start .args .model .now) (start .args .outline .now) (start .args .words .now) (start .args .node .now) (start .args .w)
+    (start .args .limit) (start .args .k) (start .args .i) (start .args .round) (start .pre .0) (start .args .budget) _ (start .args .plan .now)
+    (advance .result)
+    (sym (c .before .before .before .before .enum-told2 .given .1) ∙ c .before .before .before .before .before .before .status .ensures)
+    (advance .ensures)
 
 returns-3 : tie.Need-returns-3
 returns-3 c =
     let start = c .before .before .before .before .before .before .before .before .before .before .before in
-    trouble-leaves (start .args .model .now) (start .args .outline .now) (start .args .words .now) (start .args .node .now) (start .args .w) (start .args .limit) (start .args .k) (start .args .i) (start .args .round) (start .pre .0) (start .args .budget) (start .args .plan .now) (sym (c .before .e .given .1) ∙ c .before .before .before .status .ensures)
+    trouble-leaves (start .args .model .now) (start .args .outline .now) (start .args .words .now) (start .args .node .now) (start .args .w)
+    (start .args .limit) (start .args .k) (start .args .i) (start .args .round) (start .pre .0) (start .args .budget) (start .args .plan .now)
+    (sym (c .before .e .given .1) ∙ c .before .before .before .status .ensures)
 
 pub visit-node-spec : {M : Type 1} → statement M
 visit-node-spec =

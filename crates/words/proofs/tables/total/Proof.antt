@@ -34,7 +34,9 @@ entry-requires : tie.Need-entry-requires Inv-loop μ-loop
 entry-requires c κs = (zeros-below 64 (c .before .loop .left) (c .before .loop .inv .word) (omega (arith, c .loop-test .taken)), c .before .before .before .pre)
 
 add-sum : tie.Need-add-sum Inv-loop μ-loop
-add-sum c = rw (back {z = c .entry .result} (record { sfits = c .entry .ok })) (more-fits (c .before .before .loop .inv) (omega (arith, c .before .loop-test .taken)) (c .entry .ensures .0) (c .entry .ensures .1))
+add-sum c =
+    rw (back {z = c .entry .result} (record { sfits = c .entry .ok }))
+    (more-fits (c .before .before .loop .inv) (omega (arith, c .before .loop-test .taken)) (c .entry .ensures .0) (c .entry .ensures .1))
 
 sub-left : tie.Need-sub-left Inv-loop μ-loop
 sub-left c = omega (arith, c .before .loop-test .taken)
