@@ -31,12 +31,18 @@ follow-requires c κs =
 returns-3 : tie.Need-returns-3
 returns-3 c =
     let none : 0 ≡ refusalOf (model (c .before .before .before .before .before .before .before .before .before .before .args .model .now)) = sym (c .before .before .if3 .taken) ∙ c .before .before .before .before .read-model .ensures .0 in
-    told-same _ (check-read _ _ (c .before .before .before .before .before .before .before .if1 .left) (c .before .before .before .before .before .before .if2 .left) none) (c .follow .ensures)
+    told-same _ (
+    check-read _ _ (c .before .before .before .before .before .before .before .if1 .left)
+    (c .before .before .before .before .before .before .if2 .left) none
+    ) (c .follow .ensures)
 
 returns-4 : tie.Need-returns-4
 returns-4 c =
     told-trouble _
-    (check-refused _ _ _ (c .before .before .before .before .before .if1 .left) (c .before .before .before .before .if2 .left) (c .before .before .read-model .ensures .0) (omega (arith, c .if3 .left)))
+    (
+    check-refused _ _ _ (c .before .before .before .before .before .if1 .left) (c .before .before .before .before .if2 .left)
+    (c .before .before .read-model .ensures .0) (omega (arith, c .if3 .left))
+    )
     refl refl
 
 pub check-spec : {M : Type 1} → statement M

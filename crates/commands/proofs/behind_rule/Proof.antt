@@ -32,22 +32,48 @@ array-share-prefix-kinds : tie.Need-array-share-prefix-kinds
 array-share-prefix-kinds c =
     let start = c .before .before .before .before .before .before .before .before .before .before .before in
     let variables = c .before .before .before .before .before .before .variables in
-    omega
-    (arith, few-variables (start .args .model .now) (start .args .start) (start .args .outline .now) (variables .last .1 .1 .0) (variables .last .1 .1 .1 .0) (start .pre .1) (variables .ensures .1) (c .before .end .given .1) (variables .ensures .2), variables .ensures .0)
+    omega (
+      arith,
+      few-variables (start .args .model .now) (start .args .start) (start .args .outline .now) (variables .last .1 .1 .0)
+          (variables .last .1 .1 .1 .0) (start .pre .1) (variables .ensures .1) (c .before .end .given .1) (variables .ensures .2),
+      variables .ensures .0,
+    )
 
 slice-aggregate-behind-variables : tie.Need-slice-aggregate-behind-variables
 slice-aggregate-behind-variables c =
     let start = c .before .before .before .before .before .before .before .before .before .before .before .before in
     let variables = c .before .before .before .before .before .before .before .variables in
     simp length-take
-    (omega (arith, few-variables (start .args .model .now) (start .args .start) (start .args .outline .now) (variables .last .1 .1 .0) (variables .last .1 .1 .1 .0) (start .pre .1) (variables .ensures .1) (c .before .before .end .given .1) (variables .ensures .2), variables .ensures .0))
+    (
+    omega (
+      arith,
+      few-variables (start .args .model .now) (start .args .start) (start .args .outline .now) (variables .last .1 .1 .0)
+          (variables .last .1 .1 .1 .0) (start .pre .1) (variables .ensures .1) (c .before .before .end .given .1) (variables .ensures .2),
+      variables .ensures .0,
+    )
+    )
 
 behind-variables-requires : tie.Need-behind-variables-requires
 behind-variables-requires c κs =
     let start = c .before .before .before .before .before .before .before .before .before .before .before .before .before in
     let variables = c .before .before .before .before .before .before .before .before .variables in
-    let end = c .before .before .before .end in
-    (start .pre .0, simp length-take (omega (arith, few-variables (start .args .model .now) (start .args .start) (start .args .outline .now) (variables .last .1 .1 .0) (variables .last .1 .1 .1 .0) (start .pre .1) (variables .ensures .1) (end .given .1) (variables .ensures .2), variables .ensures .0)), omega (arith, varied-length (start .args .model .now) (start .args .start) (start .args .outline .now) (variables .last .1 .1 .0) (variables .last .1 .1 .1 .0) (start .pre .1) (variables .ensures .1) (end .given .0 .1 .0), start .pre .1))
+    let end = c .before .before .before .end in (
+      start .pre .0,
+      simp length-take (
+          omega (
+            arith,
+            few-variables (start .args .model .now) (start .args .start) (start .args .outline .now) (variables .last .1 .1 .0)
+                (variables .last .1 .1 .1 .0) (start .pre .1) (variables .ensures .1) (end .given .1) (variables .ensures .2),
+            variables .ensures .0,
+          )
+          ),
+      omega (
+        arith,
+        varied-length (start .args .model .now) (start .args .start) (start .args .outline .now) (variables .last .1 .1 .0)
+            (variables .last .1 .1 .1 .0) (start .pre .1) (variables .ensures .1) (end .given .0 .1 .0),
+        start .pre .1,
+      ),
+    )
 
 enum-known-t : tie.Need-enum-known-t
 enum-known-t c = search needs
@@ -65,8 +91,13 @@ returns c =
     let start = c .before .before .before .before .before .before .before .before .before .before .before .before .before .before .before .before in
     let variables = c .before .before .before .before .before .before .before .before .before .before .before .variables in
     let end = c .before .before .before .before .before .before .end in
-    let behind-variables = c .before .before .behind-variables in
-    (behind-variables .ensures .0 ∙ varied-length (start .args .model .now) (start .args .start) (start .args .outline .now) (variables .last .1 .1 .0) (variables .last .1 .1 .1 .0) (start .pre .1) (variables .ensures .1) (end .given .0 .1 .0), variables-go-on (start .args .model .now) (start .args .start) (start .args .outline .now) (variables .last .1 .1 .0) (variables .last .1 .1 .1 .0) (start .pre .1) (variables .ensures .1) (end .given .1) (variables .ensures .2) (behind-variables .last .1 .1 .1 .0) (behind-variables .result) (behind-variables .ensures .1))
+    let behind-variables = c .before .before .behind-variables in (
+      behind-variables .ensures .0 ∙ varied-length (start .args .model .now) (start .args .start) (start .args .outline .now)
+          (variables .last .1 .1 .0) (variables .last .1 .1 .1 .0) (start .pre .1) (variables .ensures .1) (end .given .0 .1 .0),
+      variables-go-on (start .args .model .now) (start .args .start) (start .args .outline .now) (variables .last .1 .1 .0)
+          (variables .last .1 .1 .1 .0) (start .pre .1) (variables .ensures .1) (end .given .1) (variables .ensures .2)
+          (behind-variables .last .1 .1 .1 .0) (behind-variables .result) (behind-variables .ensures .1),
+    )
 
 same-length-2 : tie.Need-same-length-2
 same-length-2 c = search needs
@@ -74,8 +105,13 @@ same-length-2 c = search needs
 returns-2 : tie.Need-returns-2
 returns-2 c =
     let start = c .before .before .before .before .before .before .before .before .before .before .before in
-    let variables = c .before .before .before .before .before .before .variables in
-    (variables-length (start .args .model .now) (start .args .start) (start .args .outline .now) (variables .last .1 .1 .0) (variables .last .1 .1 .1 .0) (start .pre .1) (variables .ensures .1), variables-stop (start .args .model .now) (start .args .start) (start .args .outline .now) (variables .last .1 .1 .0) (variables .last .1 .1 .1 .0) (start .pre .1) (variables .ensures .1) (c .before .t .given .1) (variables .ensures .2) (start .args .outline .now))
+    let variables = c .before .before .before .before .before .before .variables in (
+      variables-length (start .args .model .now) (start .args .start) (start .args .outline .now) (variables .last .1 .1 .0)
+          (variables .last .1 .1 .1 .0) (start .pre .1) (variables .ensures .1),
+      variables-stop (start .args .model .now) (start .args .start) (start .args .outline .now) (variables .last .1 .1 .0)
+          (variables .last .1 .1 .1 .0) (start .pre .1) (variables .ensures .1) (c .before .t .given .1) (variables .ensures .2)
+          (start .args .outline .now),
+    )
 
 pub behind-rule-spec : {M : Type 1} → statement M
 behind-rule-spec =

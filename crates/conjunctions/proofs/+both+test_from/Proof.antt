@@ -52,8 +52,11 @@ both-enum-known-holds t c = search needs
 both-add-test-from : (t : ℕ) → both-lts.Need-add-test-from (both-calls t) (both-at t) both.Post
 both-add-test-from t c =
     let a = c .before .before .before .before .before .before .before .before .before .before .args in
-    omega
-    (arith, first-used _ _ (a .at) (a .e .now) (c .before .before .before .before .test-from .ensures) (c .before .before .holds .given .1), c .before .before .before .before .before .before .before .before .before .before .good .0 .1)
+    omega (
+      arith,
+      first-used _ _ (a .at) (a .e .now) (c .before .before .before .before .test-from .ensures) (c .before .before .holds .given .1),
+      c .before .before .before .before .before .before .before .before .before .before .good .0 .1,
+    )
 
 both-test-from-requires-2 : (t : ℕ) → both-lts.Need-test-from-requires-2 (both-calls t) (both-at t) both.Post
 both-test-from-requires-2 t c κs = let q : 2 * c .before .before .before .before .before .before .before .before .before .before .args .depth + 1 ≡ t = c .before .before .before .before .before .before .before .before .before .before .pre .0 in (omega arith, tt)
@@ -62,7 +65,10 @@ both-past-requires : (t : ℕ) → both-lts.Need-past-requires (both-calls t) (b
 both-past-requires t c κs =
     let a = c .before .before .before .before .before .before .before .before .before .before .before .args in
     rw (c .test-from2 .ensures)
-    (second-room _ _ (a .at) (a .e .now) (c .before .before .before .before .before .test-from .ensures) (c .before .before .before .holds .given .1) (omega (arith, c .before .before .before .before .before .before .before .before .before .before .before .good .0 .1)))
+    (
+    second-room _ _ (a .at) (a .e .now) (c .before .before .before .before .before .test-from .ensures) (c .before .before .before .holds .given .1)
+    (omega (arith, c .before .before .before .before .before .before .before .before .before .before .before .good .0 .1))
+    )
 
 both-enum-known-t : (t : ℕ) → both-lts.Need-enum-known-t (both-calls t) (both-at t) both.Post
 both-enum-known-t t c = search needs
@@ -71,7 +77,10 @@ both-returns : (t : ℕ) → both-lts.Need-returns (both-calls t) (both-at t) bo
 both-returns t c =
     let a = c .before .before .before .before .before .before .before .before .before .before .before .before .args in
     rw (c .past .ensures, c .before .test-from2 .ensures)
-    (second-tested _ _ (a .at) (a .e .now) (c .before .before .before .before .before .before .test-from .ensures) (c .before .before .before .before .holds .given .1) (c .before .before .if1 .taken))
+    (
+    second-tested _ _ (a .at) (a .e .now) (c .before .before .before .before .before .before .test-from .ensures)
+    (c .before .before .before .before .holds .given .1) (c .before .before .if1 .taken)
+    )
 
 both-returns-2 : (t : ℕ) → both-lts.Need-returns-2 (both-calls t) (both-at t) both.Post
 both-returns-2 t c =
@@ -114,7 +123,10 @@ test-from-returns-3 : (t : ℕ) → test-from-lts.Need-returns-3 (test-from-call
 test-from-returns-3 t c =
     let a = c .before .before .before .before .before .before .before .before .before .before .before .args in
     rw (c .past .ensures, c .before .both .ensures)
-    (conjunction-tested _ _ (a .at) (a .e .now) (c .before .before .before .before .before .if1 .left) (c .before .before .before .before .if2 .left) (c .before .before .if3 .taken))
+    (
+    conjunction-tested _ _ (a .at) (a .e .now) (c .before .before .before .before .before .if1 .left) (c .before .before .before .before .if2 .left)
+    (c .before .before .if3 .taken)
+    )
 
 test-from-condition-from-requires : (t : ℕ) → test-from-lts.Need-condition-from-requires (test-from-calls t) (test-from-at t) test-from.Post
 test-from-condition-from-requires t c κs = search needs

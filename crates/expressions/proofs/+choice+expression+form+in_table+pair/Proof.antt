@@ -190,7 +190,10 @@ expression-returns-3 t c =
     let a = c .before .before .before .before .before .before .before .before .before .before .before .args in
     c .whole .ensures ∙ ap (forms.whole (a .due))
     (rw (c .before .before .before .layout .ensures, suffix 1 (a .e .now)) at (c .before .form .ensures)) ∙ sym
-    (part-opened (a .kinds .now) (a .rows .now) (a .columns .now) (a .due) (a .depth) (a .e .now) (c .before .before .before .before .before .before .if1 .left) (c .before .before .before .before .before .if2 .left))
+    (
+    part-opened (a .kinds .now) (a .rows .now) (a .columns .now) (a .due) (a .depth) (a .e .now)
+    (c .before .before .before .before .before .before .if1 .left) (c .before .before .before .before .before .if2 .left)
+    )
 
 form-enum-told : (t : ℕ) → form-lts.Need-enum-told (form-calls t) (form-at t) form.Post
 form-enum-told t c = search needs
@@ -368,12 +371,16 @@ pair-returns t c =
 
 pair-returns-2 : (t : ℕ) → pair-lts.Need-returns-2 (pair-calls t) (pair-at t) pair.Post
 pair-returns-2 t c = let a = c .before .before .before .before .before .before .before .before .args in
-    parts-refused (a .kinds .now) (a .rows .now) (a .columns .now) (a .depth) (a .e .now) (a .first) (a .second) (sym (c .before .t .given .1) ∙ c .before .before .before .expression .ensures)
+    parts-refused (a .kinds .now) (a .rows .now) (a .columns .now) (a .depth) (a .e .now) (a .first) (a .second)
+    (sym (c .before .t .given .1) ∙ c .before .before .before .expression .ensures)
 
 pub +choice+expression+form+in-table+pair-spec : {M : Type 1} → statement M
 +choice+expression+form+in-table+pair-spec =
-    close μ-choice μ-expression μ-form μ-in-table μ-pair (λ t. choice-lts.spec (choice-calls t) (choice-at t) choice.Post (choice-expression-requires t) (choice-enum-known-n t) (choice-sub-pair t) (choice-part-pair-start t) (choice-part-pair-end t) (choice-pair-requires t) (choice-plus-parts-requires t) (choice-enum-known-t t) (choice-returns t) (choice-returns-2 t))
+    close μ-choice μ-expression μ-form μ-in-table μ-pair
+    (λ t. choice-lts.spec (choice-calls t) (choice-at t) choice.Post (choice-expression-requires t) (choice-enum-known-n t) (choice-sub-pair t) (choice-part-pair-start t) (choice-part-pair-end t) (choice-pair-requires t) (choice-plus-parts-requires t) (choice-enum-known-t t) (choice-returns t) (choice-returns-2 t))
     (λ t. expression-lts.spec (expression-calls t) (expression-at t) expression.Post (expression-returns t) (expression-returns-2 t) (expression-shared-slice-read-layout t) (expression-layout-requires t) (expression-sub-form t) (expression-part-form-start t) (expression-part-form-end t) (expression-sub-form-2 t) (expression-form-requires t) (expression-whole-requires t) (expression-returns-3 t))
     (λ t. form-lts.spec (form-calls t) (form-at t) form.Post (form-enum-told t) (form-integer-requires t) (form-enum-told-2 t) (form-object-requires t) (form-enum-told-3 t) (form-objects-and-members-requires t) (form-enum-known-layout t) (form-variable-requires t) (form-enum-known-layout-2 t) (form-expression-requires t) (form-enum-known-layout-3 t) (form-pair-requires t) (form-fitted-requires t) (form-enum-known-layout-4 t) (form-in-table-requires t) (form-enum-told-4 t) (form-choice-requires t) (form-enum-known-layout-5 t) (form-returns t) (form-returns-2 t) (form-returns-3 t) (form-returns-4 t) (form-returns-5 t) (form-returns-6 t) (form-returns-7 t) (form-returns-8 t) (form-returns-9 t))
     (λ t. in-table-lts.spec (in-table-calls t) (in-table-at t) in-table.Post (in-table-returns t) (in-table-shared-slice-read-t t) (in-table-cast-t t) (in-table-sub-pair t) (in-table-part-pair-start t) (in-table-part-pair-end t) (in-table-pair-requires t) (in-table-shared-slice-read-within t) (in-table-byte-at-requires t) (in-table-within-requires t) (in-table-returns-2 t) (in-table-returns-3 t))
-    λ t. pair-lts.spec (pair-calls t) (pair-at t) pair.Post (pair-expression-requires t) (pair-enum-known-n t) (pair-sub-expression t) (pair-part-expression-start t) (pair-part-expression-end t) (pair-expression-requires-2 t) (pair-behind-requires t) (pair-enum-known-t t) (pair-returns t) (pair-returns-2 t)
+    λ t. pair-lts.spec (pair-calls t) (pair-at t) pair.Post (pair-expression-requires t) (pair-enum-known-n t) (pair-sub-expression t)
+    (pair-part-expression-start t) (pair-part-expression-end t) (pair-expression-requires-2 t) (pair-behind-requires t) (pair-enum-known-t t)
+    (pair-returns t) (pair-returns-2 t)

@@ -38,8 +38,14 @@ loop-less c = search needs
 
 loop-again : tie.Need-loop-again Inv-loop μ-loop
 loop-again c =
-    let turn = c .before .before .loop in
-    (search needs, (search needs, copied-more (c .before .before .before .args .from .now) (c .before .before .before .args .to .now) (turn .to) (turn .i) (omega arith) (omega arith) (turn .inv .1 .1)))
+    let turn = c .before .before .loop in (
+      search needs,
+      (
+        search needs,
+        copied-more (c .before .before .before .args .from .now) (c .before .before .before .args .to .now) (turn .to) (turn .i) (omega arith)
+            (omega arith) (turn .inv .1 .1),
+      ),
+    )
 
 same-length : tie.Need-same-length Inv-loop μ-loop
 same-length c = search needs

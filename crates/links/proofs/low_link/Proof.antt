@@ -28,8 +28,19 @@ shared-slice-read-link c = search needs
 loop-holds : tie.Need-loop-holds Inv-loop μ-loop
 loop-holds c =
     let start = c .before in
-    let e : levelAt (start .args .w) (start .args .w + start .args .b) ≡ start .args .w = level-head (start .args .w) (start .args .w + start .args .b) (omega arith) in
-    (start .pre .0, (refl, (omega arith, (omega (arith, start .pre .1 .1 (start .args .w + start .args .b) (start .pre .0)), (λ used bucket ix. link-head (start .args .w) (start .args .b) used bucket)))))
+    let e : levelAt (start .args .w) (start .args .w + start .args .b) ≡ start .args .w = level-head (start .args .w) (start .args .w + start .args .b) (omega arith) in (
+      start .pre .0,
+      (
+        refl,
+        (
+          omega arith,
+          (
+            omega (arith, start .pre .1 .1 (start .args .w + start .args .b) (start .pre .0)),
+            (λ used bucket ix. link-head (start .args .w) (start .args .b) used bucket),
+          ),
+        ),
+      ),
+    )
 
 sub-at : tie.Need-sub-at Inv-loop μ-loop
 sub-at c = search needs
@@ -54,8 +65,19 @@ loop-again c =
     let v = turn .inv in
     let s : turn .link - 1 < start .args .w = omega arith in
     let e : levelAt (start .args .w) (turn .link - 1) ≡ turn .link - 1 = level-slot (start .args .w) (turn .link - 1) s in
-    let f : getD (start .args .links .now) (turn .link - 1) 0 ≤ levelAt (start .args .w) (turn .link - 1) = start .pre .1 .1 (turn .link - 1) (omega arith) in
-    (omega arith, (refl, (omega arith, (omega arith, (λ used bucket ix. link-next (start .args .links .now) (start .args .w) (start .args .b) (turn .at) (turn .link) (v .0) (v .1 .0) (omega arith) (v .1 .1 .1 .0) used bucket ix (v .1 .1 .1 .1 used bucket ix))))))
+    let f : getD (start .args .links .now) (turn .link - 1) 0 ≤ levelAt (start .args .w) (turn .link - 1) = start .pre .1 .1 (turn .link - 1) (omega arith) in (
+      omega arith,
+      (
+        refl,
+        (
+          omega arith,
+          (
+            omega arith,
+            (λ used bucket ix. link-next (start .args .links .now) (start .args .w) (start .args .b) (turn .at) (turn .link) (v .0) (v .1 .0) (omega arith) (v .1 .1 .1 .0) used bucket ix (v .1 .1 .1 .1 used bucket ix)),
+          ),
+        ),
+      ),
+    )
 
 returns : tie.Need-returns Inv-loop μ-loop
 returns c =

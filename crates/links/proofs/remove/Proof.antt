@@ -28,7 +28,8 @@ same-length c = search needs
 returns : tie.Need-returns
 returns c =
     let start = c .before .before .before .before in
-    removed (start .args .links .now) (start .args .w) (start .args .b) (start .args .x) (c .before .low-link .result) (start .pre .0) (start .pre .1 .0) (c .before .low-link .ensures) (start .pre .1 .1)
+    removed (start .args .links .now) (start .args .w) (start .args .b) (start .args .x) (c .before .low-link .result) (start .pre .0)
+    (start .pre .1 .0) (c .before .low-link .ensures) (start .pre .1 .1)
 
 pub remove-spec : {M : Type 1} → statement M
 remove-spec =

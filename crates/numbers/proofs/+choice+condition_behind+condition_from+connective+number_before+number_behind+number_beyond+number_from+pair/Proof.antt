@@ -224,7 +224,10 @@ choice-returns-3 t c =
     let p = place (a .model .now) (a .state .now) (a .full .now) (a .tables .now) in
     let e = drop (a .at) (a .e .now) in
     sym
-    (choice-trouble (λ f. runNumber (a .depth) p f) (λ f. runCondition (a .depth) p f) e (c .before .t .given .0 .0) (sym (c .before .before .before .condition-from .ensures) ∙ c .before .t .given .1))
+    (
+    choice-trouble (λ f. runNumber (a .depth) p f) (λ f. runCondition (a .depth) p f) e (c .before .t .given .0 .0)
+    (sym (c .before .before .before .condition-from .ensures) ∙ c .before .t .given .1)
+    )
 
 condition-behind-enum-known-form : (t : ℕ) → condition-behind-lts.Need-enum-known-form (condition-behind-calls t) (condition-behind-at t) condition-behind.Post
 condition-behind-enum-known-form t c = search needs
@@ -349,7 +352,12 @@ condition-from-condition-past-requires t c κs =
     let a = c .before .before .before .before .before .before .before .before .before .before .args in
     let p = place (a .model .now) (a .state .now) (a .full .now) (a .tables .now) in
     rw (c .member-of .ensures)
-    (member-room (a .depth - 1) p (drop (a .at + 1) (a .e .now)) (omega (arith, length-drop (a .at + 1) (a .e .now), c .before .before .before .before .before .before .before .before .before .before .good .0 .1)))
+    (
+    member-room (a .depth - 1) p (drop (a .at + 1) (a .e .now)) (
+    omega
+    (arith, length-drop (a .at + 1) (a .e .now), c .before .before .before .before .before .before .before .before .before .before .good .0 .1)
+    )
+    )
 
 condition-from-returns-3 : (t : ℕ) → condition-from-lts.Need-returns-3 (condition-from-calls t) (condition-from-at t) condition-from.Post
 condition-from-returns-3 t c =
@@ -357,7 +365,13 @@ condition-from-returns-3 t c =
     let p = place (a .model .now) (a .state .now) (a .full .now) (a .tables .now) in
     let e = drop (a .at) (a .e .now) in
     rw (c .condition-past .ensures, c .before .member-of .ensures, behind (a .at) 1 (a .e .now))
-    (sym (member-open p (a .depth) e (c .before .before .before .before .before .if1 .left) (some-behind (a .at) (a .e .now) (c .before .before .before .before .if2 .left)) (sym (first-at (a .at) (a .e .now)) ∙ c .before .before .if3 .taken)))
+    (
+    sym (
+    member-open p (a .depth) e (c .before .before .before .before .before .if1 .left)
+    (some-behind (a .at) (a .e .now) (c .before .before .before .before .if2 .left))
+    (sym (first-at (a .at) (a .e .now)) ∙ c .before .before .if3 .taken)
+    )
+    )
 
 condition-from-condition-form-requires : (t : ℕ) → condition-from-lts.Need-condition-form-requires (condition-from-calls t) (condition-from-at t) condition-from.Post
 condition-from-condition-form-requires t c κs = search needs
@@ -376,7 +390,16 @@ condition-from-condition-past-requires-2 t c κs =
     let p = place (a .model .now) (a .state .now) (a .full .now) (a .tables .now) in
     let f = drop (a .at + 1) (a .e .now) in
     rw (c .condition-behind .ensures)
-    (condition-room 1 (length f) (conditionAt (a .depth - 1) p (c .before .condition-form .result) f) (condition-at-within (a .depth - 1) p (c .before .condition-form .result) f) (omega (arith, length-drop (a .at + 1) (a .e .now), c .before .before .before .before .before .before .before .before .before .before .before .good .0 .1)))
+    (
+    condition-room 1 (length f) (conditionAt (a .depth - 1) p (c .before .condition-form .result) f)
+    (condition-at-within (a .depth - 1) p (c .before .condition-form .result) f) (
+    omega (
+      arith,
+      length-drop (a .at + 1) (a .e .now),
+      c .before .before .before .before .before .before .before .before .before .before .before .good .0 .1,
+    )
+    )
+    )
 
 condition-from-returns-4 : (t : ℕ) → condition-from-lts.Need-returns-4 (condition-from-calls t) (condition-from-at t) condition-from.Post
 condition-from-returns-4 t c =
@@ -384,7 +407,12 @@ condition-from-returns-4 t c =
     let p = place (a .model .now) (a .state .now) (a .full .now) (a .tables .now) in
     let e = drop (a .at) (a .e .now) in
     rw (c .condition-past2 .ensures, c .before .condition-behind .ensures, c .before .before .condition-form .ensures, behind (a .at) 1 (a .e .now), first-at (a .at) (a .e .now))
-    (sym (condition-open p (a .depth) e (c .before .before .before .before .before .before .if1 .left) (some-behind (a .at) (a .e .now) (c .before .before .before .before .before .if2 .left))))
+    (
+    sym (
+    condition-open p (a .depth) e (c .before .before .before .before .before .before .if1 .left)
+    (some-behind (a .at) (a .e .now) (c .before .before .before .before .before .if2 .left))
+    )
+    )
 
 connective-condition-from-requires : (t : ℕ) → connective-lts.Need-condition-from-requires (connective-calls t) (connective-at t) connective.Post
 connective-condition-from-requires t c κs =
@@ -403,8 +431,11 @@ connective-add-after t c =
     let p = place (a .model .now) (a .state .now) (a .full .now) (a .tables .now) in
     let h = sym (c .before .before .before .before .before .condition-from .ensures) ∙ c .before .before .before .b .given .1 in
     let b = c .before .before .before .b in
-    omega
-    (arith, condition-past (a .depth) p (a .at) (a .e .now) (b .given .0 .0) (b .given .0 .1 .0) h, c .before .before .before .before .before .before .before .before .before .before .before .good .1 .0 .1)
+    omega (
+      arith,
+      condition-past (a .depth) p (a .at) (a .e .now) (b .given .0 .0) (b .given .0 .1 .0) h,
+      c .before .before .before .before .before .before .before .before .before .before .before .good .1 .0 .1,
+    )
 
 connective-after-requires : (t : ℕ) → connective-lts.Need-after-requires (connective-calls t) (connective-at t) connective.Post
 connective-after-requires t c κs = search needs
@@ -419,8 +450,14 @@ connective-add-used t c =
     let h = sym (c .before .before .before .before .before .before .before .condition-from .ensures) ∙ c .before .before .before .before .before .b .given .1 in
     let s = rw (c .before .after .ensures) at (c .skip .ensures) in
     let b = c .before .before .before .before .before .b in
-    omega
-    (arith, s, span-within (drop (a .at + (b .given .0 .1 .0)) (a .e .now)) 0 1, length-drop (a .at + (b .given .0 .1 .0)) (a .e .now), condition-past (a .depth) p (a .at) (a .e .now) (b .given .0 .0) (b .given .0 .1 .0) h, c .before .before .before .before .before .before .before .before .before .before .before .before .before .good .1 .0 .1)
+    omega (
+      arith,
+      s,
+      span-within (drop (a .at + (b .given .0 .1 .0)) (a .e .now)) 0 1,
+      length-drop (a .at + (b .given .0 .1 .0)) (a .e .now),
+      condition-past (a .depth) p (a .at) (a .e .now) (b .given .0 .0) (b .given .0 .1 .0) h,
+      c .before .before .before .before .before .before .before .before .before .before .before .before .before .good .1 .0 .1,
+    )
 
 connective-add-condition-from : (t : ℕ) → connective-lts.Need-add-condition-from (connective-calls t) (connective-at t) connective.Post
 connective-add-condition-from t c =
@@ -428,8 +465,11 @@ connective-add-condition-from t c =
     let p = place (a .model .now) (a .state .now) (a .full .now) (a .tables .now) in
     let h = sym (c .before .before .before .before .before .condition-from .ensures) ∙ c .before .before .before .b .given .1 in
     let b = c .before .before .before .b in
-    omega
-    (arith, condition-past (a .depth) p (a .at) (a .e .now) (b .given .0 .0) (b .given .0 .1 .0) h, c .before .before .before .before .before .before .before .before .before .before .before .good .1 .0 .1)
+    omega (
+      arith,
+      condition-past (a .depth) p (a .at) (a .e .now) (b .given .0 .0) (b .given .0 .1 .0) h,
+      c .before .before .before .before .before .before .before .before .before .before .before .good .1 .0 .1,
+    )
 
 connective-condition-from-requires-2 : (t : ℕ) → connective-lts.Need-condition-from-requires-2 (connective-calls t) (connective-at t) connective.Post
 connective-condition-from-requires-2 t c κs =
@@ -444,7 +484,16 @@ connective-condition-past-requires t c κs =
     let f = drop (a .at + (c .before .before .before .before .b .given .0 .1 .0)) (a .e .now) in
     let b = c .before .before .before .before .b in
     rw (c .condition-from2 .ensures)
-    (condition-room (b .given .0 .1 .0) (length f) (runCondition (a .depth) p f) (condition-within (a .depth) p f) (omega (arith, length-drop (a .at + (b .given .0 .1 .0)) (a .e .now), condition-past (a .depth) p (a .at) (a .e .now) (b .given .0 .0) (b .given .0 .1 .0) h, c .before .before .before .before .before .before .before .before .before .before .before .before .good .1 .0 .1)))
+    (
+    condition-room (b .given .0 .1 .0) (length f) (runCondition (a .depth) p f) (condition-within (a .depth) p f) (
+    omega (
+      arith,
+      length-drop (a .at + (b .given .0 .1 .0)) (a .e .now),
+      condition-past (a .depth) p (a .at) (a .e .now) (b .given .0 .0) (b .given .0 .1 .0) h,
+      c .before .before .before .before .before .before .before .before .before .before .before .before .good .1 .0 .1,
+    )
+    )
+    )
 
 connective-enum-known-t : (t : ℕ) → connective-lts.Need-enum-known-t (connective-calls t) (connective-at t) connective.Post
 connective-enum-known-t t c = search needs
@@ -458,7 +507,12 @@ connective-returns t c =
     let s = rw (c .before .after .ensures, behind (a .at) (c .before .before .before .before .before .b .given .0 .1 .0) (a .e .now)) at (c .skip .ensures) in
     let b = c .before .before .before .before .before .b in
     rw s
-    (sym (connective-decided (λ f. runNumber (a .depth) p f) (λ f. runCondition (a .depth) p f) e (a .decides) (b .given .0 .0) (b .given .0 .1 .0) h (sym (c .before .before .before .agree .ensures) ∙ c .before .before .if1 .taken)))
+    (
+    sym (
+    connective-decided (λ f. runNumber (a .depth) p f) (λ f. runCondition (a .depth) p f) e (a .decides) (b .given .0 .0) (b .given .0 .1 .0) h
+    (sym (c .before .before .before .agree .ensures) ∙ c .before .before .if1 .taken)
+    )
+    )
 
 connective-returns-2 : (t : ℕ) → connective-lts.Need-returns-2 (connective-calls t) (connective-at t) connective.Post
 connective-returns-2 t c =
@@ -467,7 +521,13 @@ connective-returns-2 t c =
     let e = drop (a .at) (a .e .now) in
     let h = sym (c .before .before .before .before .before .before .before .condition-from .ensures) ∙ c .before .before .before .before .before .b .given .1 in
     rw (c .condition-past .ensures, c .before .condition-from2 .ensures, behind (a .at) (c .before .before .before .before .before .b .given .0 .1 .0) (a .e .now))
-    (sym (connective-open (λ f. runNumber (a .depth) p f) (λ f. runCondition (a .depth) p f) e (a .decides) (c .before .before .before .before .before .b .given .0 .0) (c .before .before .before .before .before .b .given .0 .1 .0) h (sym (c .before .before .before .agree .ensures) ∙ c .before .before .if1 .left)))
+    (
+    sym (
+    connective-open (λ f. runNumber (a .depth) p f) (λ f. runCondition (a .depth) p f) e (a .decides)
+    (c .before .before .before .before .before .b .given .0 .0) (c .before .before .before .before .before .b .given .0 .1 .0) h
+    (sym (c .before .before .before .agree .ensures) ∙ c .before .before .if1 .left)
+    )
+    )
 
 connective-returns-3 : (t : ℕ) → connective-lts.Need-returns-3 (connective-calls t) (connective-at t) connective.Post
 connective-returns-3 t c =
@@ -475,7 +535,10 @@ connective-returns-3 t c =
     let p = place (a .model .now) (a .state .now) (a .full .now) (a .tables .now) in
     let e = drop (a .at) (a .e .now) in
     sym
-    (connective-trouble (λ f. runNumber (a .depth) p f) (λ f. runCondition (a .depth) p f) e (a .decides) (c .before .t .given .0 .0) (sym (c .before .before .before .condition-from .ensures) ∙ c .before .t .given .1))
+    (
+    connective-trouble (λ f. runNumber (a .depth) p f) (λ f. runCondition (a .depth) p f) e (a .decides) (c .before .t .given .0 .0)
+    (sym (c .before .before .before .condition-from .ensures) ∙ c .before .t .given .1)
+    )
 
 number-before-add-number-from : (t : ℕ) → number-before-lts.Need-add-number-from (number-before-calls t) (number-before-at t) number-before.Post
 number-before-add-number-from t c =
@@ -495,16 +558,26 @@ number-before-add-k t c =
     let a = c .before .before .before .before .before .before .before .before .before .args in
     let p = place (a .model .now) (a .state .now) (a .full .now) (a .tables .now) in
     let h = sym (c .before .before .before .number-from .ensures) ∙ c .before .z .given .1 in
-    omega
-    (arith, c .before .before .before .before .before .before .before .before .before .pre .1, length-drop (a .at) (a .e .now), number-past (a .depth) p (a .at + a .n) (a .e .now) (c .before .z .given .0 .0) (c .before .z .given .0 .1 .0) h, c .before .before .before .before .before .before .before .before .before .good .0 .1)
+    omega (
+      arith,
+      c .before .before .before .before .before .before .before .before .before .pre .1,
+      length-drop (a .at) (a .e .now),
+      number-past (a .depth) p (a .at + a .n) (a .e .now) (c .before .z .given .0 .0) (c .before .z .given .0 .1 .0) h,
+      c .before .before .before .before .before .before .before .before .before .good .0 .1,
+    )
 
 number-before-add-after : (t : ℕ) → number-before-lts.Need-add-after (number-before-calls t) (number-before-at t) number-before.Post
 number-before-add-after t c =
     let a = c .before .before .before .before .before .before .before .before .before .args in
     let p = place (a .model .now) (a .state .now) (a .full .now) (a .tables .now) in
     let h = sym (c .before .before .before .number-from .ensures) ∙ c .before .z .given .1 in
-    omega
-    (arith, c .before .before .before .before .before .before .before .before .before .pre .1, length-drop (a .at) (a .e .now), number-past (a .depth) p (a .at + a .n) (a .e .now) (c .before .z .given .0 .0) (c .before .z .given .0 .1 .0) h, c .before .before .before .before .before .before .before .before .before .good .0 .1)
+    omega (
+      arith,
+      c .before .before .before .before .before .before .before .before .before .pre .1,
+      length-drop (a .at) (a .e .now),
+      number-past (a .depth) p (a .at + a .n) (a .e .now) (c .before .z .given .0 .0) (c .before .z .given .0 .1 .0) h,
+      c .before .before .before .before .before .before .before .before .before .good .0 .1,
+    )
 
 number-before-after-requires : (t : ℕ) → number-before-lts.Need-after-requires (number-before-calls t) (number-before-at t) number-before.Post
 number-before-after-requires t c κs = search needs
@@ -519,8 +592,16 @@ number-before-add-used t c =
     let h = sym (c .before .before .before .before .before .number-from .ensures) ∙ c .before .before .before .z .given .1 in
     let s = rw (c .before .after .ensures) at (c .skip .ensures) in
     let z = c .before .before .before .z in
-    omega
-    (arith, c .before .before .before .before .before .before .before .before .before .before .before .pre .1, length-drop (a .at) (a .e .now), number-past (a .depth) p (a .at + a .n) (a .e .now) (z .given .0 .0) (z .given .0 .1 .0) h, c .before .before .before .before .before .before .before .before .before .before .before .good .0 .1, s, span-within (drop (a .at + (a .n + (z .given .0 .1 .0))) (a .e .now)) 0 1, length-drop (a .at + (a .n + (z .given .0 .1 .0))) (a .e .now))
+    omega (
+      arith,
+      c .before .before .before .before .before .before .before .before .before .before .before .pre .1,
+      length-drop (a .at) (a .e .now),
+      number-past (a .depth) p (a .at + a .n) (a .e .now) (z .given .0 .0) (z .given .0 .1 .0) h,
+      c .before .before .before .before .before .before .before .before .before .before .before .good .0 .1,
+      s,
+      span-within (drop (a .at + (a .n + (z .given .0 .1 .0))) (a .e .now)) 0 1,
+      length-drop (a .at + (a .n + (z .given .0 .1 .0))) (a .e .now),
+    )
 
 number-before-enum-known-t : (t : ℕ) → number-before-lts.Need-enum-known-t (number-before-calls t) (number-before-at t) number-before.Post
 number-before-enum-known-t t c = search needs
@@ -533,7 +614,12 @@ number-before-returns t c =
     let h = (rw (behind (a .at) (a .n) (a .e .now)) at (sym (c .before .before .before .before .before .number-from .ensures))) ∙ c .before .before .before .z .given .1 in
     let s = rw (c .before .after .ensures, behind (a .at) (a .n + (c .before .before .before .z .given .0 .1 .0)) (a .e .now)) at (c .skip .ensures) in
     let f : SFits w64 (c .before .before .before .z .given .0 .0) = search needs in
-    rw (back f, s) (sym (before-value (a .n) (c .before .before .before .z .given .0 .1 .0) (c .before .before .before .z .given .0 .0) (runNumber (a .depth) p (drop (a .n) e)) (skipAt e) h))
+    rw (back f, s) (
+    sym (
+    before-value (a .n) (c .before .before .before .z .given .0 .1 .0) (c .before .before .before .z .given .0 .0)
+    (runNumber (a .depth) p (drop (a .n) e)) (skipAt e) h
+    )
+    )
 
 number-before-returns-2 : (t : ℕ) → number-before-lts.Need-returns-2 (number-before-calls t) (number-before-at t) number-before.Post
 number-before-returns-2 t c =
@@ -655,15 +741,29 @@ number-beyond-add-k : (t : ℕ) → number-beyond-lts.Need-add-k (number-beyond-
 number-beyond-add-k t c =
     let a = c .before .before .before .before .before .before .before .args in
     let s = rw (c .before .after .ensures) at (c .skip .ensures) in
-    omega
-    (arith, s, span-within (drop (a .at + a .n) (a .e .now)) 0 1, length-drop (a .at + a .n) (a .e .now), c .before .before .before .before .before .before .before .pre .1, length-drop (a .at) (a .e .now), c .before .before .before .before .before .before .before .good .0 .1)
+    omega (
+      arith,
+      s,
+      span-within (drop (a .at + a .n) (a .e .now)) 0 1,
+      length-drop (a .at + a .n) (a .e .now),
+      c .before .before .before .before .before .before .before .pre .1,
+      length-drop (a .at) (a .e .now),
+      c .before .before .before .before .before .before .before .good .0 .1,
+    )
 
 number-beyond-add-number-from : (t : ℕ) → number-beyond-lts.Need-add-number-from (number-beyond-calls t) (number-beyond-at t) number-beyond.Post
 number-beyond-add-number-from t c =
     let a = c .before .before .before .before .before .before .before .args in
     let s = rw (c .before .after .ensures) at (c .skip .ensures) in
-    omega
-    (arith, s, span-within (drop (a .at + a .n) (a .e .now)) 0 1, length-drop (a .at + a .n) (a .e .now), c .before .before .before .before .before .before .before .pre .1, length-drop (a .at) (a .e .now), c .before .before .before .before .before .before .before .good .0 .1)
+    omega (
+      arith,
+      s,
+      span-within (drop (a .at + a .n) (a .e .now)) 0 1,
+      length-drop (a .at + a .n) (a .e .now),
+      c .before .before .before .before .before .before .before .pre .1,
+      length-drop (a .at) (a .e .now),
+      c .before .before .before .before .before .before .before .good .0 .1,
+    )
 
 number-beyond-number-from-requires : (t : ℕ) → number-beyond-lts.Need-number-from-requires (number-beyond-calls t) (number-beyond-at t) number-beyond.Post
 number-beyond-number-from-requires t c κs =
@@ -678,7 +778,20 @@ number-beyond-number-past-requires t c κs =
     let k = a .n + c .before .skip .result in
     let f = drop (a .at + k) (a .e .now) in
     rw (c .number-from .ensures)
-    (number-room k (length f) (runNumber (a .depth) p f) (number-within (a .depth) p f) (omega (arith, s, span-within (drop (a .at + a .n) (a .e .now)) 0 1, length-drop (a .at + a .n) (a .e .now), c .before .before .before .before .before .before .before .before .pre .1, length-drop (a .at) (a .e .now), c .before .before .before .before .before .before .before .before .good .0 .1, length-drop (a .at + k) (a .e .now))))
+    (
+    number-room k (length f) (runNumber (a .depth) p f) (number-within (a .depth) p f) (
+    omega (
+      arith,
+      s,
+      span-within (drop (a .at + a .n) (a .e .now)) 0 1,
+      length-drop (a .at + a .n) (a .e .now),
+      c .before .before .before .before .before .before .before .before .pre .1,
+      length-drop (a .at) (a .e .now),
+      c .before .before .before .before .before .before .before .before .good .0 .1,
+      length-drop (a .at + k) (a .e .now),
+    )
+    )
+    )
 
 number-beyond-returns : (t : ℕ) → number-beyond-lts.Need-returns (number-beyond-calls t) (number-beyond-at t) number-beyond.Post
 unfolding chosen
@@ -718,7 +831,15 @@ number-from-number-past-requires t c κs =
     let a = c .before .before .before .before .before .before .before .before .before .before .before .args in
     let p = place (a .model .now) (a .state .now) (a .full .now) (a .tables .now) in
     rw (c .number-variable .ensures, c .before .after .ensures)
-    (variable-room 0 p (drop (a .at + 1) (a .e .now)) (omega (arith, length-drop (a .at + 1) (a .e .now), c .before .before .before .before .before .before .before .before .before .before .before .good .0 .1)))
+    (
+    variable-room 0 p (drop (a .at + 1) (a .e .now)) (
+    omega (
+      arith,
+      length-drop (a .at + 1) (a .e .now),
+      c .before .before .before .before .before .before .before .before .before .before .before .good .0 .1,
+    )
+    )
+    )
 
 number-from-returns-3 : (t : ℕ) → number-from-lts.Need-returns-3 (number-from-calls t) (number-from-at t) number-from.Post
 number-from-returns-3 t c =
@@ -726,7 +847,13 @@ number-from-returns-3 t c =
     let p = place (a .model .now) (a .state .now) (a .full .now) (a .tables .now) in
     let e = drop (a .at) (a .e .now) in
     rw (c .number-past .ensures, c .before .number-variable .ensures, c .before .before .after .ensures, behind (a .at) 1 (a .e .now))
-    (sym (variable-open p (a .depth) e (c .before .before .before .before .before .before .if1 .left) (some-behind (a .at) (a .e .now) (c .before .before .before .before .before .if2 .left)) (sym (first-at (a .at) (a .e .now)) ∙ c .before .before .before .if3 .taken)))
+    (
+    sym (
+    variable-open p (a .depth) e (c .before .before .before .before .before .before .if1 .left)
+    (some-behind (a .at) (a .e .now) (c .before .before .before .before .before .if2 .left))
+    (sym (first-at (a .at) (a .e .now)) ∙ c .before .before .before .if3 .taken)
+    )
+    )
 
 number-from-after-requires-2 : (t : ℕ) → number-from-lts.Need-after-requires-2 (number-from-calls t) (number-from-at t) number-from.Post
 number-from-after-requires-2 t c κs = search needs
@@ -739,7 +866,15 @@ number-from-number-past-requires-2 t c κs =
     let a = c .before .before .before .before .before .before .before .before .before .before .before .before .args in
     let p = place (a .model .now) (a .state .now) (a .full .now) (a .tables .now) in
     rw (c .literal-number .ensures, c .before .after2 .ensures)
-    (literal-room 0 p (drop (a .at + 1) (a .e .now)) (omega (arith, length-drop (a .at + 1) (a .e .now), c .before .before .before .before .before .before .before .before .before .before .before .before .good .0 .1)))
+    (
+    literal-room 0 p (drop (a .at + 1) (a .e .now)) (
+    omega (
+      arith,
+      length-drop (a .at + 1) (a .e .now),
+      c .before .before .before .before .before .before .before .before .before .before .before .before .good .0 .1,
+    )
+    )
+    )
 
 number-from-returns-4 : (t : ℕ) → number-from-lts.Need-returns-4 (number-from-calls t) (number-from-at t) number-from.Post
 number-from-returns-4 t c =
@@ -747,7 +882,13 @@ number-from-returns-4 t c =
     let p = place (a .model .now) (a .state .now) (a .full .now) (a .tables .now) in
     let e = drop (a .at) (a .e .now) in
     rw (c .number-past2 .ensures, c .before .literal-number .ensures, c .before .before .after2 .ensures, behind (a .at) 1 (a .e .now))
-    (sym (literal-open p (a .depth) e (c .before .before .before .before .before .before .before .if1 .left) (some-behind (a .at) (a .e .now) (c .before .before .before .before .before .before .if2 .left)) (sym (first-at (a .at) (a .e .now)) ∙ c .before .before .before .if4 .taken)))
+    (
+    sym (
+    literal-open p (a .depth) e (c .before .before .before .before .before .before .before .if1 .left)
+    (some-behind (a .at) (a .e .now) (c .before .before .before .before .before .before .if2 .left))
+    (sym (first-at (a .at) (a .e .now)) ∙ c .before .before .before .if4 .taken)
+    )
+    )
 
 number-from-number-form-requires : (t : ℕ) → number-from-lts.Need-number-form-requires (number-from-calls t) (number-from-at t) number-from.Post
 number-from-number-form-requires t c κs = search needs
@@ -766,7 +907,16 @@ number-from-number-past-requires-3 t c κs =
     let p = place (a .model .now) (a .state .now) (a .full .now) (a .tables .now) in
     let f = drop (a .at + 1) (a .e .now) in
     rw (c .number-behind .ensures)
-    (number-room 1 (length f) (numberAt (a .depth - 1) p (c .before .number-form .result) f) (number-at-within (a .depth - 1) p (c .before .number-form .result) f) (omega (arith, length-drop (a .at + 1) (a .e .now), c .before .before .before .before .before .before .before .before .before .before .before .before .good .0 .1)))
+    (
+    number-room 1 (length f) (numberAt (a .depth - 1) p (c .before .number-form .result) f)
+    (number-at-within (a .depth - 1) p (c .before .number-form .result) f) (
+    omega (
+      arith,
+      length-drop (a .at + 1) (a .e .now),
+      c .before .before .before .before .before .before .before .before .before .before .before .before .good .0 .1,
+    )
+    )
+    )
 
 number-from-returns-5 : (t : ℕ) → number-from-lts.Need-returns-5 (number-from-calls t) (number-from-at t) number-from.Post
 number-from-returns-5 t c =
@@ -774,7 +924,12 @@ number-from-returns-5 t c =
     let p = place (a .model .now) (a .state .now) (a .full .now) (a .tables .now) in
     let e = drop (a .at) (a .e .now) in
     rw (c .number-past3 .ensures, c .before .number-behind .ensures, c .before .before .number-form .ensures, behind (a .at) 1 (a .e .now), first-at (a .at) (a .e .now))
-    (sym (number-open p (a .depth) e (c .before .before .before .before .before .before .before .if1 .left) (some-behind (a .at) (a .e .now) (c .before .before .before .before .before .before .if2 .left))))
+    (
+    sym (
+    number-open p (a .depth) e (c .before .before .before .before .before .before .before .if1 .left)
+    (some-behind (a .at) (a .e .now) (c .before .before .before .before .before .before .if2 .left))
+    )
+    )
 
 pair-number-from-requires : (t : ℕ) → pair-lts.Need-number-from-requires (pair-calls t) (pair-at t) pair.Post
 pair-number-from-requires t c κs =
@@ -789,8 +944,11 @@ pair-add-number-from t c =
     let a = c .before .before .before .before .before .before .before .before .before .args in
     let p = place (a .model .now) (a .state .now) (a .full .now) (a .tables .now) in
     let h = sym (c .before .before .before .number-from .ensures) ∙ c .before .x .given .1 in
-    omega
-    (arith, number-past (a .depth) p (a .at) (a .e .now) (c .before .x .given .0 .0) (c .before .x .given .0 .1 .0) h, c .before .before .before .before .before .before .before .before .before .good .0 .1)
+    omega (
+      arith,
+      number-past (a .depth) p (a .at) (a .e .now) (c .before .x .given .0 .0) (c .before .x .given .0 .1 .0) h,
+      c .before .before .before .before .before .before .before .before .before .good .0 .1,
+    )
 
 pair-number-from-requires-2 : (t : ℕ) → pair-lts.Need-number-from-requires-2 (pair-calls t) (pair-at t) pair.Post
 pair-number-from-requires-2 t c κs =
@@ -807,8 +965,12 @@ pair-add-used t c =
     let h = sym (c .before .before .before .before .before .before .before .number-from .ensures) ∙ c .before .before .before .before .before .x .given .1 in
     let k = sym (c .before .before .before .number-from2 .ensures) ∙ c .before .y .given .1 in
     let x = c .before .before .before .before .before .x in
-    omega
-    (arith, number-past (a .depth) p (a .at) (a .e .now) (x .given .0 .0) (x .given .0 .1 .0) h, number-past (a .depth) p (a .at + (x .given .0 .1 .0)) (a .e .now) (c .before .y .given .0 .0) (c .before .y .given .0 .1 .0) k, c .before .before .before .before .before .before .before .before .before .before .before .before .before .good .0 .1)
+    omega (
+      arith,
+      number-past (a .depth) p (a .at) (a .e .now) (x .given .0 .0) (x .given .0 .1 .0) h,
+      number-past (a .depth) p (a .at + (x .given .0 .1 .0)) (a .e .now) (c .before .y .given .0 .0) (c .before .y .given .0 .1 .0) k,
+      c .before .before .before .before .before .before .before .before .before .before .before .before .before .good .0 .1,
+    )
 
 pair-enum-known-t : (t : ℕ) → pair-lts.Need-enum-known-t (pair-calls t) (pair-at t) pair.Post
 pair-enum-known-t t c = search needs
@@ -825,7 +987,12 @@ pair-returns t c =
     let k = (rw (behind (a .at) (c .before .before .before .before .before .x .given .0 .1 .0) (a .e .now)) at (sym (c .before .before .before .number-from2 .ensures))) ∙ c .before .y .given .1 in
     let f : SFits w64 (c .before .before .before .before .before .x .given .0 .0) = search needs in
     let g : SFits w64 (c .before .y .given .0 .0) = search needs in
-    rw (back f, back g) (sym (pair-values (λ f. runNumber (a .depth) p f) (λ f. runCondition (a .depth) p f) e (c .before .before .before .before .before .x .given .0 .0) (c .before .y .given .0 .0) (c .before .before .before .before .before .x .given .0 .1 .0) (c .before .y .given .0 .1 .0) h k))
+    rw (back f, back g) (
+    sym (
+    pair-values (λ f. runNumber (a .depth) p f) (λ f. runCondition (a .depth) p f) e (c .before .before .before .before .before .x .given .0 .0)
+    (c .before .y .given .0 .0) (c .before .before .before .before .before .x .given .0 .1 .0) (c .before .y .given .0 .1 .0) h k
+    )
+    )
 
 pair-returns-2 : (t : ℕ) → pair-lts.Need-returns-2 (pair-calls t) (pair-at t) pair.Post
 pair-returns-2 t c =
@@ -843,7 +1010,10 @@ pair-returns-3 t c =
     let a = c .before .before .before .before .before .before .before .before .before .args in
     let p = place (a .model .now) (a .state .now) (a .full .now) (a .tables .now) in
     let e = drop (a .at) (a .e .now) in
-    sym (pair-first (λ f. runNumber (a .depth) p f) (λ f. runCondition (a .depth) p f) e (c .before .t2 .given .0 .0) (sym (c .before .before .before .number-from .ensures) ∙ c .before .t2 .given .1))
+    sym (
+    pair-first (λ f. runNumber (a .depth) p f) (λ f. runCondition (a .depth) p f) e (c .before .t2 .given .0 .0)
+    (sym (c .before .before .before .number-from .ensures) ∙ c .before .t2 .given .1)
+    )
 
 pub +choice+condition-behind+condition-from+connective+number-before+number-behind+number-beyond+number-from+pair-spec : {M : Type 1} → statement M
 +choice+condition-behind+condition-from+connective+number-before+number-behind+number-beyond+number-from+pair-spec =

@@ -42,8 +42,16 @@ loop-less c = search needs
 loop-again : tie.Need-loop-again Inv-loop μ-loop
 loop-again c =
     let start = c .before .before .before in
-    let turn = c .before .before .loop in
-    (omega arith, (omega arith, (simp length-set (turn .inv .1 .1 .0), insert-more (turn .order) (turn .j) (start .args .p) (start .args .x) (omega arith) (omega arith) ∙ turn .inv .1 .1 .1)))
+    let turn = c .before .before .loop in (
+      omega arith,
+      (
+        omega arith,
+        (
+          simp length-set (turn .inv .1 .1 .0),
+          insert-more (turn .order) (turn .j) (start .args .p) (start .args .x) (omega arith) (omega arith) ∙ turn .inv .1 .1 .1,
+        ),
+      ),
+    )
 
 mul-order-3 : tie.Need-mul-order-3 Inv-loop μ-loop
 mul-order-3 c = search needs

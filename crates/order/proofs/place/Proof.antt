@@ -51,8 +51,13 @@ loop-again-2 : tie.Need-loop-again-2 Inv-loop μ-loop
 loop-again-2 c =
     let turn = c .before .before .before .loop in
     let a = c .before .before .before .before .before .before .args in
-    let m : ℕ = turn .low + (turn .high - turn .low) / 2 in
-    (omega arith, (omega arith, (λ rise. ((λ i x. fails-below (earlierAt (a .slots .now) (a .order .now) (a .f) (a .h)) (a .n) m i rise (omega arith) (sym (c .before .earlier-at .ensures) ∙ c .if1 .left) (omega arith)), turn .inv .1 .1 rise .1))))
+    let m : ℕ = turn .low + (turn .high - turn .low) / 2 in (
+      omega arith,
+      (
+        omega arith,
+        (λ rise. ((λ i x. fails-below (earlierAt (a .slots .now) (a .order .now) (a .f) (a .h)) (a .n) m i rise (omega arith) (sym (c .before .earlier-at .ensures) ∙ c .if1 .left) (omega arith)), turn .inv .1 .1 rise .1)),
+      ),
+    )
 
 returns : tie.Need-returns Inv-loop μ-loop
 returns c =

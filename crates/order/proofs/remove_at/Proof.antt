@@ -52,8 +52,17 @@ loop-less c = search needs
 
 loop-again : tie.Need-loop-again Inv-loop μ-loop
 loop-again c =
-    let turn = c .before .before .loop in
-    (omega arith, (omega arith, (simp length-set (turn .inv .1 .1 .0), remove-more (turn .order) (c .before .before .before .before .args .n) (turn .j) _ (turn .inv .0) (omega arith) (omega arith) ∙ turn .inv .1 .1 .1)))
+    let turn = c .before .before .loop in (
+      omega arith,
+      (
+        omega arith,
+        (
+          simp length-set (turn .inv .1 .1 .0),
+          remove-more (turn .order) (c .before .before .before .before .args .n) (turn .j) _ (turn .inv .0) (omega arith) (omega arith)
+              ∙ turn .inv .1 .1 .1,
+        ),
+      ),
+    )
 
 sub-order-2 : tie.Need-sub-order-2 Inv-loop μ-loop
 sub-order-2 c = search needs

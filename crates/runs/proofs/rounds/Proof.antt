@@ -33,14 +33,22 @@ enum-told c = search needs
 
 next-width-requires : tie.Need-next-width-requires Inv-loop μ-loop
 next-width-requires c κs =
-    omega
-    (arith, c .before .before .before .before .before .before .before .before .before .before .before .loop .inv .narrow, c .before .before .before .before .before .before .before .before .before .before .before .before .before .before .before .before .before .pre .1 .0 .narrow)
+    omega (
+      arith,
+      c .before .before .before .before .before .before .before .before .before .before .before .loop .inv .narrow,
+      c .before .before .before .before .before .before .before .before .before .before .before .before .before .before .before .before .before .pre .1 .0 .narrow,
+    )
 
 begin-requires-2 : tie.Need-begin-requires-2 Inv-loop μ-loop
 begin-requires-2 c κs =
     let turn = c .before .before .before .before .before .before .before .before .before .before .before .before .loop in
-    omega
-    (arith, number-same (turn .inv) (c .before .before .before .before .before .before .before .before .judged-round .ensures), turn .inv .counted, c .before .before .before .before .before .before .before .before .before .before .before .loop-test .taken, c .before .before .before .before .before .before .before .before .before .before .before .before .before .before .before .before .before .before .pre .1 .1 .1)
+    omega (
+      arith,
+      number-same (turn .inv) (c .before .before .before .before .before .before .before .before .judged-round .ensures),
+      turn .inv .counted,
+      c .before .before .before .before .before .before .before .before .before .before .before .loop-test .taken,
+      c .before .before .before .before .before .before .before .before .before .before .before .before .before .before .before .before .before .before .pre .1 .1 .1,
+    )
 
 sub-most : tie.Need-sub-most Inv-loop μ-loop
 sub-most c = search needs

@@ -52,17 +52,22 @@ module _ {M : Type 1} (𝓤 : URA M) (H : Heap 𝓤) (A : Atoms 𝓤) (W : Given
   exits : ent 𝓤 (sep 𝓤 (A .obs γ (tracked (begunAt w t))) (sep 𝓤 (A .bor κ (Held b o γ)) (A .lft κ q))) (Post vunit)
   exits =
       qed W (‵ (fobs γ (tracked (begunAt w t))) ∷ ‵ (fbor κ (Held b o γ)) ∷ ‵ (flft κ q) ∷ []) ∵
-      suffices ! _ (ends-at 𝓤 H A f.ended stayed (f.clauses 𝓤 H A mem run) W (((κ, tt), (q, tt), tt, a, at), tt) vunit tt (begunAt w t, (tt, tt)) (tt, (tt, tt))) $ says ! refl $ by ! (handed 𝓤 H A W (Word w) (has-word 𝓤 H A W w small))
+      suffices ! _
+      (ends-at 𝓤 H A f.ended stayed (f.clauses 𝓤 H A mem run) W (((κ, tt), (q, tt), tt, a, at), tt) vunit tt (begunAt w t, (tt, tt)) (tt, (tt, tt))) $
+      says ! refl $ by ! (handed 𝓤 H A W (Word w) (has-word 𝓤 H A W w small))
 
   walk : ent 𝓤 (onEntry 𝓤 H A f.signature (κ, tt) (q, tt) a at) (WpFn 𝓤 H C Λ code.function (vptr b o ∷ vint w64 w ∷ []) Post)
   walk =
       qed W ((‵ (flft κ q) ⊛ ‵ ftrue) ∷ ‵ (owns (MutRef (named 0) κ T.the-row ∷ u64 ∷ []) a at) ∷ []) ∵ taken ! $ enter ! C Λ code.function (vptr b o ∷ vint w64 w ∷ []) _ $
       alloc1 ! (λ l₀. alloc1 ! (λ l₁. alloc1 ! (λ l₂. alloc1 ! (λ l₃. alloc1 ! (λ l₄. alloc0 ! $ params1 ! $ pass1 ! (init ! 6 refl (tt, tt)) $ pass1 ! (init ! 4 refl (tt, record { fits = small })) $ pass0 ! $ move ! (10 ∷ 11 ∷ 12 ∷ []) $ opened ! tt t b o (λ is.
       -- [the tally's cell; the open borrow; obs; auth; _4; …; _3; …; _2; …; _1; …; room for _0; …]
-      assigns ! (of-opd ! (load ! (from ! (hop ! (look ! 10 refl) (fld ! refl (stop !)))) (look-in ! 0 (sub ! 1 refl (whole !))))) (from ! (stop !)) (init ! 6 refl (tt, record { fits = bounds t is .1 })) $
+      assigns ! (of-opd ! (load ! (from ! (hop ! (look ! 10 refl) (fld ! refl (stop !)))) (look-in ! 0 (sub ! 1 refl (whole !))))) (from ! (stop !))
+      (init ! 6 refl (tt, record { fits = bounds t is .1 })) $
       assigns ! (bin ! (load ! (from ! (stop !)) (look ! 6 refl)) (lit ! tt) (record { fits = ok })) (from ! (stop !)) (init ! 4 refl (tt, record { fits = ok })) $
-      assigns ! (of-opd ! (load ! (from ! (stop !)) (look ! 4 refl))) (from ! (hop ! (look ! 10 refl) (fld ! refl (stop !)))) (store-in ! 0 (sub ! 1 refl (whole !)) (tt, record { fits = ok })) $
-      assigns ! (of-opd ! (load ! (from ! (stop !)) (look ! 8 refl))) (from ! (hop ! (look ! 10 refl) (fld ! refl (stop !)))) (store-in ! 0 (sub ! 2 refl (whole !)) (tt, record { fits = small })) $
+      assigns ! (of-opd ! (load ! (from ! (stop !)) (look ! 4 refl))) (from ! (hop ! (look ! 10 refl) (fld ! refl (stop !))))
+      (store-in ! 0 (sub ! 1 refl (whole !)) (tt, record { fits = ok })) $
+      assigns ! (of-opd ! (load ! (from ! (stop !)) (look ! 8 refl))) (from ! (hop ! (look ! 10 refl) (fld ! refl (stop !))))
+      (store-in ! 0 (sub ! 2 refl (whole !)) (tt, record { fits = small })) $
       assigns ! (of-opd ! (unit-lit !)) (from ! (stop !)) (init ! 12 refl (tt, tt)) $
       closed ! tt (begunAt w t) b o (raised is) $
       -- [obs; the borrow; the token; _4; …; _3; …; _2; …; _1; …; _0; …]
@@ -75,6 +80,7 @@ begin-round-spec 𝓤 H 𝓜 𝓖 𝓡 =
     let W = givenOf 𝓤 H 𝓜 𝓖 in
     let 𝓣 = tables 𝓤 H 𝓜 𝓡 code.env in
     let c = f.clauses 𝓤 H (𝓖 .A) (𝓜 .mem) (𝓡 .run) in
-    reached 𝓤 H 𝓜 𝓖 𝓡 code.env #tally·begin-round code.function f.ended stayed c (code.unfolded 𝓤 H 𝓜 𝓡) (goes-ref 𝓤 H (𝓖 .A) W 1 0 tt (plain (λ _. T.the-row)), (goes-none 𝓤 H (𝓖 .A) W 1 (λ _. u64) yes (λ κs x f. refl), tt))
+    reached 𝓤 H 𝓜 𝓖 𝓡 code.env #tally·begin-round code.function f.ended stayed c (code.unfolded 𝓤 H 𝓜 𝓡)
+    (goes-ref 𝓤 H (𝓖 .A) W 1 0 tt (plain (λ _. T.the-row)), (goes-none 𝓤 H (𝓖 .A) W 1 (λ _. u64) yes (λ κs x f. refl), tt))
     (walked 𝓤 H (𝓖 .A) f.ended stayed c (WpFn 𝓤 H (𝓣 .C) (𝓣 .Λ) code.function) (λ κs. (ptr-vals, (uint-vals w64, tt))) (λ κs. (mut-tells (named 0) (κs .0) T.the-row, (uint-tells w64, tt)))
     (λ κs qs _ a _ are. needs 𝓤 _ _ (walk 𝓤 H (𝓖 .A) W (𝓜 .mem) (𝓡 .run) (𝓣 .C) (𝓣 .Λ) (κs .0) (qs .0) (a .0 .ptr .0) (a .0 .ptr .1) (a .0 .name) (a .0 .now) (a .1 .0) (are .1 .0 .1))))

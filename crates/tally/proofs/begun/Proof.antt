@@ -56,12 +56,16 @@ module _ {M : Type 1} (𝓤 : URA M) (H : Heap 𝓤) (A : Atoms 𝓤) (W : Given
 
     exits : Fits (begunAt w t) → ent 𝓤 (emp 𝓤) (Post (mach (begunAt w t)))
     exits has =
-        qed W [] ∵ suffices ! _ (ends-at 𝓤 H A f.ended stayed (f.clauses 𝓤 H A mem run) W ((tt, tt, tt, (t, (w, tt)), (mach t ∷ [], (vint w64 w ∷ [], tt))), tt) (mach (begunAt w t)) (begunAt w t) (tt, (tt, tt)) (tt, (tt, tt))) $ says ! refl $
+        qed W [] ∵ suffices ! _ (
+        ends-at 𝓤 H A f.ended stayed (f.clauses 𝓤 H A mem run) W ((tt, tt, tt, (t, (w, tt)), (mach t ∷ [], (vint w64 w ∷ [], tt))), tt)
+        (mach (begunAt w t)) (begunAt w t) (tt, (tt, tt)) (tt, (tt, tt))
+        ) $ says ! refl $
         owns-tally ! (begunAt w t) has $ use0 W (‵ (Word w)) (has-word 𝓤 H A W w small) $ owns-tally ! t is $ fjoin ! $ nothing ! $ done !
 
     walk : ent 𝓤 (onEntry 𝓤 H A f.signature tt tt (t, (w, tt)) (mach t ∷ [], (vint w64 w ∷ [], tt))) (WpFn 𝓤 H C Λ code.function (mach t ∷ vint w64 w ∷ []) Post)
     walk =
-        qed W (‵ ftrue ∷ ‵ (owns (T.the-row ∷ u64 ∷ []) (t, (w, tt)) (mach t ∷ [], (vint w64 w ∷ [], tt))) ∷ []) ∵ keep ! [] $ enter ! C Λ code.function (mach t ∷ vint w64 w ∷ []) _ $
+        qed W (‵ ftrue ∷ ‵ (owns (T.the-row ∷ u64 ∷ []) (t, (w, tt)) (mach t ∷ [], (vint w64 w ∷ [], tt))) ∷ []) ∵ keep ! [] $ enter ! C Λ
+        code.function (mach t ∷ vint w64 w ∷ []) _ $
         alloc1 ! (λ l₀. alloc1 ! (λ l₁. alloc1 ! (λ l₂. alloc1 ! (λ l₃. alloc1 ! (λ l₄. alloc1 ! (λ l₅. alloc0 ! $ params1 ! $ pass1 ! (init ! 8 refl (typed 𝓤 H A W t is)) $ pass1 ! (init ! 6 refl (tt, record { fits = small })) $ pass0 ! $
         -- [_5; …; _4; …; _3; …; _2; …; _1; …; room for _0; …]
         assigns ! (of-opd ! (load ! (from ! (stop !)) (look ! 8 refl))) (from ! (stop !)) (init ! 4 refl (typed 𝓤 H A W t is)) $
@@ -81,7 +85,8 @@ begun-spec 𝓤 H 𝓜 𝓖 𝓡 =
     let W = givenOf 𝓤 H 𝓜 𝓖 in
     let 𝓣 = tables 𝓤 H 𝓜 𝓡 code.env in
     let c = f.clauses 𝓤 H (𝓖 .A) (𝓜 .mem) (𝓡 .run) in
-    reached 𝓤 H 𝓜 𝓖 𝓡 code.env #tally·begun code.function f.ended stayed c (code.unfolded 𝓤 H 𝓜 𝓡) (goes-none 𝓤 H (𝓖 .A) W 0 (λ _. T.the-row) yes (λ κs x f. refl), (goes-none 𝓤 H (𝓖 .A) W 0 (λ _. u64) yes (λ κs x f. refl), tt))
+    reached 𝓤 H 𝓜 𝓖 𝓡 code.env #tally·begun code.function f.ended stayed c (code.unfolded 𝓤 H 𝓜 𝓡)
+    (goes-none 𝓤 H (𝓖 .A) W 0 (λ _. T.the-row) yes (λ κs x f. refl), (goes-none 𝓤 H (𝓖 .A) W 0 (λ _. u64) yes (λ κs x f. refl), tt))
     (walked 𝓤 H (𝓖 .A) f.ended stayed c (WpFn 𝓤 H (𝓣 .C) (𝓣 .Λ) code.function) (λ κs. (LL.vals T.the-type T′.the-laws, (uint-vals w64, tt))) (λ κs. (LL.tells T.the-type T′.the-laws, (uint-tells w64, tt)))
     (λ κs qs _ a _ are. needs 𝓤 _ _ (walk 𝓤 H (𝓖 .A) W (𝓜 .mem) (𝓡 .run) (𝓣 .C) (𝓣 .Λ) (fmOf 𝓤 H (W .laws) (tablesOf 𝓤 H 𝓜 𝓣))
     (cited 𝓤 H (Begin 𝓤 H (𝓖 .A) W (𝓜 .mem) (𝓡 .run)) 𝓜 𝓡 code.env #tally·begin-round begin-def.routine code.calls-tally·begin-round (begin-thm.met 𝓤 H 𝓜 𝓖 𝓡)) (a .0) (are .0) (a .1 .0) (are .1 .0 .1))))

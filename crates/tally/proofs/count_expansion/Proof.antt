@@ -49,16 +49,19 @@ module _ {M : Type 1} (𝓤 : URA M) (H : Heap 𝓤) (A : Atoms 𝓤) (W : Given
   exits : ent 𝓤 (sep 𝓤 (A .obs γ (tracked (oneMore t))) (sep 𝓤 (A .bor κ (Held b o γ)) (A .lft κ q))) (Post vunit)
   exits =
       qed W (‵ (fobs γ (tracked (oneMore t))) ∷ ‵ (fbor κ (Held b o γ)) ∷ ‵ (flft κ q) ∷ []) ∵
-      suffices ! _ (ends-at 𝓤 H A f.ended stayed (f.clauses 𝓤 H A mem run) W (((κ, tt), (q, tt), tt, a, at), tt) vunit tt (oneMore t, tt) (tt, tt)) $ says ! refl $ by ! (handed 𝓤 H A W ftrue (id⊢ 𝓤 (emp 𝓤)))
+      suffices ! _ (ends-at 𝓤 H A f.ended stayed (f.clauses 𝓤 H A mem run) W (((κ, tt), (q, tt), tt, a, at), tt) vunit tt (oneMore t, tt) (tt, tt)) $
+      says ! refl $ by ! (handed 𝓤 H A W ftrue (id⊢ 𝓤 (emp 𝓤)))
 
   walk : ent 𝓤 (onEntry 𝓤 H A f.signature (κ, tt) (q, tt) a at) (WpFn 𝓤 H C Λ code.function (vptr b o ∷ []) Post)
   walk =
       qed W ((‵ (flft κ q) ⊛ ‵ ftrue) ∷ ‵ (owns (MutRef (named 0) κ T.the-row ∷ []) a at) ∷ []) ∵ taken ! $ enter ! C Λ code.function (vptr b o ∷ []) _ $
       alloc1 ! (λ l₀. alloc1 ! (λ l₁. alloc1 ! (λ l₂. alloc1 ! (λ l₃. alloc0 ! $ params1 ! $ pass1 ! (init ! 4 refl (tt, tt)) $ pass0 ! $ move ! (8 ∷ 9 ∷ 10 ∷ []) $ opened ! tt t b o (λ is.
       -- [the tally's cell; the open borrow; obs; auth; _3; …; _2; …; _1; …; room for _0; …]
-      assigns ! (of-opd ! (load ! (from ! (hop ! (look ! 8 refl) (fld ! refl (stop !)))) (look-in ! 0 (sub ! 0 refl (whole !))))) (from ! (stop !)) (init ! 6 refl (tt, record { fits = bounds t is .0 })) $
+      assigns ! (of-opd ! (load ! (from ! (hop ! (look ! 8 refl) (fld ! refl (stop !)))) (look-in ! 0 (sub ! 0 refl (whole !))))) (from ! (stop !))
+      (init ! 6 refl (tt, record { fits = bounds t is .0 })) $
       assigns ! (bin ! (load ! (from ! (stop !)) (look ! 6 refl)) (lit ! tt) (record { fits = ok })) (from ! (stop !)) (init ! 4 refl (tt, record { fits = ok })) $
-      assigns ! (of-opd ! (load ! (from ! (stop !)) (look ! 4 refl))) (from ! (hop ! (look ! 8 refl) (fld ! refl (stop !)))) (store-in ! 0 (sub ! 0 refl (whole !)) (tt, record { fits = ok })) $
+      assigns ! (of-opd ! (load ! (from ! (stop !)) (look ! 4 refl))) (from ! (hop ! (look ! 8 refl) (fld ! refl (stop !))))
+      (store-in ! 0 (sub ! 0 refl (whole !)) (tt, record { fits = ok })) $
       assigns ! (of-opd ! (unit-lit !)) (from ! (stop !)) (init ! 10 refl (tt, tt)) $
       closed ! tt (oneMore t) b o (raised is) $
       -- [obs; the borrow; the token; _3; …; _2; …; _1; …; _0; …]

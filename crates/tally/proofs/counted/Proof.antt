@@ -53,7 +53,10 @@ module _ {M : Type 1} (𝓤 : URA M) (H : Heap 𝓤) (A : Atoms 𝓤) (W : Given
 
     exits : Fits (oneMore t) → ent 𝓤 (emp 𝓤) (Post (mach (oneMore t)))
     exits has =
-        qed W [] ∵ suffices ! _ (ends-at 𝓤 H A f.ended stayed (f.clauses 𝓤 H A mem run) W ((tt, tt, tt, (t, tt), (mach t ∷ [], tt)), tt) (mach (oneMore t)) (oneMore t) (tt, tt) (tt, tt)) $ says ! refl $
+        qed W [] ∵ suffices ! _ (
+        ends-at 𝓤 H A f.ended stayed (f.clauses 𝓤 H A mem run) W ((tt, tt, tt, (t, tt), (mach t ∷ [], tt)), tt) (mach (oneMore t)) (oneMore t)
+        (tt, tt) (tt, tt)
+        ) $ says ! refl $
         owns-tally ! (oneMore t) has $ nothing ! $ owns-tally ! t is $ fjoin ! $ nothing ! $ done !
 
     walk : ent 𝓤 (onEntry 𝓤 H A f.signature tt tt (t, tt) (mach t ∷ [], tt)) (WpFn 𝓤 H C Λ code.function (mach t ∷ []) Post)

@@ -23,7 +23,8 @@ abbrev μ-loop : tie.MeasureT-loop
 loop-holds : tie.Need-loop-holds Inv-loop μ-loop
 loop-holds c =
     let start = c .before .before .before .before in
-    no-items 8 (condition (variablesOf (start .args .kinds .now)) (tablesOf (start .args .rows .now) (start .args .columns .now)) mostNesting) (start .args .model .now) 16 (start .args .start)
+    no-items 8 (condition (variablesOf (start .args .kinds .now)) (tablesOf (start .args .rows .now) (start .args .columns .now)) mostNesting)
+    (start .args .model .now) 16 (start .args .start)
 
 byte-at-requires : tie.Need-byte-at-requires Inv-loop μ-loop
 byte-at-requires c κs = search needs
@@ -34,7 +35,14 @@ returns c =
     let start = c .before .before .before .before .before .before .before .before in
     let turn = c .before .before .before .loop in
     sym
-    (ap placeOf (item-too-many 8 (condition (variablesOf (start .args .kinds .now)) (tablesOf (start .args .rows .now) (start .args .columns .now)) mostNesting) (start .args .model .now) 16 (start .args .start) (turn .at) (turn .n) (turn .inv) (omega arith) (sym (c .before .before .byte-at .ensures) ∙ c .before .if1 .taken) (c .if2 .taken)))
+    (
+    ap placeOf (
+    item-too-many 8
+    (condition (variablesOf (start .args .kinds .now)) (tablesOf (start .args .rows .now) (start .args .columns .now)) mostNesting)
+    (start .args .model .now) 16 (start .args .start) (turn .at) (turn .n) (turn .inv) (omega arith)
+    (sym (c .before .before .byte-at .ensures) ∙ c .before .if1 .taken) (c .if2 .taken)
+    )
+    )
 
 add-condition-at : tie.Need-add-condition-at Inv-loop μ-loop
 add-condition-at c =
@@ -62,7 +70,12 @@ loop-again c =
     (start .args .model .now) 16 (start .args .start) (turn .at) (turn .n) (turn .inv) (omega arith)
     (sym (c .before .before .before .before .before .before .byte-at .ensures) ∙ c .before .before .before .before .before .if1 .taken)
     (omega (arith, turn .inv .few, c .before .before .before .before .if2 .left))
-    (place-read (readAt (condition (variablesOf (start .args .kinds .now)) (tablesOf (start .args .rows .now) (start .args .columns .now)) mostNesting) _ (start .args .model .now)) (sym (c .before .end .given .1) ∙ c .before .before .before .condition-at .ensures) .1)
+    (
+    place-read (
+    readAt (condition (variablesOf (start .args .kinds .now)) (tablesOf (start .args .rows .now) (start .args .columns .now)) mostNesting) _
+    (start .args .model .now)
+    ) (sym (c .before .end .given .1) ∙ c .before .before .before .condition-at .ensures) .1
+    )
 
 enum-known-t : tie.Need-enum-known-t Inv-loop μ-loop
 enum-known-t c = search needs
@@ -73,7 +86,19 @@ returns-2 c =
     let start = c .before .before .before .before .before .before .before .before .before .before .before .before in
     let turn = c .before .before .before .before .before .before .before .loop in
     sym
-    (ap placeOf (item-refused 8 (condition (variablesOf (start .args .kinds .now)) (tablesOf (start .args .rows .now) (start .args .columns .now)) mostNesting) (start .args .model .now) 16 (start .args .start) (turn .at) (turn .n) (turn .inv) (omega arith) (sym (c .before .before .before .before .before .before .byte-at .ensures) ∙ c .before .before .before .before .before .if1 .taken) (omega (arith, turn .inv .few, c .before .before .before .before .if2 .left)) (place-refused (readAt (condition (variablesOf (start .args .kinds .now)) (tablesOf (start .args .rows .now) (start .args .columns .now)) mostNesting) _ (start .args .model .now)) (sym (c .before .t .given .1) ∙ c .before .before .before .condition-at .ensures))))
+    (
+    ap placeOf (
+    item-refused 8 (condition (variablesOf (start .args .kinds .now)) (tablesOf (start .args .rows .now) (start .args .columns .now)) mostNesting)
+    (start .args .model .now) 16 (start .args .start) (turn .at) (turn .n) (turn .inv) (omega arith)
+    (sym (c .before .before .before .before .before .before .byte-at .ensures) ∙ c .before .before .before .before .before .if1 .taken)
+    (omega (arith, turn .inv .few, c .before .before .before .before .if2 .left)) (
+    place-refused (
+    readAt (condition (variablesOf (start .args .kinds .now)) (tablesOf (start .args .rows .now) (start .args .columns .now)) mostNesting) _
+    (start .args .model .now)
+    ) (sym (c .before .t .given .1) ∙ c .before .before .before .condition-at .ensures)
+    )
+    )
+    )
 
 returns-3 : tie.Need-returns-3 Inv-loop μ-loop
 unfolding conditions
@@ -81,7 +106,13 @@ returns-3 c =
     let start = c .before .before .before .before .before .before .before .before in
     let turn = c .before .before .before .loop in
     sym
-    (ap placeOf (items-end 8 (condition (variablesOf (start .args .kinds .now)) (tablesOf (start .args .rows .now) (start .args .columns .now)) mostNesting) (start .args .model .now) 16 (start .args .start) (turn .at) (turn .n) (turn .inv) (c .if3 .taken) (λ q. c .before .if1 .left (c .before .before .byte-at .ensures ∙ q))))
+    (
+    ap placeOf (
+    items-end 8 (condition (variablesOf (start .args .kinds .now)) (tablesOf (start .args .rows .now) (start .args .columns .now)) mostNesting)
+    (start .args .model .now) 16 (start .args .start) (turn .at) (turn .n) (turn .inv) (c .if3 .taken)
+    (λ q. c .before .if1 .left (c .before .before .byte-at .ensures ∙ q))
+    )
+    )
 
 returns-4 : tie.Need-returns-4 Inv-loop μ-loop
 unfolding conditions
@@ -89,7 +120,12 @@ returns-4 c =
     let start = c .before .before .before .before .before .before .before .before in
     let turn = c .before .before .before .loop in
     sym
-    (ap placeOf (items-early 8 (condition (variablesOf (start .args .kinds .now)) (tablesOf (start .args .rows .now) (start .args .columns .now)) mostNesting) (start .args .model .now) 16 (start .args .start) (turn .at) (turn .n) (turn .inv) (c .if3 .left)))
+    (
+    ap placeOf (
+    items-early 8 (condition (variablesOf (start .args .kinds .now)) (tablesOf (start .args .rows .now) (start .args .columns .now)) mostNesting)
+    (start .args .model .now) 16 (start .args .start) (turn .at) (turn .n) (turn .inv) (c .if3 .left)
+    )
+    )
 
 pub conditions-spec : {M : Type 1} → statement M
 conditions-spec =

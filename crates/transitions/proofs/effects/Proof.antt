@@ -28,8 +28,11 @@ slice-aggregate-effect : tie.Need-slice-aggregate-effect Inv-loop μ-loop
 slice-aggregate-effect c = omega (arith, c .before .before .before .loop .inv .marks-length)
 
 effect-requires : tie.Need-effect-requires Inv-loop μ-loop
-effect-requires c κs =
-    (sym (c .before .before .byte-at .ensures) ∙ c .before .if1 .taken, c .before .before .before .loop .inv .few, c .before .before .before .before .before .before .before .before .pre)
+effect-requires c κs = (
+  sym (c .before .before .byte-at .ensures) ∙ c .before .if1 .taken,
+  c .before .before .before .loop .inv .few,
+  c .before .before .before .before .before .before .before .before .pre,
+)
 
 enum-known-v : tie.Need-enum-known-v Inv-loop μ-loop
 enum-known-v c = search needs
@@ -55,7 +58,12 @@ loop-again c =
     let turn = c .before .before .before .before .before .before .before .loop in
     effects-more (variablesOf (start .args .kinds .now)) (tablesOf (start .args .rows .now) (start .args .columns .now)) (start .args .model .now)
     (start .args .start) (turn .at) (turn .n) (turn .marks) (turn .inv)
-    (subst (ChangedAs (variablesOf (start .args .kinds .now)) (tablesOf (start .args .rows .now) (start .args .columns .now)) (start .args .model .now) (turn .at) (turn .n) (turn .marks)) (c .before .v .given .1) (c .before .before .before .effect .ensures))
+    (
+    subst (
+    ChangedAs (variablesOf (start .args .kinds .now)) (tablesOf (start .args .rows .now) (start .args .columns .now)) (start .args .model .now)
+    (turn .at) (turn .n) (turn .marks)
+    ) (c .before .v .given .1) (c .before .before .before .effect .ensures)
+    )
 
 enum-known-t : tie.Need-enum-known-t Inv-loop μ-loop
 enum-known-t c = search needs
@@ -65,21 +73,39 @@ returns c =
     let start = c .before .before .before .before .before .before .before .before .before .before .before .before in
     let turn = c .before .before .before .before .before .before .before .loop in
     sym
-    (ap placeOf (sym (turn .inv .goes-on) ∙ subst (ChangedAs (variablesOf (start .args .kinds .now)) (tablesOf (start .args .rows .now) (start .args .columns .now)) (start .args .model .now) (turn .at) (turn .n) (turn .marks)) (c .before .t .given .1) (c .before .before .before .effect .ensures) (turn .inv .items) (turn .inv .marked)))
+    (
+    ap placeOf (
+    sym (turn .inv .goes-on) ∙ subst (
+    ChangedAs (variablesOf (start .args .kinds .now)) (tablesOf (start .args .rows .now) (start .args .columns .now)) (start .args .model .now)
+    (turn .at) (turn .n) (turn .marks)
+    ) (c .before .t .given .1) (c .before .before .before .effect .ensures) (turn .inv .items) (turn .inv .marked)
+    )
+    )
 
 returns-2 : tie.Need-returns-2 Inv-loop μ-loop
 returns-2 c =
     let start = c .before .before .before .before .before .before .before .before in
     let turn = c .before .before .before .loop in
     sym
-    (ap placeOf (effects-end (variablesOf (start .args .kinds .now)) (tablesOf (start .args .rows .now) (start .args .columns .now)) (start .args .model .now) (start .args .start) (turn .at) (turn .n) (turn .marks) (turn .inv) (c .if2 .taken) (λ q. c .before .if1 .left (c .before .before .byte-at .ensures ∙ q))))
+    (
+    ap placeOf (
+    effects-end (variablesOf (start .args .kinds .now)) (tablesOf (start .args .rows .now) (start .args .columns .now)) (start .args .model .now)
+    (start .args .start) (turn .at) (turn .n) (turn .marks) (turn .inv) (c .if2 .taken)
+    (λ q. c .before .if1 .left (c .before .before .byte-at .ensures ∙ q))
+    )
+    )
 
 returns-3 : tie.Need-returns-3 Inv-loop μ-loop
 returns-3 c =
     let start = c .before .before .before .before .before .before .before .before in
     let turn = c .before .before .before .loop in
     sym
-    (ap placeOf (effects-early (variablesOf (start .args .kinds .now)) (tablesOf (start .args .rows .now) (start .args .columns .now)) (start .args .model .now) (start .args .start) (turn .at) (turn .n) (turn .marks) (turn .inv) (c .if2 .left)))
+    (
+    ap placeOf (
+    effects-early (variablesOf (start .args .kinds .now)) (tablesOf (start .args .rows .now) (start .args .columns .now))
+    (start .args .model .now) (start .args .start) (turn .at) (turn .n) (turn .marks) (turn .inv) (c .if2 .left)
+    )
+    )
 
 pub effects-spec : {M : Type 1} → statement M
 effects-spec =

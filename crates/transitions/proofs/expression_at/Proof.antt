@@ -53,7 +53,10 @@ returns-3 c =
     let start = c .before .before .before .before .before in
     part-refused (variablesOf (start .args .kinds .now)) (tablesOf (start .args .rows .now) (start .args .columns .now)) (start .args .at)
     (start .args .model .now) (start .args .due)
-    (part-empty (start .args .kinds .now) (start .args .rows .now) (start .args .columns .now) (start .args .due) 32 (drop (start .args .at) (start .args .model .now)) (omega (arith, length-drop (start .args .at) (start .args .model .now), c .if1 .left)))
+    (
+    part-empty (start .args .kinds .now) (start .args .rows .now) (start .args .columns .now) (start .args .due) 32
+    (drop (start .args .at) (start .args .model .now)) (omega (arith, length-drop (start .args .at) (start .args .model .now), c .if1 .left))
+    )
 
 pub expression-at-spec : {M : Type 1} → statement M
 expression-at-spec =

@@ -34,8 +34,12 @@ loop-again : tie.Need-loop-again Inv-loop μ-loop
 loop-again c =
     let start = c .before .before .before .before .before .before in
     let turn = c .before .before .loop in
-    let word-at = c .before .before .before .word-at in
-    (omega arith, ap (mixFrom (start .args .outline .now) (start .args .state .now) (word-at .result - (turn .v + 1)) (turn .v + 1)) (c .mix-at .ensures) ∙ mix-more (start .args .outline .now) (start .args .state .now) (word-at .result) (turn .v) (turn .m) (c .before .loop-test .taken) ∙ turn .inv .1)
+    let word-at = c .before .before .before .word-at in (
+      omega arith,
+      ap (mixFrom (start .args .outline .now) (start .args .state .now) (word-at .result - (turn .v + 1)) (turn .v + 1)) (c .mix-at .ensures)
+          ∙ mix-more (start .args .outline .now) (start .args .state .now) (word-at .result) (turn .v) (turn .m) (c .before .loop-test .taken)
+          ∙ turn .inv .1,
+    )
 
 mul-result : tie.Need-mul-result Inv-loop μ-loop
 mul-result c =
@@ -47,8 +51,11 @@ unfolding bucketOf
 returns c =
     let start = c .before .before .before .before .before in
     let turn = c .before .loop in
-    let e : turn .m ≡ mixFrom (start .args .outline .now) (start .args .state .now) (c .before .before .word-at .result) 0 1 = sym (mix-end (start .args .outline .now) (start .args .state .now) (c .before .before .word-at .result) (turn .v) (turn .m) (c .loop-test .left)) ∙ turn .inv .1 in
-    (bucket-below (turn .m) (start .args .size) (start .pre .1 .0), ap (λ (m : ℕ). m % 4294967296 * start .args .size / 4294967296) (e ∙ ap (λ (k : ℕ). mixFrom (start .args .outline .now) (start .args .state .now) k 0 1) (c .before .before .word-at .ensures)))
+    let e : turn .m ≡ mixFrom (start .args .outline .now) (start .args .state .now) (c .before .before .word-at .result) 0 1 = sym (mix-end (start .args .outline .now) (start .args .state .now) (c .before .before .word-at .result) (turn .v) (turn .m) (c .loop-test .left)) ∙ turn .inv .1 in (
+      bucket-below (turn .m) (start .args .size) (start .pre .1 .0),
+      ap (λ (m : ℕ). m % 4294967296 * start .args .size / 4294967296)
+          (e ∙ ap (λ (k : ℕ). mixFrom (start .args .outline .now) (start .args .state .now) k 0 1) (c .before .before .word-at .ensures)),
+    )
 
 pub bucket-spec : {M : Type 1} → statement M
 bucket-spec =

@@ -16,7 +16,8 @@ mix-requires-2 c κs = search needs
 returns : tie.Need-returns
 returns c =
     let start = c .before .before .before in
-    c .mix2 .ensures ∙ ap (λ (k : ℕ). mix k (start .args .x / 4294967296)) (c .before .mix .ensures) ∙ mix-both (start .args .preference) (start .args .m) (start .args .x) (c .before .before .if1 .taken)
+    c .mix2 .ensures ∙ ap (λ (k : ℕ). mix k (start .args .x / 4294967296)) (c .before .mix .ensures) ∙ mix-both (start .args .preference)
+    (start .args .m) (start .args .x) (c .before .before .if1 .taken)
 
 returns-2 : tie.Need-returns-2
 returns-2 c =

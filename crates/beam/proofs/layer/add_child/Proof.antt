@@ -66,8 +66,14 @@ write-slot-requires : tie.Need-write-slot-requires
 write-slot-requires c κs =
     let start = c .before .before .before .before .before .before .before .before .before .before .before .before .before in
     let o = c .before .before .before .insert-at in
-    let one = order-lent (holds (start .args .w) (start .args .layer .now) (start .pre .0 .long)) (o .last .0) (o .kept .0) in
-    (omega (arith, slots-length (start .args .w) (put (20 * start .args .w) (21 * start .args .w) (start .args .layer .now) (o .last .0)) (one .long), slot-at (start .pre .0) (start .args .n) (start .pre .1 .0)), start .pre .1 .1 .1 .0)
+    let one = order-lent (holds (start .args .w) (start .args .layer .now) (start .pre .0 .long)) (o .last .0) (o .kept .0) in (
+      omega (
+        arith,
+        slots-length (start .args .w) (put (20 * start .args .w) (21 * start .args .w) (start .args .layer .now) (o .last .0)) (one .long),
+        slot-at (start .pre .0) (start .args .n) (start .pre .1 .0),
+      ),
+      start .pre .1 .1 .1 .0,
+    )
 
 mul-add : tie.Need-mul-add
 mul-add c = search needs
@@ -86,8 +92,13 @@ add-requires c κs =
     let start = c .before .before .before .before .before .before .before .before .before .before .before .before .before .before .before .before .before in
     let o = c .before .before .before .before .before .before .before .insert-at in
     let s = c .before .before .before .write-slot in
-    let two = slots-lent (order-lent (holds (start .args .w) (start .args .layer .now) (start .pre .0 .long)) (o .last .0) (o .kept .0)) (s .last .0) (s .kept .0) in
-    (omega (arith, ap length (two .links-in), start .pre .0 .parts .links-long, start .pre .1 .1 .0), (slot-at (start .pre .0) (start .args .n) (start .pre .1 .0), subst (Falling (start .args .w)) (sym (two .links-in)) (start .pre .0 .parts .falling)))
+    let two = slots-lent (order-lent (holds (start .args .w) (start .args .layer .now) (start .pre .0 .long)) (o .last .0) (o .kept .0)) (s .last .0) (s .kept .0) in (
+      omega (arith, ap length (two .links-in), start .pre .0 .parts .links-long, start .pre .1 .1 .0),
+      (
+        slot-at (start .pre .0) (start .args .n) (start .pre .1 .0),
+        subst (Falling (start .args .w)) (sym (two .links-in)) (start .pre .0 .parts .falling),
+      ),
+    )
 
 same-length : tie.Need-same-length
 same-length c = search needs

@@ -35,8 +35,14 @@ sub-earlier-at-2 c = search needs
 
 earlier-at-requires : tie.Need-earlier-at-requires
 earlier-at-requires c κs =
-    let start = c .before .before .before in
-    (omega (arith, order-length (start .args .w) (start .args .layer .now) (start .pre .1 .long), start .pre .0), omega (arith, slots-length (start .args .w) (start .args .layer .now) (start .pre .1 .long), start .pre .1 .parts .inside .each (start .args .w - 1) (omega (arith, start .pre .0))))
+    let start = c .before .before .before in (
+      omega (arith, order-length (start .args .w) (start .args .layer .now) (start .pre .1 .long), start .pre .0),
+      omega (
+        arith,
+        slots-length (start .args .w) (start .args .layer .now) (start .pre .1 .long),
+        start .pre .1 .parts .inside .each (start .args .w - 1) (omega (arith, start .pre .0)),
+      ),
+    )
 
 returns : tie.Need-returns
 returns c = search needs

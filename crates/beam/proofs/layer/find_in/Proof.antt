@@ -34,8 +34,13 @@ part-find-end c = search needs
 
 find-requires : tie.Need-find-requires
 find-requires c κs =
-    let start = c .before .before .before .before .before .before in
-    (start .pre .0, (omega (arith, links-length (start .args .w) (start .args .layer .now) (start .pre .1 .0), start .pre .1 .1 .0), (start .pre .1 .1 .1 .0, (omega (arith, slots-length (start .args .w) (start .args .layer .now) (start .pre .1 .0)), start .pre .1 .1 .1 .1))))
+    let start = c .before .before .before .before .before .before in (
+      start .pre .0,
+      (
+        omega (arith, links-length (start .args .w) (start .args .layer .now) (start .pre .1 .0), start .pre .1 .1 .0),
+        (start .pre .1 .1 .1 .0, (omega (arith, slots-length (start .args .w) (start .args .layer .now) (start .pre .1 .0)), start .pre .1 .1 .1 .1)),
+      ),
+    )
 
 returns : tie.Need-returns
 returns c = search needs

@@ -54,7 +54,10 @@ returns c =
     let start = c .before .before .before .before .before .before .before .before .before in
     let k = c .before .before .before .bucket in
     dropped-in (start .pre .0)
-    (beating-one (start .args .model .now) (start .pre .0 .parts) (k .result) (start .args .child .now) (start .pre .1 .0) (sym (k .ensures .1)) (c .before .find-in .result) (c .before .find-in .ensures) (c .if1 .taken))
+    (
+    beating-one (start .args .model .now) (start .pre .0 .parts) (k .result) (start .args .child .now) (start .pre .1 .0) (sym (k .ensures .1))
+    (c .before .find-in .result) (c .before .find-in .ensures) (c .if1 .taken)
+    )
 
 remove-beaten-requires : tie.Need-remove-beaten-requires
 remove-beaten-requires c κs =
@@ -66,8 +69,11 @@ add-child-requires : tie.Need-add-child-requires
 add-child-requires c κs =
     let start = c .before .before .before .before .before .before .before .before .before .before .before .before .before .before .before in
     let rest = c .before .before .before .before .remove-beaten in
-    let k = c .before .before .before .before .before .before .before .before .before .bucket in
-    (beaten-held (start .args .model .now) (rest .last .0) (start .args .child .now) (start .pre .0) (rest .kept .0) (rest .ensures .0) (rest .ensures .1), (c .before .if2 .taken, (k .ensures .0, (start .pre .1 .1, sym (k .ensures .1)))))
+    let k = c .before .before .before .before .before .before .before .before .before .bucket in (
+      beaten-held (start .args .model .now) (rest .last .0) (start .args .child .now) (start .pre .0) (rest .kept .0) (rest .ensures .0)
+          (rest .ensures .1),
+      (c .before .if2 .taken, (k .ensures .0, (start .pre .1 .1, sym (k .ensures .1)))),
+    )
 
 add-t22 : tie.Need-add-t22
 add-t22 c = search needs
@@ -93,15 +99,23 @@ shared-slice-read-h c = search needs
 before-last-requires : tie.Need-before-last-requires
 before-last-requires c κs =
     let start = c .before .before .before .before .before .before .before .before .before .before .before .before .before .before .before .before .before in
-    let rest = c .before .before .before .before .before .before .remove-beaten in
-    (width-positive (start .pre .0), layer-of (full-held (start .args .model .now) (rest .last .0) (start .args .child .now) (start .pre .0) (rest .kept .0) (rest .ensures .0) (rest .ensures .1) (c .before .before .before .if2 .left)))
+    let rest = c .before .before .before .before .before .before .remove-beaten in (
+      width-positive (start .pre .0),
+      layer-of (
+          full-held (start .args .model .now) (rest .last .0) (start .args .child .now) (start .pre .0) (rest .kept .0) (rest .ensures .0)
+          (rest .ensures .1) (c .before .before .before .if2 .left)
+          ),
+    )
 
 replace-last-requires : tie.Need-replace-last-requires
 replace-last-requires c κs =
     let start = c .before .before .before .before .before .before .before .before .before .before .before .before .before .before .before .before .before .before .before .before in
     let rest = c .before .before .before .before .before .before .before .before .before .remove-beaten in
-    let k = c .before .before .before .before .before .before .before .before .before .before .before .before .before .before .bucket in
-    (full-held (start .args .model .now) (rest .last .0) (start .args .child .now) (start .pre .0) (rest .kept .0) (rest .ensures .0) (rest .ensures .1) (c .before .before .before .before .before .before .if2 .left), (few-variables (start .pre .1 .0), (k .ensures .0, (start .pre .1 .1, sym (k .ensures .1)))))
+    let k = c .before .before .before .before .before .before .before .before .before .before .before .before .before .before .bucket in (
+      full-held (start .args .model .now) (rest .last .0) (start .args .child .now) (start .pre .0) (rest .kept .0) (rest .ensures .0)
+          (rest .ensures .1) (c .before .before .before .before .before .before .if2 .left),
+      (few-variables (start .pre .1 .0), (k .ensures .0, (start .pre .1 .1, sym (k .ensures .1)))),
+    )
 
 same-length-3 : tie.Need-same-length-3
 same-length-3 c = search needs

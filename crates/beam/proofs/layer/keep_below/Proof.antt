@@ -89,8 +89,11 @@ loop-less c = search needs
 loop-again : tie.Need-loop-again Inv-loop μ-loop
 loop-again c =
     let start = c .before .before .before .before .before in
-    let turn = c .before .before .before .before .loop in
-    (omega (arith, turn .inv .0), lower (λ i. getD (start .args .layer .now) (getD (start .args .layer .now) (20 * start .args .width + i) 0 * slotWords + fAt) 0) (start .args .best) (start .args .n) (turn .left) (omega arith) (c .if1 .left) (turn .inv .1))
+    let turn = c .before .before .before .before .loop in (
+      omega (arith, turn .inv .0),
+      lower (λ i. getD (start .args .layer .now) (getD (start .args .layer .now) (20 * start .args .width + i) 0 * slotWords + fAt) 0)
+          (start .args .best) (start .args .n) (turn .left) (omega arith) (c .if1 .left) (turn .inv .1),
+    )
 
 returns-2 : tie.Need-returns-2 Inv-loop μ-loop
 returns-2 c =

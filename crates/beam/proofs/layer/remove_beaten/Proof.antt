@@ -89,8 +89,11 @@ returns : tie.Need-returns Inv-loop μ-loop
 returns c =
     let start = c .before .before .before .before .before .before .before .before in
     let turn = c .before .loop in
-    let v = turn .inv in
-    (v .slots-same, beaten-gone (start .args .model .now) (start .args .layer .now) (turn .layer) (start .args .child .now) (start .pre .1 .0) (start .pre .1 .1 .1 .1) (v .slots-same) (v .held) (turn .link) (v .found) (omega arith) (v .same))
+    let v = turn .inv in (
+      v .slots-same,
+      beaten-gone (start .args .model .now) (start .args .layer .now) (turn .layer) (start .args .child .now) (start .pre .1 .0)
+          (start .pre .1 .1 .1 .1) (v .slots-same) (v .held) (turn .link) (v .found) (omega arith) (v .same),
+    )
 
 pub remove-beaten-spec : {M : Type 1} → statement M
 remove-beaten-spec =

@@ -37,8 +37,10 @@ part-remove-end c = search needs
 
 remove-requires : tie.Need-remove-requires
 remove-requires c κs =
-    let start = c .before .before .before .before in
-    (omega (arith, start .pre .0 .parts .links-long, start .pre .1 .1 .0), (slot-at (start .pre .0) (start .args .p) (omega (arith, start .pre .0 .parts .few, start .pre .1 .0)), start .pre .0 .parts .falling))
+    let start = c .before .before .before .before in (
+      omega (arith, start .pre .0 .parts .links-long, start .pre .1 .1 .0),
+      (slot-at (start .pre .0) (start .args .p) (omega (arith, start .pre .0 .parts .few, start .pre .1 .0)), start .pre .0 .parts .falling),
+    )
 
 mul-remove-at : tie.Need-mul-remove-at
 mul-remove-at c = search needs

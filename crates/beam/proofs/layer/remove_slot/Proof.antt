@@ -60,8 +60,17 @@ remove-place-requires c κs =
     let start = c .before .before .before .before .before .before .before .before .before .before in
     let at = c .before .before .before .before .place-in in
     let found = c .before .find-below in
-    let r = slot-found-in (start .pre .0) (start .args .s) (at .result) (found .result) (start .pre .1 .0) (start .pre .1 .1 .0) (at .ensures .1 (rising (start .pre .0 .parts) _ _)) (found .ensures) in
-    (start .pre .0, (r .0, (start .pre .1 .1 .1 .0, ap (bucketIn (start .args .outline .now) (slotsOf (start .args .w) (start .args .layer .now)) (4 * start .args .w)) (r .1) ∙ start .pre .1 .1 .1 .1)))
+    let r = slot-found-in (start .pre .0) (start .args .s) (at .result) (found .result) (start .pre .1 .0) (start .pre .1 .1 .0) (at .ensures .1 (rising (start .pre .0 .parts) _ _)) (found .ensures) in (
+      start .pre .0,
+      (
+        r .0,
+        (
+          start .pre .1 .1 .1 .0,
+          ap (bucketIn (start .args .outline .now) (slotsOf (start .args .w) (start .args .layer .now)) (4 * start .args .w)) (r .1)
+              ∙ start .pre .1 .1 .1 .1,
+        ),
+      ),
+    )
 
 same-length : tie.Need-same-length
 same-length c = search needs

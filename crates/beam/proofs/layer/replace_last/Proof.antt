@@ -38,20 +38,37 @@ mul-slot-bucket c = search needs
 
 slot-bucket-requires : tie.Need-slot-bucket-requires
 slot-bucket-requires c κs =
-    let start = c .before .before .before .before .before in
-    (start .pre .1 .0, (slot-room (start .pre .0 .parts) _ (slot-at (start .pre .0) (start .args .w - 1) (omega (arith, width-positive (start .pre .0)))), (start .pre .0 .parts .some-bucket, start .pre .0 .parts .few-buckets)))
+    let start = c .before .before .before .before .before in (
+      start .pre .1 .0,
+      (
+        slot-room (start .pre .0 .parts) _ (slot-at (start .pre .0) (start .args .w - 1) (omega (arith, width-positive (start .pre .0)))),
+        (start .pre .0 .parts .some-bucket, start .pre .0 .parts .few-buckets),
+      ),
+    )
 
 remove-place-requires : tie.Need-remove-place-requires
 remove-place-requires c κs =
     let start = c .before .before .before .before .before .before .before in
-    let k = c .before .slot-bucket in
-    (start .pre .0, (omega (arith, width-positive (start .pre .0)), (k .ensures .0, ap (bucketIn (start .args .outline .now) (slotsOf (start .args .w) (start .args .layer .now)) (4 * start .args .w)) (order-at (start .args .w) (start .args .layer .now) (start .args .w - 1) (omega (arith, width-positive (start .pre .0)))) ∙ sym (k .ensures .1))))
+    let k = c .before .slot-bucket in (
+      start .pre .0,
+      (
+        omega (arith, width-positive (start .pre .0)),
+        (
+          k .ensures .0,
+          ap (bucketIn (start .args .outline .now) (slotsOf (start .args .w) (start .args .layer .now)) (4 * start .args .w))
+              (order-at (start .args .w) (start .args .layer .now) (start .args .w - 1) (omega (arith, width-positive (start .pre .0)))) ∙ sym
+              (k .ensures .1),
+        ),
+      ),
+    )
 
 add-child-requires : tie.Need-add-child-requires
 add-child-requires c κs =
     let start = c .before .before .before .before .before .before .before .before .before .before .before in
-    let out = c .before .before .before .remove-place in
-    (rest-held (start .args .layer .now) (out .last .0) (start .pre .0 .long) (out .kept .0) (out .ensures .0) (out .ensures .1 .held), (omega (arith, width-positive (start .pre .0)), (start .pre .1 .1 .0, (start .pre .1 .1 .1 .0, start .pre .1 .1 .1 .1))))
+    let out = c .before .before .before .remove-place in (
+      rest-held (start .args .layer .now) (out .last .0) (start .pre .0 .long) (out .kept .0) (out .ensures .0) (out .ensures .1 .held),
+      (omega (arith, width-positive (start .pre .0)), (start .pre .1 .1 .0, (start .pre .1 .1 .1 .0, start .pre .1 .1 .1 .1))),
+    )
 
 same-length : tie.Need-same-length
 same-length c = search needs

@@ -29,8 +29,10 @@ shared-slice-read-link c = search needs
 loop-holds : tie.Need-loop-holds Inv-loop μ-loop
 loop-holds c =
     let start = c .before .before .before .before .before .before in
-    let e : levelAt (start .args .w) (start .args .w + start .args .b) ≡ start .args .w = level-head (start .args .w) (start .args .w + start .args .b) (omega arith) in
-    (omega (arith, start .pre .1 .1 .0 (start .args .w + start .args .b) (start .pre .1 .0)), (λ used bucket ix. walk-start (start .args .links .now) (start .args .w) (start .args .b) (sought (modelOf (start .args .model .now) .variables) (start .args .slots .now) (start .args .child .now) (start .args .beaten)) used bucket ix (start .pre .1 .0)))
+    let e : levelAt (start .args .w) (start .args .w + start .args .b) ≡ start .args .w = level-head (start .args .w) (start .args .w + start .args .b) (omega arith) in (
+      omega (arith, start .pre .1 .1 .0 (start .args .w + start .args .b) (start .pre .1 .0)),
+      (λ used bucket ix. walk-start (start .args .links .now) (start .args .w) (start .args .b) (sought (modelOf (start .args .model .now) .variables) (start .args .slots .now) (start .args .child .now) (start .args .beaten)) used bucket ix (start .pre .1 .0)),
+    )
 
 sub-s : tie.Need-sub-s Inv-loop μ-loop
 sub-s c = search needs

@@ -56,8 +56,20 @@ slice-write-outline c =
     let start = c .before .before .before .before .before .before .before .before .before .before .before .before .before .before .before in
     let offsets-from = c .before .before .before .before .before .before .before .before .before .offsets-from in
     let most = c .before .before .before .before .before .before .before .before .most in
-    omega
-    (arith, room (start .args .group) .high, room (start .args .group) .low, offsets-from .ensures, most .ensures, c .count-at .ensures, start .pre, group-length (variablesOf (start .args .kinds .now)) (tablesOf (start .args .rows .now) (start .args .columns .now)) (start .args .group) (start .args .model .now) (start .args .start) (start .args .outline .now) (c .before .before .before .before .before .before .items .last .1 .1 .1 .1 .1 .1 .0) (offsets-from .result) (offsets-from .result + most .result - offsets-from .result) (offsets-from .ensures) (omega (arith, offsets-from .ensures, most .ensures)) (start .pre .1) (c .before .before .before .before .before .outline .given .0))
+    omega (
+      arith,
+      room (start .args .group) .high,
+      room (start .args .group) .low,
+      offsets-from .ensures,
+      most .ensures,
+      c .count-at .ensures,
+      start .pre,
+      group-length (variablesOf (start .args .kinds .now)) (tablesOf (start .args .rows .now) (start .args .columns .now)) (start .args .group)
+          (start .args .model .now) (start .args .start) (start .args .outline .now)
+          (c .before .before .before .before .before .before .items .last .1 .1 .1 .1 .1 .1 .0) (offsets-from .result)
+          (offsets-from .result + most .result - offsets-from .result) (offsets-from .ensures) (omega (arith, offsets-from .ensures, most .ensures))
+          (start .pre .1) (c .before .before .before .before .before .outline .given .0),
+    )
 
 enum-known-t : tie.Need-enum-known-t
 enum-known-t c = search needs
@@ -75,7 +87,13 @@ returns c =
     (start .args .model .now) (start .args .start) (start .args .outline .now) (items .last .1 .1 .1 .1 .1 .1 .0) (offsets-from .result)
     (offsets-from .result + most .result - offsets-from .result) (offsets-from .ensures) (omega (arith, offsets-from .ensures, most .ensures))
     (start .pre .1) (c .before .before .before .before .before .outline .given .0) (c .count-at .ensures)
-    (subst (ItemsTold (itemOf (variablesOf (start .args .kinds .now)) (tablesOf (start .args .rows .now) (start .args .columns .now)) (start .args .group)) (start .args .model .now) (items .last .1 .1 .1 .1 .1 .1 .0) _) (c .before .before .end .given .1) (items .ensures))
+    (
+    subst (
+    ItemsTold
+    (itemOf (variablesOf (start .args .kinds .now)) (tablesOf (start .args .rows .now) (start .args .columns .now)) (start .args .group))
+    (start .args .model .now) (items .last .1 .1 .1 .1 .1 .1 .0) _
+    ) (c .before .before .end .given .1) (items .ensures)
+    )
 
 same-length-2 : tie.Need-same-length-2
 same-length-2 c = search needs
@@ -90,7 +108,13 @@ returns-2 c =
     (start .args .model .now) (start .args .start) (start .args .outline .now) (items .last .1 .1 .1 .1 .1 .1 .0) (offsets-from .result)
     (offsets-from .result + most .result - offsets-from .result) (offsets-from .ensures) (omega (arith, offsets-from .ensures, most .ensures))
     (start .pre .1) (c .before .before .before .before .outline .given .0)
-    (subst (ItemsTold (itemOf (variablesOf (start .args .kinds .now)) (tablesOf (start .args .rows .now) (start .args .columns .now)) (start .args .group)) (start .args .model .now) (items .last .1 .1 .1 .1 .1 .1 .0) _) (c .before .t .given .1) (items .ensures))
+    (
+    subst (
+    ItemsTold
+    (itemOf (variablesOf (start .args .kinds .now)) (tablesOf (start .args .rows .now) (start .args .columns .now)) (start .args .group))
+    (start .args .model .now) (items .last .1 .1 .1 .1 .1 .1 .0) _
+    ) (c .before .t .given .1) (items .ensures)
+    )
 
 pub group-spec : {M : Type 1} → statement M
 group-spec =

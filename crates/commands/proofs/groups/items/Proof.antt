@@ -63,8 +63,13 @@ enum-known-end c = search needs
 mul-offsets : tie.Need-mul-offsets Inv-loop μ-loop
 mul-offsets c =
     let turn = c .before .before .before .before .before .before .before .loop in
-    omega
-    (arith, turn .inv .so-far .few, c .before .before .before .before .if2 .left, turn .inv .size, c .before .before .before .before .before .before .before .before .before .before .before .before .before .before .good)
+    omega (
+      arith,
+      turn .inv .so-far .few,
+      c .before .before .before .before .if2 .left,
+      turn .inv .size,
+      c .before .before .before .before .before .before .before .before .before .before .before .before .before .before .good,
+    )
 
 slice-write-offsets : tie.Need-slice-write-offsets Inv-loop μ-loop
 slice-write-offsets c =
@@ -73,8 +78,11 @@ slice-write-offsets c =
 
 add-n : tie.Need-add-n Inv-loop μ-loop
 add-n c =
-    omega
-    (arith, c .before .before .before .before .before .before .before .loop .inv .so-far .few, c .before .before .before .before .before .before .before .before .before .before .before .before .before .before .good)
+    omega (
+      arith,
+      c .before .before .before .before .before .before .before .loop .inv .so-far .few,
+      c .before .before .before .before .before .before .before .before .before .before .before .before .before .before .good,
+    )
 
 loop-less : tie.Need-loop-less Inv-loop μ-loop
 loop-less c =
@@ -89,9 +97,17 @@ loop-again c =
     (itemOf (variablesOf (start .args .kinds .now)) (tablesOf (start .args .rows .now) (start .args .columns .now)) (start .args .group))
     (start .args .model .now) (length (start .args .offsets .now)) (start .args .start) (turn .at) (turn .n) (turn .offsets) (turn .inv)
     (code-positive (start .args .group))
-    (sym (c .before .before .before .before .before .before .byte-at .ensures) ∙ (c .before .before .before .before .before .if1 .taken ∙ c .before .before .before .before .before .before .before .before .code .ensures))
+    (
+    sym (c .before .before .before .before .before .before .byte-at .ensures)
+    ∙ (c .before .before .before .before .before .if1 .taken ∙ c .before .before .before .before .before .before .before .before .code .ensures)
+    )
     (omega (arith, turn .inv .so-far .few, c .before .before .before .before .if2 .left, turn .inv .size))
-    (place-read (readAt (itemOf (variablesOf (start .args .kinds .now)) (tablesOf (start .args .rows .now) (start .args .columns .now)) (start .args .group)) (turn .at + 1) (start .args .model .now)) (sym (c .before .end .given .1) ∙ c .before .before .before .item .ensures) .1)
+    (
+    place-read (
+    readAt (itemOf (variablesOf (start .args .kinds .now)) (tablesOf (start .args .rows .now) (start .args .columns .now)) (start .args .group))
+    (turn .at + 1) (start .args .model .now)
+    ) (sym (c .before .end .given .1) ∙ c .before .before .before .item .ensures) .1
+    )
 
 enum-known-t : tie.Need-enum-known-t Inv-loop μ-loop
 enum-known-t c = search needs
@@ -107,9 +123,17 @@ returns-2 c =
     (itemOf (variablesOf (start .args .kinds .now)) (tablesOf (start .args .rows .now) (start .args .columns .now)) (start .args .group))
     (start .args .model .now) (length (start .args .offsets .now)) (start .args .start) (turn .at) (turn .n) (turn .inv .so-far)
     (code-positive (start .args .group))
-    (sym (c .before .before .before .before .before .before .byte-at .ensures) ∙ (c .before .before .before .before .before .if1 .taken ∙ c .before .before .before .before .before .before .before .before .code .ensures))
+    (
+    sym (c .before .before .before .before .before .before .byte-at .ensures)
+    ∙ (c .before .before .before .before .before .if1 .taken ∙ c .before .before .before .before .before .before .before .before .code .ensures)
+    )
     (omega (arith, turn .inv .so-far .few, c .before .before .before .before .if2 .left, turn .inv .size))
-    (place-refused (readAt (itemOf (variablesOf (start .args .kinds .now)) (tablesOf (start .args .rows .now) (start .args .columns .now)) (start .args .group)) (turn .at + 1) (start .args .model .now)) (sym (c .before .t .given .1) ∙ c .before .before .before .item .ensures))
+    (
+    place-refused (
+    readAt (itemOf (variablesOf (start .args .kinds .now)) (tablesOf (start .args .rows .now) (start .args .columns .now)) (start .args .group))
+    (turn .at + 1) (start .args .model .now)
+    ) (sym (c .before .t .given .1) ∙ c .before .before .before .item .ensures)
+    )
 
 same-length-3 : tie.Need-same-length-3 Inv-loop μ-loop
 same-length-3 c = c .before .before .before .loop .inv .size

@@ -27,13 +27,27 @@ returns-3 : tie.Need-returns-3
 returns-3 c =
     let start = c .before .before .before .before .before .before in
     sym
-    (ap placeOf (reads-at costRule 0 (start .args .model .now) (rule-good (start .args .model .now) (omega (arith, c .before .before .before .before .before .if1 .left, c .before .before .if3 .left)) (c .before .before .before .if2 .taken) (c .if4 .taken))))
+    (
+    ap placeOf (
+    reads-at costRule 0 (start .args .model .now) (
+    rule-good (start .args .model .now) (omega (arith, c .before .before .before .before .before .if1 .left, c .before .before .if3 .left))
+    (c .before .before .before .if2 .taken) (c .if4 .taken)
+    )
+    )
+    )
 
 returns-4 : tie.Need-returns-4
 returns-4 c =
     let start = c .before .before .before .before .before .before in
     sym
-    (ap placeOf (refuses-at costRule 0 (start .args .model .now) (rule-beyond (start .args .model .now) (omega (arith, c .before .before .before .before .before .if1 .left, c .before .before .if3 .left)) (c .before .before .before .if2 .taken) (c .if4 .left))))
+    (
+    ap placeOf (
+    refuses-at costRule 0 (start .args .model .now) (
+    rule-beyond (start .args .model .now) (omega (arith, c .before .before .before .before .before .if1 .left, c .before .before .if3 .left))
+    (c .before .before .before .if2 .taken) (c .if4 .left)
+    )
+    )
+    )
 
 returns-5 : tie.Need-returns-5
 returns-5 c =

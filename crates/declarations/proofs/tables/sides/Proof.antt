@@ -24,7 +24,13 @@ is-count-requires-2 c κs = search needs
 returns : tie.Need-returns
 returns c =
     sym
-    (ap sidesOf (sides-good (c .before .before .before .before .before .before .before .before .args .e .now) (c .before .before .before .before .before .before .if1 .taken) (sym (c .before .before .before .is-count .ensures) ∙ c .before .before .if2 .taken) (sym (c .before .is-count2 .ensures) ∙ c .if3 .taken)))
+    (
+    ap sidesOf (
+    sides-good (c .before .before .before .before .before .before .before .before .args .e .now)
+    (c .before .before .before .before .before .before .if1 .taken)
+    (sym (c .before .before .before .is-count .ensures) ∙ c .before .before .if2 .taken) (sym (c .before .is-count2 .ensures) ∙ c .if3 .taken)
+    )
+    )
 
 returns-2 : tie.Need-returns-2
 returns-2 c = let e = c .before .before .before .before .before .before .before .before .args .e .now in let h : (isCount (getD e 0 0) && isCount (getD e 1 0)) ≡ false = rw (sym (c .before .before .before .is-count .ensures) ∙ c .before .before .if2 .taken, sym (c .before .is-count2 .ensures) ∙ c .if3 .left) in sym (ap sidesOf (sides-beyond e (c .before .before .before .before .before .before .if1 .taken) h))

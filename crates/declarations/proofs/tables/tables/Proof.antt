@@ -23,7 +23,8 @@ abbrev μ-loop : tie.MeasureT-loop
 loop-holds : tie.Need-loop-holds Inv-loop μ-loop
 loop-holds c =
     let start = c .before .before .before .before in
-    no-tables (start .args .model .now) (start .args .start) (start .args .rows .now) (start .args .columns .now) (start .args .words .now) (start .pre .1) (start .pre .2) (start .pre .3)
+    no-tables (start .args .model .now) (start .args .start) (start .args .rows .now) (start .args .columns .now) (start .args .words .now)
+    (start .pre .1) (start .pre .2) (start .pre .3)
 
 byte-at-requires : tie.Need-byte-at-requires Inv-loop μ-loop
 byte-at-requires c κs = search needs
@@ -35,13 +36,23 @@ add-behind c =
 
 sub-sides : tie.Need-sub-sides Inv-loop μ-loop
 sub-sides c =
-    omega
-    (arith, (byte-inside (c .before .before .before .before .before .before .before .args .model .now) (c .before .before .loop .at) 5 (omega arith) (sym (c .before .byte-at .ensures) ∙ c .if1 .taken)))
+    omega (
+      arith,
+      (
+          byte-inside (c .before .before .before .before .before .before .before .args .model .now) (c .before .before .loop .at) 5 (omega arith)
+          (sym (c .before .byte-at .ensures) ∙ c .if1 .taken)
+          ),
+    )
 
 part-sides-start : tie.Need-part-sides-start Inv-loop μ-loop
 part-sides-start c =
-    omega
-    (arith, (byte-inside (c .before .before .before .before .before .before .before .args .model .now) (c .before .before .loop .at) 5 (omega arith) (sym (c .before .byte-at .ensures) ∙ c .if1 .taken)))
+    omega (
+      arith,
+      (
+          byte-inside (c .before .before .before .before .before .before .before .args .model .now) (c .before .before .loop .at) 5 (omega arith)
+          (sym (c .before .byte-at .ensures) ∙ c .if1 .taken)
+          ),
+    )
 
 part-sides-end : tie.Need-part-sides-end Inv-loop μ-loop
 part-sides-end c = search needs
@@ -54,18 +65,27 @@ enum-known-r c = search needs
 
 same-length : tie.Need-same-length Inv-loop μ-loop
 same-length c =
-    omega
-    (arith, c .before .before .before .before .before .before .before .before .loop .inv .rows-length, c .before .before .before .before .before .before .before .before .before .before .before .before .before .pre)
+    omega (
+      arith,
+      c .before .before .before .before .before .before .before .before .loop .inv .rows-length,
+      c .before .before .before .before .before .before .before .before .before .before .before .before .before .pre,
+    )
 
 same-length-2 : tie.Need-same-length-2 Inv-loop μ-loop
 same-length-2 c =
-    omega
-    (arith, c .before .before .before .before .before .before .before .before .loop .inv .columns-length, c .before .before .before .before .before .before .before .before .before .before .before .before .before .pre)
+    omega (
+      arith,
+      c .before .before .before .before .before .before .before .before .loop .inv .columns-length,
+      c .before .before .before .before .before .before .before .before .before .before .before .before .before .pre,
+    )
 
 same-length-3 : tie.Need-same-length-3 Inv-loop μ-loop
 same-length-3 c =
-    omega
-    (arith, c .before .before .before .before .before .before .before .before .loop .inv .words-length, c .before .before .before .before .before .before .before .before .before .before .before .before .before .pre)
+    omega (
+      arith,
+      c .before .before .before .before .before .before .before .before .loop .inv .words-length,
+      c .before .before .before .before .before .before .before .before .before .before .before .before .before .pre,
+    )
 
 returns : tie.Need-returns Inv-loop μ-loop
 returns c =
@@ -73,8 +93,17 @@ returns c =
     let turn = c .before .before .before .before .before .before .before .before .loop in
     let byte-at = c .before .before .before .before .before .before .before .byte-at in
     let if1 = c .before .before .before .before .before .before .if1 in
-    let r = c .before .before .r in
-    (turn .inv .rows-length, turn .inv .columns-length, turn .inv .words-length, table-too-many (start .args .model .now) (start .args .start) (turn .rows) (turn .columns) (turn .words) (turn .at) (turn .n) (turn .inv) (byte-inside (start .args .model .now) (turn .at) 5 (omega arith) (sym (byte-at .ensures) ∙ if1 .taken)) (sym (byte-at .ensures) ∙ if1 .taken) (r .given .0 .0) (r .given .0 .1 .0) (sides-told (drop (turn .at + 1) (start .args .model .now)) (r .given .0 .0) (r .given .0 .1 .0) (sym (r .given .1) ∙ rw (suffix (turn .at + 1) (start .args .model .now)) at (c .before .before .before .before .sides .ensures))) (c .if2 .taken))
+    let r = c .before .before .r in (
+      turn .inv .rows-length,
+      turn .inv .columns-length,
+      turn .inv .words-length,
+      table-too-many (start .args .model .now) (start .args .start) (turn .rows) (turn .columns) (turn .words) (turn .at) (turn .n) (turn .inv)
+          (byte-inside (start .args .model .now) (turn .at) 5 (omega arith) (sym (byte-at .ensures) ∙ if1 .taken)) (sym (byte-at .ensures) ∙ if1 .taken)
+          (r .given .0 .0) (r .given .0 .1 .0) (
+          sides-told (drop (turn .at + 1) (start .args .model .now)) (r .given .0 .0) (r .given .0 .1 .0)
+          (sym (r .given .1) ∙ rw (suffix (turn .at + 1) (start .args .model .now)) at (c .before .before .before .before .sides .ensures))
+          ) (c .if2 .taken),
+    )
 
 add-first : tie.Need-add-first Inv-loop μ-loop
 add-first c =
@@ -131,8 +160,11 @@ add-n c = omega (arith, c .before .before .before .before .before .before .befor
 
 loop-less : tie.Need-loop-less Inv-loop μ-loop
 loop-less c =
-    omega
-    (arith, c .before .before .before .before .before .before .before .before .before .before .before .before .before .before .before .loop .inv .few, c .before .before .before .before .before .before .before .if2 .left)
+    omega (
+      arith,
+      c .before .before .before .before .before .before .before .before .before .before .before .before .before .before .before .loop .inv .few,
+      c .before .before .before .before .before .before .before .if2 .left,
+    )
 
 loop-again : tie.Need-loop-again Inv-loop μ-loop
 loop-again c =
@@ -145,9 +177,22 @@ loop-again c =
     table-more (start .args .model .now) (start .args .start) (turn .rows) (turn .columns) (turn .words) (turn .at) (turn .n) (turn .inv)
     (byte-inside (start .args .model .now) (turn .at) 5 (omega arith) (sym (byte-at .ensures) ∙ if1 .taken)) (sym (byte-at .ensures) ∙ if1 .taken)
     (r .given .0 .0) (r .given .0 .1 .0)
-    (sides-told (drop (turn .at + 1) (start .args .model .now)) (r .given .0 .0) (r .given .0 .1 .0) (sym (r .given .1) ∙ rw (suffix (turn .at + 1) (start .args .model .now)) at (c .before .before .before .before .before .before .before .before .before .before .before .sides .ensures)))
+    (
+    sides-told (drop (turn .at + 1) (start .args .model .now)) (r .given .0 .0) (r .given .0 .1 .0) (
+    sym (r .given .1) ∙ rw (suffix (turn .at + 1) (start .args .model .now)) at
+    (c .before .before .before .before .before .before .before .before .before .before .before .sides .ensures)
+    )
+    )
     (omega (arith, turn .inv .few, c .before .before .before .before .before .before .before .if2 .left)) (start .pre .0)
-    (sym (c .before .before .end .given .1) ∙ (c .before .before .before .before .entries .ensures ∙ ap (λ (k : ℕ). placeOf (readAt (entries k) (turn .at + 3) (start .args .model .now))) (ap (λ (a : ℕ). a * wide2 .result) (c .before .before .before .before .before .before .wide .ensures .0) ∙ ap (λ (a : ℕ). r .given .0 .0 * a) (wide2 .ensures .0))))
+    (
+    sym (c .before .before .end .given .1)
+    ∙ (
+    c .before .before .before .before .entries .ensures ∙ ap (λ (k : ℕ). placeOf (readAt (entries k) (turn .at + 3) (start .args .model .now))) (
+    ap (λ (a : ℕ). a * wide2 .result) (c .before .before .before .before .before .before .wide .ensures .0) ∙ ap (λ (a : ℕ). r .given .0 .0 * a)
+    (wide2 .ensures .0)
+    )
+    )
+    )
     (c .packed .ensures)
 
 enum-known-t : tie.Need-enum-known-t Inv-loop μ-loop
@@ -155,18 +200,27 @@ enum-known-t c = search needs
 
 same-length-4 : tie.Need-same-length-4 Inv-loop μ-loop
 same-length-4 c =
-    omega
-    (arith, c .before .before .before .before .before .before .before .before .before .before .before .before .before .before .loop .inv .rows-length, c .before .before .before .before .before .before .before .before .before .before .before .before .before .before .before .before .before .before .before .pre)
+    omega (
+      arith,
+      c .before .before .before .before .before .before .before .before .before .before .before .before .before .before .loop .inv .rows-length,
+      c .before .before .before .before .before .before .before .before .before .before .before .before .before .before .before .before .before .before .before .pre,
+    )
 
 same-length-5 : tie.Need-same-length-5 Inv-loop μ-loop
 same-length-5 c =
-    omega
-    (arith, c .before .before .before .before .before .before .before .before .before .before .before .before .before .before .loop .inv .columns-length, c .before .before .before .before .before .before .before .before .before .before .before .before .before .before .before .before .before .before .before .pre)
+    omega (
+      arith,
+      c .before .before .before .before .before .before .before .before .before .before .before .before .before .before .loop .inv .columns-length,
+      c .before .before .before .before .before .before .before .before .before .before .before .before .before .before .before .before .before .before .before .pre,
+    )
 
 same-length-6 : tie.Need-same-length-6 Inv-loop μ-loop
 same-length-6 c =
-    omega
-    (arith, c .before .before .before .before .before .before .before .before .before .before .before .before .before .before .loop .inv .words-length, c .before .before .before .before .before .before .before .before .before .before .before .before .before .before .before .before .before .before .before .pre)
+    omega (
+      arith,
+      c .before .before .before .before .before .before .before .before .before .before .before .before .before .before .loop .inv .words-length,
+      c .before .before .before .before .before .before .before .before .before .before .before .before .before .before .before .before .before .before .before .pre,
+    )
 
 returns-2 : tie.Need-returns-2 Inv-loop μ-loop
 returns-2 c =
@@ -175,34 +229,70 @@ returns-2 c =
     let byte-at = c .before .before .before .before .before .before .before .before .before .before .before .before .before .byte-at in
     let if1 = c .before .before .before .before .before .before .before .before .before .before .before .before .if1 in
     let r = c .before .before .before .before .before .before .before .before .r in
-    let wide2 = c .before .before .before .before .wide2 in
-    (turn .inv .rows-length, turn .inv .columns-length, turn .inv .words-length, table-body-refused (start .args .model .now) (start .args .start) (turn .rows) (turn .columns) (turn .words) (turn .at) (turn .n) (turn .inv) (byte-inside (start .args .model .now) (turn .at) 5 (omega arith) (sym (byte-at .ensures) ∙ if1 .taken)) (sym (byte-at .ensures) ∙ if1 .taken) (r .given .0 .0) (r .given .0 .1 .0) (sides-told (drop (turn .at + 1) (start .args .model .now)) (r .given .0 .0) (r .given .0 .1 .0) (sym (r .given .1) ∙ rw (suffix (turn .at + 1) (start .args .model .now)) at (c .before .before .before .before .before .before .before .before .before .before .sides .ensures))) (omega (arith, turn .inv .few, c .before .before .before .before .before .before .if2 .left)) (sym (c .before .t .given .1) ∙ (c .before .before .before .entries .ensures ∙ ap (λ (k : ℕ). placeOf (readAt (entries k) (turn .at + 3) (start .args .model .now))) (ap (λ (a : ℕ). a * wide2 .result) (c .before .before .before .before .before .wide .ensures .0) ∙ ap (λ (a : ℕ). r .given .0 .0 * a) (wide2 .ensures .0)))))
+    let wide2 = c .before .before .before .before .wide2 in (
+      turn .inv .rows-length,
+      turn .inv .columns-length,
+      turn .inv .words-length,
+      table-body-refused (start .args .model .now) (start .args .start) (turn .rows) (turn .columns) (turn .words) (turn .at) (turn .n) (turn .inv)
+          (byte-inside (start .args .model .now) (turn .at) 5 (omega arith) (sym (byte-at .ensures) ∙ if1 .taken)) (sym (byte-at .ensures) ∙ if1 .taken)
+          (r .given .0 .0) (r .given .0 .1 .0) (
+          sides-told (drop (turn .at + 1) (start .args .model .now)) (r .given .0 .0) (r .given .0 .1 .0) (
+          sym (r .given .1) ∙ rw (suffix (turn .at + 1) (start .args .model .now)) at
+          (c .before .before .before .before .before .before .before .before .before .before .sides .ensures)
+          )
+          ) (omega (arith, turn .inv .few, c .before .before .before .before .before .before .if2 .left)) (
+          sym (c .before .t .given .1)
+          ∙ (
+          c .before .before .before .entries .ensures ∙ ap (λ (k : ℕ). placeOf (readAt (entries k) (turn .at + 3) (start .args .model .now))) (
+          ap (λ (a : ℕ). a * wide2 .result) (c .before .before .before .before .before .wide .ensures .0) ∙ ap (λ (a : ℕ). r .given .0 .0 * a)
+          (wide2 .ensures .0)
+          )
+          )
+          ),
+    )
 
 enum-known-t-2 : tie.Need-enum-known-t-2 Inv-loop μ-loop
 enum-known-t-2 c = search needs
 
 same-length-7 : tie.Need-same-length-7 Inv-loop μ-loop
 same-length-7 c =
-    omega
-    (arith, c .before .before .before .before .before .before .before .loop .inv .rows-length, c .before .before .before .before .before .before .before .before .before .before .before .before .pre)
+    omega (
+      arith,
+      c .before .before .before .before .before .before .before .loop .inv .rows-length,
+      c .before .before .before .before .before .before .before .before .before .before .before .before .pre,
+    )
 
 same-length-8 : tie.Need-same-length-8 Inv-loop μ-loop
 same-length-8 c =
-    omega
-    (arith, c .before .before .before .before .before .before .before .loop .inv .columns-length, c .before .before .before .before .before .before .before .before .before .before .before .before .pre)
+    omega (
+      arith,
+      c .before .before .before .before .before .before .before .loop .inv .columns-length,
+      c .before .before .before .before .before .before .before .before .before .before .before .before .pre,
+    )
 
 same-length-9 : tie.Need-same-length-9 Inv-loop μ-loop
 same-length-9 c =
-    omega
-    (arith, c .before .before .before .before .before .before .before .loop .inv .words-length, c .before .before .before .before .before .before .before .before .before .before .before .before .pre)
+    omega (
+      arith,
+      c .before .before .before .before .before .before .before .loop .inv .words-length,
+      c .before .before .before .before .before .before .before .before .before .before .before .before .pre,
+    )
 
 returns-3 : tie.Need-returns-3 Inv-loop μ-loop
 returns-3 c =
     let start = c .before .before .before .before .before .before .before .before .before .before .before .before in
     let turn = c .before .before .before .before .before .before .before .loop in
     let byte-at = c .before .before .before .before .before .before .byte-at in
-    let if1 = c .before .before .before .before .before .if1 in
-    (turn .inv .rows-length, turn .inv .columns-length, turn .inv .words-length, table-head-refused (start .args .model .now) (start .args .start) (turn .rows) (turn .columns) (turn .words) (turn .at) (turn .n) (turn .inv) (byte-inside (start .args .model .now) (turn .at) 5 (omega arith) (sym (byte-at .ensures) ∙ if1 .taken)) (sym (byte-at .ensures) ∙ if1 .taken) (sides-refused (drop (turn .at + 1) (start .args .model .now)) (sym (c .before .t2 .given .1) ∙ rw (suffix (turn .at + 1) (start .args .model .now)) at (c .before .before .before .sides .ensures))))
+    let if1 = c .before .before .before .before .before .if1 in (
+      turn .inv .rows-length,
+      turn .inv .columns-length,
+      turn .inv .words-length,
+      table-head-refused (start .args .model .now) (start .args .start) (turn .rows) (turn .columns) (turn .words) (turn .at) (turn .n) (turn .inv)
+          (byte-inside (start .args .model .now) (turn .at) 5 (omega arith) (sym (byte-at .ensures) ∙ if1 .taken)) (sym (byte-at .ensures) ∙ if1 .taken) (
+          sides-refused (drop (turn .at + 1) (start .args .model .now))
+          (sym (c .before .t2 .given .1) ∙ rw (suffix (turn .at + 1) (start .args .model .now)) at (c .before .before .before .sides .ensures))
+          ),
+    )
 
 same-length-10 : tie.Need-same-length-10 Inv-loop μ-loop
 same-length-10 c = omega (arith, c .before .before .before .loop .inv .rows-length, c .before .before .before .before .before .before .before .before .pre)
@@ -216,8 +306,13 @@ same-length-12 c = omega (arith, c .before .before .before .loop .inv .words-len
 returns-4 : tie.Need-returns-4 Inv-loop μ-loop
 returns-4 c =
     let start = c .before .before .before .before .before .before .before .before in
-    let turn = c .before .before .before .loop in
-    (turn .inv .rows-length, turn .inv .columns-length, turn .inv .words-length, tables-end (start .args .model .now) (start .args .start) (turn .rows) (turn .columns) (turn .words) (turn .at) (turn .n) (turn .inv) (c .if3 .taken) (λ q. c .before .if1 .left (c .before .before .byte-at .ensures ∙ q)))
+    let turn = c .before .before .before .loop in (
+      turn .inv .rows-length,
+      turn .inv .columns-length,
+      turn .inv .words-length,
+      tables-end (start .args .model .now) (start .args .start) (turn .rows) (turn .columns) (turn .words) (turn .at) (turn .n) (turn .inv)
+          (c .if3 .taken) (λ q. c .before .if1 .left (c .before .before .byte-at .ensures ∙ q)),
+    )
 
 same-length-13 : tie.Need-same-length-13 Inv-loop μ-loop
 same-length-13 c = omega (arith, c .before .before .before .loop .inv .rows-length, c .before .before .before .before .before .before .before .before .pre)
@@ -231,8 +326,13 @@ same-length-15 c = omega (arith, c .before .before .before .loop .inv .words-len
 returns-5 : tie.Need-returns-5 Inv-loop μ-loop
 returns-5 c =
     let start = c .before .before .before .before .before .before .before .before in
-    let turn = c .before .before .before .loop in
-    (turn .inv .rows-length, turn .inv .columns-length, turn .inv .words-length, tables-early (start .args .model .now) (start .args .start) (turn .rows) (turn .columns) (turn .words) (turn .at) (turn .n) (turn .inv) (c .if3 .left))
+    let turn = c .before .before .before .loop in (
+      turn .inv .rows-length,
+      turn .inv .columns-length,
+      turn .inv .words-length,
+      tables-early (start .args .model .now) (start .args .start) (turn .rows) (turn .columns) (turn .words) (turn .at) (turn .n) (turn .inv)
+          (c .if3 .left),
+    )
 
 pub tables-spec : {M : Type 1} → statement M
 tables-spec =

@@ -24,7 +24,8 @@ wide-requires c κs = search needs
 returns : tie.Need-returns
 returns c = let e = c .before .before .before .before .before .before .before .before .args .e .now in
     let t = sym (c .before .before .element-fits .ensures) ∙ c .before .if2 .taken in
-    element-declares _ (getD e 0 0) (getD e 1 0) (getD e 2 0) _ (element-good e (c .before .before .before .before .before .before .if1 .taken) t) t refl refl refl (c .wide .ensures .0)
+    element-declares _ (getD e 0 0) (getD e 1 0) (getD e 2 0) _ (element-good e (c .before .before .before .before .before .before .if1 .taken) t) t
+    refl refl refl (c .wide .ensures .0)
 
 returns-2 : tie.Need-returns-2
 returns-2 c =

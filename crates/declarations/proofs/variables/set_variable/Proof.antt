@@ -55,7 +55,8 @@ returns c =
 
 returns-2 : tie.Need-returns-2
 returns-2 c = let e = c .before .before .before .before .before .before .before .args .e .now in
-    set-beyond e (c .before .before .before .before .before .if1 .taken) (rw (suffix 1 e) at (c .before .before .long .ensures)) (sym (c .before .members-fit .ensures) ∙ c .if2 .left)
+    set-beyond e (c .before .before .before .before .before .if1 .taken) (rw (suffix 1 e) at (c .before .before .long .ensures))
+    (sym (c .before .members-fit .ensures) ∙ c .if2 .left)
 
 returns-3 : tie.Need-returns-3
 returns-3 c = set-cut (c .before .before .args .e .now) (c .if1 .left)

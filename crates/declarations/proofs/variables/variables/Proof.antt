@@ -56,13 +56,19 @@ enum-known-d c = search needs
 
 same-length : tie.Need-same-length Inv-loop μ-loop
 same-length c =
-    omega
-    (arith, c .before .before .before .before .before .before .before .before .before .before .loop .inv .kinds-length, c .before .before .before .before .before .before .before .before .before .before .before .before .before .before .pre .0)
+    omega (
+      arith,
+      c .before .before .before .before .before .before .before .before .before .before .loop .inv .kinds-length,
+      c .before .before .before .before .before .before .before .before .before .before .before .before .before .before .pre .0,
+    )
 
 same-length-2 : tie.Need-same-length-2 Inv-loop μ-loop
 same-length-2 c =
-    omega
-    (arith, c .before .before .before .before .before .before .before .before .before .before .loop .inv .words-length, c .before .before .before .before .before .before .before .before .before .before .before .before .before .before .pre .1)
+    omega (
+      arith,
+      c .before .before .before .before .before .before .before .before .before .before .loop .inv .words-length,
+      c .before .before .before .before .before .before .before .before .before .before .before .before .before .before .pre .1,
+    )
 
 returns : tie.Need-returns Inv-loop μ-loop
 returns c =
@@ -71,8 +77,17 @@ returns c =
     let byte-at = c .before .before .before .before .before .before .before .before .before .byte-at in
     let declares-variable = c .before .before .before .before .before .before .before .before .declares-variable in
     let if1 = c .before .before .before .before .before .before .before .if1 in
-    let d = c .before .before .d in
-    (turn .inv .kinds-length, turn .inv .words-length, variable-too-many (start .args .model .now) (start .args .start) (turn .kinds) (turn .words) (turn .at) (turn .n) (turn .inv) (variable-inside (start .args .model .now) (turn .at) (variable-due (start .args .model .now) (turn .at) (byte-at .ensures) (declares-variable .ensures) (if1 .taken))) (variable-due (start .args .model .now) (turn .at) (byte-at .ensures) (declares-variable .ensures) (if1 .taken)) (d .given .0 .0) (declared-here (start .args .model .now) (turn .at) (c .before .before .before .before .before .before .byte-at2 .ensures) (d .given .1) (c .before .before .before .before .variable .ensures)) (c .if2 .taken))
+    let d = c .before .before .d in (
+      turn .inv .kinds-length,
+      turn .inv .words-length,
+      variable-too-many (start .args .model .now) (start .args .start) (turn .kinds) (turn .words) (turn .at) (turn .n) (turn .inv) (
+          variable-inside (start .args .model .now) (turn .at)
+          (variable-due (start .args .model .now) (turn .at) (byte-at .ensures) (declares-variable .ensures) (if1 .taken))
+          ) (variable-due (start .args .model .now) (turn .at) (byte-at .ensures) (declares-variable .ensures) (if1 .taken)) (d .given .0 .0) (
+          declared-here (start .args .model .now) (turn .at) (c .before .before .before .before .before .before .byte-at2 .ensures) (d .given .1)
+          (c .before .before .before .before .variable .ensures)
+          ) (c .if2 .taken),
+    )
 
 slice-write-kinds : tie.Need-slice-write-kinds Inv-loop μ-loop
 slice-write-kinds c =
@@ -96,8 +111,11 @@ add-n c = omega (arith, c .before .before .before .before .before .before .befor
 
 loop-less : tie.Need-loop-less Inv-loop μ-loop
 loop-less c =
-    omega
-    (arith, c .before .before .before .before .before .before .before .before .before .before .before .before .before .before .before .loop .inv .few, c .before .before .before .before .before .if2 .left)
+    omega (
+      arith,
+      c .before .before .before .before .before .before .before .before .before .before .before .before .before .before .before .loop .inv .few,
+      c .before .before .before .before .before .if2 .left,
+    )
 
 loop-again : tie.Need-loop-again Inv-loop μ-loop
 loop-again c =
@@ -108,20 +126,35 @@ loop-again c =
     let if1 = c .before .before .before .before .before .before .before .before .before .before .before .before .if1 in
     let d = c .before .before .before .before .before .before .before .d in
     rw (c .before .before .before .store .ensures)
-    (variable-more (start .args .model .now) (start .args .start) (turn .kinds) (turn .words) (turn .at) (turn .n) (turn .inv) (variable-inside (start .args .model .now) (turn .at) (variable-due (start .args .model .now) (turn .at) (byte-at .ensures) (declares-variable .ensures) (if1 .taken))) (variable-due (start .args .model .now) (turn .at) (byte-at .ensures) (declares-variable .ensures) (if1 .taken)) (d .given .0 .0) (declared-here (start .args .model .now) (turn .at) (c .before .before .before .before .before .before .before .before .before .before .before .byte-at2 .ensures) (d .given .1) (c .before .before .before .before .before .before .before .before .before .variable .ensures)) (omega (arith, turn .inv .few, c .before .before .before .before .before .if2 .left)))
+    (
+    variable-more (start .args .model .now) (start .args .start) (turn .kinds) (turn .words) (turn .at) (turn .n) (turn .inv) (
+    variable-inside (start .args .model .now) (turn .at)
+    (variable-due (start .args .model .now) (turn .at) (byte-at .ensures) (declares-variable .ensures) (if1 .taken))
+    ) (variable-due (start .args .model .now) (turn .at) (byte-at .ensures) (declares-variable .ensures) (if1 .taken)) (d .given .0 .0) (
+    declared-here (start .args .model .now) (turn .at)
+    (c .before .before .before .before .before .before .before .before .before .before .before .byte-at2 .ensures) (d .given .1)
+    (c .before .before .before .before .before .before .before .before .before .variable .ensures)
+    ) (omega (arith, turn .inv .few, c .before .before .before .before .before .if2 .left))
+    )
 
 enum-known-t : tie.Need-enum-known-t Inv-loop μ-loop
 enum-known-t c = search needs
 
 same-length-3 : tie.Need-same-length-3 Inv-loop μ-loop
 same-length-3 c =
-    omega
-    (arith, c .before .before .before .before .before .before .before .before .before .loop .inv .kinds-length, c .before .before .before .before .before .before .before .before .before .before .before .before .before .pre .0)
+    omega (
+      arith,
+      c .before .before .before .before .before .before .before .before .before .loop .inv .kinds-length,
+      c .before .before .before .before .before .before .before .before .before .before .before .before .before .pre .0,
+    )
 
 same-length-4 : tie.Need-same-length-4 Inv-loop μ-loop
 same-length-4 c =
-    omega
-    (arith, c .before .before .before .before .before .before .before .before .before .loop .inv .words-length, c .before .before .before .before .before .before .before .before .before .before .before .before .before .pre .1)
+    omega (
+      arith,
+      c .before .before .before .before .before .before .before .before .before .loop .inv .words-length,
+      c .before .before .before .before .before .before .before .before .before .before .before .before .before .pre .1,
+    )
 
 returns-2 : tie.Need-returns-2 Inv-loop μ-loop
 returns-2 c =
@@ -129,8 +162,17 @@ returns-2 c =
     let turn = c .before .before .before .before .before .before .before .before .before .loop in
     let byte-at = c .before .before .before .before .before .before .before .before .byte-at in
     let declares-variable = c .before .before .before .before .before .before .before .declares-variable in
-    let if1 = c .before .before .before .before .before .before .if1 in
-    (turn .inv .kinds-length, turn .inv .words-length, variable-refused (start .args .model .now) (start .args .start) (turn .kinds) (turn .words) (turn .at) (turn .n) (turn .inv) (variable-inside (start .args .model .now) (turn .at) (variable-due (start .args .model .now) (turn .at) (byte-at .ensures) (declares-variable .ensures) (if1 .taken))) (variable-due (start .args .model .now) (turn .at) (byte-at .ensures) (declares-variable .ensures) (if1 .taken)) (declared-here (start .args .model .now) (turn .at) (c .before .before .before .before .before .byte-at2 .ensures) (c .before .t .given .1) (c .before .before .before .variable .ensures)))
+    let if1 = c .before .before .before .before .before .before .if1 in (
+      turn .inv .kinds-length,
+      turn .inv .words-length,
+      variable-refused (start .args .model .now) (start .args .start) (turn .kinds) (turn .words) (turn .at) (turn .n) (turn .inv) (
+          variable-inside (start .args .model .now) (turn .at)
+          (variable-due (start .args .model .now) (turn .at) (byte-at .ensures) (declares-variable .ensures) (if1 .taken))
+          ) (variable-due (start .args .model .now) (turn .at) (byte-at .ensures) (declares-variable .ensures) (if1 .taken)) (
+          declared-here (start .args .model .now) (turn .at) (c .before .before .before .before .before .byte-at2 .ensures) (c .before .t .given .1)
+          (c .before .before .before .variable .ensures)
+          ),
+    )
 
 same-length-5 : tie.Need-same-length-5 Inv-loop μ-loop
 same-length-5 c = omega (arith, c .before .before .before .before .loop .inv .kinds-length, c .before .before .before .before .before .before .before .before .pre .0)
@@ -141,8 +183,14 @@ same-length-6 c = omega (arith, c .before .before .before .before .loop .inv .wo
 returns-3 : tie.Need-returns-3 Inv-loop μ-loop
 returns-3 c =
     let start = c .before .before .before .before .before .before .before .before in
-    let turn = c .before .before .before .before .loop in
-    (turn .inv .kinds-length, turn .inv .words-length, variables-end (start .args .model .now) (start .args .start) (turn .kinds) (turn .words) (turn .at) (turn .n) (turn .inv) (c .if3 .taken) (variable-due (start .args .model .now) (turn .at) (c .before .before .before .byte-at .ensures) (c .before .before .declares-variable .ensures) (c .before .if1 .left)))
+    let turn = c .before .before .before .before .loop in (
+      turn .inv .kinds-length,
+      turn .inv .words-length,
+      variables-end (start .args .model .now) (start .args .start) (turn .kinds) (turn .words) (turn .at) (turn .n) (turn .inv) (c .if3 .taken) (
+          variable-due (start .args .model .now) (turn .at) (c .before .before .before .byte-at .ensures)
+          (c .before .before .declares-variable .ensures) (c .before .if1 .left)
+          ),
+    )
 
 same-length-7 : tie.Need-same-length-7 Inv-loop μ-loop
 same-length-7 c = omega (arith, c .before .before .before .before .loop .inv .kinds-length, c .before .before .before .before .before .before .before .before .pre .0)
@@ -153,8 +201,11 @@ same-length-8 c = omega (arith, c .before .before .before .before .loop .inv .wo
 returns-4 : tie.Need-returns-4 Inv-loop μ-loop
 returns-4 c =
     let start = c .before .before .before .before .before .before .before .before in
-    let turn = c .before .before .before .before .loop in
-    (turn .inv .kinds-length, turn .inv .words-length, variables-early (start .args .model .now) (start .args .start) (turn .kinds) (turn .words) (turn .at) (turn .n) (turn .inv) (c .if3 .left))
+    let turn = c .before .before .before .before .loop in (
+      turn .inv .kinds-length,
+      turn .inv .words-length,
+      variables-early (start .args .model .now) (start .args .start) (turn .kinds) (turn .words) (turn .at) (turn .n) (turn .inv) (c .if3 .left),
+    )
 
 pub variables-spec : {M : Type 1} → statement M
 variables-spec =

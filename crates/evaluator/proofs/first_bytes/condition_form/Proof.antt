@@ -47,8 +47,18 @@ returns-10 c = rw (c .match .keys10)
 returns-11 : tie.Need-returns-11
 unfolding conditionForm
 returns-11 c =
-    simp
-    (ne-eqb (c .before .args .b) 0x50 (c .match .rest .0 .0 .0 .0 .0 .0 .0 .0 .0 .1), ne-eqb (c .before .args .b) 0x51 (c .match .rest .0 .0 .0 .0 .0 .0 .0 .0 .1), ne-eqb (c .before .args .b) 0x52 (c .match .rest .0 .0 .0 .0 .0 .0 .0 .1), ne-eqb (c .before .args .b) 0x53 (c .match .rest .0 .0 .0 .0 .0 .0 .1), ne-eqb (c .before .args .b) 0x54 (c .match .rest .0 .0 .0 .0 .0 .1), ne-eqb (c .before .args .b) 0x55 (c .match .rest .0 .0 .0 .0 .1), ne-eqb (c .before .args .b) 0x56 (c .match .rest .0 .0 .0 .1), ne-eqb (c .before .args .b) 0x57 (c .match .rest .0 .0 .1), ne-eqb (c .before .args .b) 0x58 (c .match .rest .0 .1), ne-eqb (c .before .args .b) 0x59 (c .match .rest .1))
+    simp (
+      ne-eqb (c .before .args .b) 0x50 (c .match .rest .0 .0 .0 .0 .0 .0 .0 .0 .0 .1),
+      ne-eqb (c .before .args .b) 0x51 (c .match .rest .0 .0 .0 .0 .0 .0 .0 .0 .1),
+      ne-eqb (c .before .args .b) 0x52 (c .match .rest .0 .0 .0 .0 .0 .0 .0 .1),
+      ne-eqb (c .before .args .b) 0x53 (c .match .rest .0 .0 .0 .0 .0 .0 .1),
+      ne-eqb (c .before .args .b) 0x54 (c .match .rest .0 .0 .0 .0 .0 .1),
+      ne-eqb (c .before .args .b) 0x55 (c .match .rest .0 .0 .0 .0 .1),
+      ne-eqb (c .before .args .b) 0x56 (c .match .rest .0 .0 .0 .1),
+      ne-eqb (c .before .args .b) 0x57 (c .match .rest .0 .0 .1),
+      ne-eqb (c .before .args .b) 0x58 (c .match .rest .0 .1),
+      ne-eqb (c .before .args .b) 0x59 (c .match .rest .1),
+    )
 
 pub condition-form-spec : {M : Type 1} → statement M
 condition-form-spec =

@@ -55,8 +55,20 @@ returns-12 c = rw (c .match .keys12)
 returns-13 : tie.Need-returns-13
 unfolding numberForm
 returns-13 c =
-    simp
-    (ne-eqb (c .before .args .b) 0x20 (c .match .rest .0 .0 .0 .0 .0 .0 .0 .0 .0 .0 .0 .1), ne-eqb (c .before .args .b) 0x21 (c .match .rest .0 .0 .0 .0 .0 .0 .0 .0 .0 .0 .1), ne-eqb (c .before .args .b) 0x22 (c .match .rest .0 .0 .0 .0 .0 .0 .0 .0 .0 .1), ne-eqb (c .before .args .b) 0x23 (c .match .rest .0 .0 .0 .0 .0 .0 .0 .0 .1), ne-eqb (c .before .args .b) 0x24 (c .match .rest .0 .0 .0 .0 .0 .0 .0 .1), ne-eqb (c .before .args .b) 0x25 (c .match .rest .0 .0 .0 .0 .0 .0 .1), ne-eqb (c .before .args .b) 0x26 (c .match .rest .0 .0 .0 .0 .0 .1), ne-eqb (c .before .args .b) 0x27 (c .match .rest .0 .0 .0 .0 .1), ne-eqb (c .before .args .b) 0x28 (c .match .rest .0 .0 .0 .1), ne-eqb (c .before .args .b) 0x29 (c .match .rest .0 .0 .1), ne-eqb (c .before .args .b) 0x2a (c .match .rest .0 .1), ne-eqb (c .before .args .b) 0x2b (c .match .rest .1))
+    simp (
+      ne-eqb (c .before .args .b) 0x20 (c .match .rest .0 .0 .0 .0 .0 .0 .0 .0 .0 .0 .0 .1),
+      ne-eqb (c .before .args .b) 0x21 (c .match .rest .0 .0 .0 .0 .0 .0 .0 .0 .0 .0 .1),
+      ne-eqb (c .before .args .b) 0x22 (c .match .rest .0 .0 .0 .0 .0 .0 .0 .0 .0 .1),
+      ne-eqb (c .before .args .b) 0x23 (c .match .rest .0 .0 .0 .0 .0 .0 .0 .0 .1),
+      ne-eqb (c .before .args .b) 0x24 (c .match .rest .0 .0 .0 .0 .0 .0 .0 .1),
+      ne-eqb (c .before .args .b) 0x25 (c .match .rest .0 .0 .0 .0 .0 .0 .1),
+      ne-eqb (c .before .args .b) 0x26 (c .match .rest .0 .0 .0 .0 .0 .1),
+      ne-eqb (c .before .args .b) 0x27 (c .match .rest .0 .0 .0 .0 .1),
+      ne-eqb (c .before .args .b) 0x28 (c .match .rest .0 .0 .0 .1),
+      ne-eqb (c .before .args .b) 0x29 (c .match .rest .0 .0 .1),
+      ne-eqb (c .before .args .b) 0x2a (c .match .rest .0 .1),
+      ne-eqb (c .before .args .b) 0x2b (c .match .rest .1),
+    )
 
 pub number-form-spec : {M : Type 1} → statement M
 number-form-spec =

@@ -39,8 +39,16 @@ returns-8 c = rw (c .match .keys8)
 returns-9 : tie.Need-returns-9
 unfolding setForm
 returns-9 c =
-    simp
-    (ne-eqb (c .before .args .b) 0x40 (c .match .rest .0 .0 .0 .0 .0 .0 .0 .1), ne-eqb (c .before .args .b) 0x41 (c .match .rest .0 .0 .0 .0 .0 .0 .1), ne-eqb (c .before .args .b) 0x42 (c .match .rest .0 .0 .0 .0 .0 .1), ne-eqb (c .before .args .b) 0x43 (c .match .rest .0 .0 .0 .0 .1), ne-eqb (c .before .args .b) 0x44 (c .match .rest .0 .0 .0 .1), ne-eqb (c .before .args .b) 0x45 (c .match .rest .0 .0 .1), ne-eqb (c .before .args .b) 0x46 (c .match .rest .0 .1), ne-eqb (c .before .args .b) 0x47 (c .match .rest .1))
+    simp (
+      ne-eqb (c .before .args .b) 0x40 (c .match .rest .0 .0 .0 .0 .0 .0 .0 .1),
+      ne-eqb (c .before .args .b) 0x41 (c .match .rest .0 .0 .0 .0 .0 .0 .1),
+      ne-eqb (c .before .args .b) 0x42 (c .match .rest .0 .0 .0 .0 .0 .1),
+      ne-eqb (c .before .args .b) 0x43 (c .match .rest .0 .0 .0 .0 .1),
+      ne-eqb (c .before .args .b) 0x44 (c .match .rest .0 .0 .0 .1),
+      ne-eqb (c .before .args .b) 0x45 (c .match .rest .0 .0 .1),
+      ne-eqb (c .before .args .b) 0x46 (c .match .rest .0 .1),
+      ne-eqb (c .before .args .b) 0x47 (c .match .rest .1),
+    )
 
 pub set-form-spec : {M : Type 1} → statement M
 set-form-spec =

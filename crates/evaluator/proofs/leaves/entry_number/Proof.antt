@@ -33,8 +33,13 @@ entry-requires c κs = let h = rw (← (c .two-elements .ensures)) at (elements-
 
 add-ranged : tie.Need-add-ranged
 add-ranged c =
-    omega
-    (arith, rw (← (c .before .before .two-elements .ensures)) at (elements-used (c .before .before .before .before .before .before .before .before .before .before .before .args .state .now) (c .before .before .before .after .result .now)))
+    omega (
+      arith,
+      rw (← (c .before .before .two-elements .ensures)) at (
+          elements-used (c .before .before .before .before .before .before .before .before .before .before .before .args .state .now)
+          (c .before .before .before .after .result .now)
+          ),
+    )
 
 ranged-requires : tie.Need-ranged-requires
 ranged-requires c κs = search needs
@@ -43,7 +48,15 @@ returns-2 : tie.Need-returns-2
 unfolding entryOf
 returns-2 c = let f : SFits w64 (c .before .before .entry .result) = record { sfits = omega (arith, c .before .before .entry .ensures .1) } in
     rw (rw (back f, c .before .before .entry .ensures .0, c .before .before .before .two-elements .ensures, c .before .before .before .before .after .ensures, c .before .before .before .before .before .word-at .ensures, c .before .before .before .before .before .before .name .ensures) at (c .ranged .ensures))
-    (sym (entry-some (c .before .before .before .before .before .before .before .before .before .before .before .before .args .model .now) (c .before .before .before .before .before .before .before .before .before .before .before .before .args .state .now) (c .before .before .before .before .before .before .before .before .before .before .before .before .args .tables .now) (c .before .before .before .before .before .before .before .before .before .before .before .before .args .e .now) (c .before .before .before .before .before .before .before .if1 .left)))
+    (
+    sym (
+    entry-some (c .before .before .before .before .before .before .before .before .before .before .before .before .args .model .now)
+    (c .before .before .before .before .before .before .before .before .before .before .before .before .args .state .now)
+    (c .before .before .before .before .before .before .before .before .before .before .before .before .args .tables .now)
+    (c .before .before .before .before .before .before .before .before .before .before .before .before .args .e .now)
+    (c .before .before .before .before .before .before .before .if1 .left)
+    )
+    )
 
 pub entry-number-spec : {M : Type 1} → statement M
 entry-number-spec =

@@ -18,8 +18,12 @@ add-set-near : tie.Need-add-set-near
 add-set-near c =
     let a = c .before .before .before .before .before .before .args in
     let after = c .before .before .after in
-    omega
-    (arith, element-past (a .state .now) (a .at) (a .e .now) (after .result .now) (c .before .element .result) (after .ensures) (c .before .element .ensures .0), c .before .before .before .before .before .before .good .0 .1)
+    omega (
+      arith,
+      element-past (a .state .now) (a .at) (a .e .now) (after .result .now) (c .before .element .result) (after .ensures)
+          (c .before .element .ensures .0),
+      c .before .before .before .before .before .before .good .0 .1,
+    )
 
 set-near-requires : tie.Need-set-near-requires
 set-near-requires c κs = search needs
@@ -33,8 +37,12 @@ add-t9 c =
     let after = c .before .before .before .before .before .before .after in
     let element = c .before .before .before .before .before .element in
     let set-near = c .before .before .before .set-near in
-    omega
-    (arith, element-past (a .state .now) (a .at) (a .e .now) (after .result .now) (element .result) (after .ensures) (element .ensures .0), set-past (a .depth) (a .state .now) (a .full .now) (a .at + element .result .used) (a .e .now) (set-near .result) (set-near .ensures), c .before .before .before .before .before .before .before .before .before .before .good .0 .1)
+    omega (
+      arith,
+      element-past (a .state .now) (a .at) (a .e .now) (after .result .now) (element .result) (after .ensures) (element .ensures .0),
+      set-past (a .depth) (a .state .now) (a .full .now) (a .at + element .result .used) (a .e .now) (set-near .result) (set-near .ensures),
+      c .before .before .before .before .before .before .before .before .before .before .good .0 .1,
+    )
 
 returns : tie.Need-returns
 unfolding memberOf elementThenSet

@@ -26,7 +26,13 @@ ranged-requires c κs = search needs
 
 returns-2 : tie.Need-returns-2
 returns-2 c = let f : SFits w64 (c .before .signed-word .result) = record { sfits = omega (arith, c .before .signed-word .ensures .1) } in
-    rw (rw (back f, c .before .signed-word .ensures .0, c .before .before .word-at .ensures, c .before .before .before .name .ensures) at (c .ranged .ensures)) (sym (number-variable-some (c .before .before .before .before .before .before .before .args .state .now) (c .before .before .before .before .before .before .before .args .e .now) (c .before .before .before .before .if1 .left)))
+    rw (rw (back f, c .before .signed-word .ensures .0, c .before .before .word-at .ensures, c .before .before .before .name .ensures) at (c .ranged .ensures))
+    (
+    sym (
+    number-variable-some (c .before .before .before .before .before .before .before .args .state .now)
+    (c .before .before .before .before .before .before .before .args .e .now) (c .before .before .before .before .if1 .left)
+    )
+    )
 
 pub number-variable-spec : {M : Type 1} → statement M
 number-variable-spec =

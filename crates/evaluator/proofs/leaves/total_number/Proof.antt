@@ -43,8 +43,12 @@ add-ranged : tie.Need-add-ranged
 add-ranged c =
     let a = c .before .before .before .before .before .before .before .before .before .before .before .before .args in
     let h = set-element-within (a .state .now) (λ f. runSet (a .depth) (a .state .now) (a .full .now) f) (λ f. set-within (a .depth) (a .state .now) (a .full .now) f) (drop (a .at + 1) (a .e .now)) in
-    omega
-    (arith, rw (← (c .before .before .set-then-element .ensures)) at h, length-drop (a .at + 1) (a .e .now), c .before .before .before .before .before .before .before .before .before .before .before .before .good .0 .1)
+    omega (
+      arith,
+      rw (← (c .before .before .set-then-element .ensures)) at h,
+      length-drop (a .at + 1) (a .e .now),
+      c .before .before .before .before .before .before .before .before .before .before .before .before .good .0 .1,
+    )
 
 ranged-requires : tie.Need-ranged-requires
 ranged-requires c κs = search needs
@@ -55,7 +59,12 @@ returns-2 c =
     let a = c .before .before .before .before .before .before .before .before .before .before .before .before .before .args in
     let f : SFits w64 (c .before .before .total .result) = search needs in
     rw (rw (back f, c .before .before .total .ensures, c .before .before .before .set-then-element .ensures, behind (a .at) 1 (a .e .now), c .before .before .before .before .word-at .ensures, c .before .before .before .before .before .name .ensures, c .before .before .before .before .before .before .after .ensures) at (c .ranged .ensures))
-    (sym (total-some (a .model .now) (a .state .now) (a .tables .now) _ (drop (a .at) (a .e .now)) (some-behind (a .at) (a .e .now) (c .before .before .before .before .before .before .before .if1 .left))))
+    (
+    sym (
+    total-some (a .model .now) (a .state .now) (a .tables .now) _ (drop (a .at) (a .e .now))
+    (some-behind (a .at) (a .e .now) (c .before .before .before .before .before .before .before .if1 .left))
+    )
+    )
 
 pub total-number-spec : {M : Type 1} → statement M
 total-number-spec = tie.close (tie.spec returns after-requires name-requires word-at-requires add-set-then-element set-then-element-requires total-requires add-ranged ranged-requires returns-2)

@@ -93,8 +93,12 @@ element-then-set-add-set-from : (t : ℕ) → element-then-set-lts.Need-add-set-
 element-then-set-add-set-from t c =
     let a = c .before .before .before .before .before .before .args in
     let after = c .before .before .after in
-    omega
-    (arith, element-past (a .state .now) (a .at) (a .e .now) (after .result .now) (c .before .element .result) (after .ensures) (c .before .element .ensures .0), c .before .before .before .before .before .before .good .0 .1)
+    omega (
+      arith,
+      element-past (a .state .now) (a .at) (a .e .now) (after .result .now) (c .before .element .result) (after .ensures)
+          (c .before .element .ensures .0),
+      c .before .before .before .before .before .before .good .0 .1,
+    )
 
 element-then-set-set-from-requires : (t : ℕ) → element-then-set-lts.Need-set-from-requires (element-then-set-calls t) (element-then-set-at t) element-then-set.Post
 element-then-set-set-from-requires t c κs =
@@ -106,8 +110,12 @@ element-then-set-add-t9 t c =
     let after = c .before .before .before .before .before .after in
     let element = c .before .before .before .before .element in
     let set-from = c .before .before .set-from in
-    omega
-    (arith, element-past (a .state .now) (a .at) (a .e .now) (after .result .now) (element .result) (after .ensures) (element .ensures .0), set-past (a .depth) (a .state .now) (a .full .now) (a .at + element .result .used) (a .e .now) (set-from .result) (set-from .ensures), c .before .before .before .before .before .before .before .before .before .good .0 .1)
+    omega (
+      arith,
+      element-past (a .state .now) (a .at) (a .e .now) (after .result .now) (element .result) (after .ensures) (element .ensures .0),
+      set-past (a .depth) (a .state .now) (a .full .now) (a .at + element .result .used) (a .e .now) (set-from .result) (set-from .ensures),
+      c .before .before .before .before .before .before .before .before .before .good .0 .1,
+    )
 
 element-then-set-returns : (t : ℕ) → element-then-set-lts.Need-returns (element-then-set-calls t) (element-then-set-at t) element-then-set.Post
 unfolding elementSet
@@ -237,7 +245,12 @@ set-from-returns-3 : (t : ℕ) → set-from-lts.Need-returns-3 (set-from-calls t
 set-from-returns-3 t c =
     let a = c .before .before .before .before .before .before .before .before .before .args in
     rw (c .set-past .ensures, c .before .set-behind .ensures, c .before .before .set-form .ensures, behind (a .at) 1 (a .e .now), first-at (a .at) (a .e .now))
-    (sym (set-open (a .state .now) (a .full .now) (a .depth) (drop (a .at) (a .e .now)) (c .before .before .before .before .before .if1 .left) (some-behind (a .at) (a .e .now) (c .before .before .before .before .if2 .left))))
+    (
+    sym (
+    set-open (a .state .now) (a .full .now) (a .depth) (drop (a .at) (a .e .now)) (c .before .before .before .before .before .if1 .left)
+    (some-behind (a .at) (a .e .now) (c .before .before .before .before .if2 .left))
+    )
+    )
 
 two-sets-set-from-requires : (t : ℕ) → two-sets-lts.Need-set-from-requires (two-sets-calls t) (two-sets-at t) two-sets.Post
 two-sets-set-from-requires t c κs =
@@ -246,8 +259,11 @@ two-sets-set-from-requires t c κs =
 two-sets-add-set-from : (t : ℕ) → two-sets-lts.Need-add-set-from (two-sets-calls t) (two-sets-at t) two-sets.Post
 two-sets-add-set-from t c =
     let a = c .before .before .before .before .before .args in
-    omega
-    (arith, set-past (a .depth) (a .state .now) (a .full .now) (a .at) (a .e .now) (c .before .set-from .result) (c .before .set-from .ensures), c .before .before .before .before .before .good .0 .1)
+    omega (
+      arith,
+      set-past (a .depth) (a .state .now) (a .full .now) (a .at) (a .e .now) (c .before .set-from .result) (c .before .set-from .ensures),
+      c .before .before .before .before .before .good .0 .1,
+    )
 
 two-sets-set-from-requires-2 : (t : ℕ) → two-sets-lts.Need-set-from-requires-2 (two-sets-calls t) (two-sets-at t) two-sets.Post
 two-sets-set-from-requires-2 t c κs =
@@ -258,8 +274,12 @@ two-sets-add-t8 t c =
     let a = c .before .before .before .before .before .before .before .before .args in
     let set-from = c .before .before .before .before .set-from in
     let set-from2 = c .before .before .set-from2 in
-    omega
-    (arith, set-past (a .depth) (a .state .now) (a .full .now) (a .at) (a .e .now) (set-from .result) (set-from .ensures), set-past (a .depth) (a .state .now) (a .full .now) (a .at + set-from .result .used) (a .e .now) (set-from2 .result) (set-from2 .ensures), c .before .before .before .before .before .before .before .before .good .0 .1)
+    omega (
+      arith,
+      set-past (a .depth) (a .state .now) (a .full .now) (a .at) (a .e .now) (set-from .result) (set-from .ensures),
+      set-past (a .depth) (a .state .now) (a .full .now) (a .at + set-from .result .used) (a .e .now) (set-from2 .result) (set-from2 .ensures),
+      c .before .before .before .before .before .before .before .before .good .0 .1,
+    )
 
 two-sets-returns : (t : ℕ) → two-sets-lts.Need-returns (two-sets-calls t) (two-sets-at t) two-sets.Post
 unfolding twoSets

@@ -34,14 +34,21 @@ returns-3 : tie.Need-returns-3
 unfolding runElement elementOf
 returns-3 c =
     let start = c .before .before .before .before .before .before .before in
-    element-kept (start .args .state .now) (start .args .e .now) (rw (le-ltb (length (start .args .e .now)) 2 (c .before .before .before .before .if1 .left), c .before .match .keys2, c .word-at .ensures))
+    element-kept (start .args .state .now) (start .args .e .now)
+    (rw (le-ltb (length (start .args .e .now)) 2 (c .before .before .before .before .if1 .left), c .before .match .keys2, c .word-at .ensures))
 
 returns-4 : tie.Need-returns-4
 unfolding runElement elementOf
 returns-4 c =
     let start = c .before .before .before .before .before .before in
     element-kept (start .args .state .now) (start .args .e .now)
-    (simp (le-ltb (length (start .args .e .now)) 2 (c .before .before .before .if1 .left), ne-eqb (getD (start .args .e .now) 0 0) 0x30 (c .match .rest .0 .1), ne-eqb (getD (start .args .e .now) 0 0) 0x31 (c .match .rest .1)))
+    (
+    simp (
+      le-ltb (length (start .args .e .now)) 2 (c .before .before .before .if1 .left),
+      ne-eqb (getD (start .args .e .now) 0 0) 0x30 (c .match .rest .0 .1),
+      ne-eqb (getD (start .args .e .now) 0 0) 0x31 (c .match .rest .1),
+    )
+    )
 
 pub element-spec : {M : Type 1} → statement M
 element-spec =

@@ -46,7 +46,12 @@ full-requires c κs = search needs
 
 returns-3 : tie.Need-returns-3
 returns-3 c = rw (c .full .ensures, c .before .before .before .before .wide .ensures .0)
-    (sym (literal-few (c .before .before .before .before .before .before .before .before .args .e .now) (c .before .long .result) (omega arith) (omega (arith, c .before .before .before .before .wide .ensures .0)) (rw suffix at (c .before .long .ensures))))
+    (
+    sym (
+    literal-few (c .before .before .before .before .before .before .before .before .args .e .now) (c .before .long .result) (omega arith)
+    (omega (arith, c .before .before .before .before .wide .ensures .0)) (rw suffix at (c .before .long .ensures))
+    )
+    )
 
 pub literal-set-spec : {M : Type 1} → statement M
 literal-set-spec =

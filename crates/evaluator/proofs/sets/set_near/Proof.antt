@@ -46,7 +46,14 @@ returns-3 : tie.Need-returns-3
 returns-3 c =
     let a = c .before .before .before .before .before .before .before .before .before .before .args in
     rw (c .set-past .ensures, c .before .set-variable .ensures, c .before .before .after .ensures, behind (a .at) 1 (a .e .now))
-    (sym (set-variable-open (a .state .now) (a .full .now) (a .depth) (drop (a .at) (a .e .now)) (c .before .before .before .before .before .before .if1 .left) (some-behind (a .at) (a .e .now) (c .before .before .before .before .before .if2 .left)) (sym (first-at (a .at) (a .e .now)) ∙ c .before .before .before .if3 .taken)))
+    (
+    sym (
+    set-variable-open (a .state .now) (a .full .now) (a .depth) (drop (a .at) (a .e .now))
+    (c .before .before .before .before .before .before .if1 .left)
+    (some-behind (a .at) (a .e .now) (c .before .before .before .before .before .if2 .left))
+    (sym (first-at (a .at) (a .e .now)) ∙ c .before .before .before .if3 .taken)
+    )
+    )
 
 set-from-requires : tie.Need-set-from-requires
 set-from-requires c κs = search needs

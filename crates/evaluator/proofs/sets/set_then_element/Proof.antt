@@ -13,8 +13,11 @@ set-from-requires c κs = search needs
 add-after : tie.Need-add-after
 add-after c =
     let a = c .before .before .before .before .before .args in
-    omega
-    (arith, set-past (a .depth) (a .state .now) (a .full .now) (a .at) (a .e .now) (c .before .set-from .result) (c .before .set-from .ensures), c .before .before .before .before .before .good .0 .1)
+    omega (
+      arith,
+      set-past (a .depth) (a .state .now) (a .full .now) (a .at) (a .e .now) (c .before .set-from .result) (c .before .set-from .ensures),
+      c .before .before .before .before .before .good .0 .1,
+    )
 
 after-requires : tie.Need-after-requires
 after-requires c κs = search needs
@@ -26,8 +29,12 @@ add-t9 : tie.Need-add-t9
 add-t9 c =
     let a = c .before .before .before .before .before .before .before .before .before .args in
     let set-from = c .before .before .before .before .before .set-from in
-    omega
-    (arith, set-past (a .depth) (a .state .now) (a .full .now) (a .at) (a .e .now) (set-from .result) (set-from .ensures), rw (← (c .before .before .element .ensures .0)) at (element-used (a .state .now) (c .before .before .before .after .result .now)), c .before .before .before .before .before .before .before .before .before .good .0 .1)
+    omega (
+      arith,
+      set-past (a .depth) (a .state .now) (a .full .now) (a .at) (a .e .now) (set-from .result) (set-from .ensures),
+      rw (← (c .before .before .element .ensures .0)) at (element-used (a .state .now) (c .before .before .before .after .result .now)),
+      c .before .before .before .before .before .before .before .before .before .good .0 .1,
+    )
 
 returns : tie.Need-returns
 unfolding setThenElement

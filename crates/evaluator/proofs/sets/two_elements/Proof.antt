@@ -18,8 +18,11 @@ element-requires-2 c κs = search needs
 add-t6 : tie.Need-add-t6
 add-t6 c =
     let start = c .before .before .before .before .before .before .before in
-    omega
-    (arith, rw (← (c .before .before .before .before .element .ensures .0)) at (element-used (start .args .state .now) (start .args .e .now)), rw (← (c .before .before .element2 .ensures .0)) at (element-used (start .args .state .now) (c .before .before .before .after .result .now)))
+    omega (
+      arith,
+      rw (← (c .before .before .before .before .element .ensures .0)) at (element-used (start .args .state .now) (start .args .e .now)),
+      rw (← (c .before .before .element2 .ensures .0)) at (element-used (start .args .state .now) (c .before .before .before .after .result .now)),
+    )
 
 returns : tie.Need-returns
 unfolding twoElements

@@ -27,8 +27,11 @@ slice-write-child-2 c = search needs
 
 combine-requires-2 : tie.Need-combine-requires-2
 combine-requires-2 c κs =
-    let start = c .before .before .before .before .before .before .before .before .before .before .before .before in
-    (start .pre .1 .0, f-fits _ _ _ _ _ _ (start .pre .1 .1 .1 .0) (start .pre .1 .1 .1 .1 .1 .1 .0) (c .before .before .before .before .before .combine .ensures) (sym (c .before .before .before .bound .ensures) ∙ c .before .h .given .1))
+    let start = c .before .before .before .before .before .before .before .before .before .before .before .before in (
+      start .pre .1 .0,
+      f-fits _ _ _ _ _ _ (start .pre .1 .1 .1 .0) (start .pre .1 .1 .1 .1 .1 .1 .0) (c .before .before .before .before .before .combine .ensures)
+          (sym (c .before .before .before .bound .ensures) ∙ c .before .h .given .1),
+    )
 
 slice-write-child-3 : tie.Need-slice-write-child-3
 slice-write-child-3 c =

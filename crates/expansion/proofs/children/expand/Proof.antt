@@ -23,8 +23,28 @@ loop-holds c =
 
 try-transition-requires : tie.Need-try-transition-requires Inv-loop μ-loop
 try-transition-requires c κs =
-    let start = c .before .before .before .before .before .before .before .before in
-    (c .before .before .loop .inv .held, (start .pre .1 .0, (start .pre .1 .1 .0, (start .pre .1 .1 .1 .0, (start .pre .1 .1 .1 .1, omega (arith, c .before .loop-test .taken, c .before .before .before .word-at .ensures, transitions-in (start .pre .1 .0), few-in (start .pre .1 .0)))))))
+    let start = c .before .before .before .before .before .before .before .before in (
+      c .before .before .loop .inv .held,
+      (
+        start .pre .1 .0,
+        (
+          start .pre .1 .1 .0,
+          (
+            start .pre .1 .1 .1 .0,
+            (
+              start .pre .1 .1 .1 .1,
+              omega (
+                arith,
+                c .before .loop-test .taken,
+                c .before .before .before .word-at .ensures,
+                transitions-in (start .pre .1 .0),
+                few-in (start .pre .1 .0),
+              ),
+            ),
+          ),
+        ),
+      ),
+    )
 
 either-requires : tie.Need-either-requires Inv-loop μ-loop
 either-requires c κs = search needs
@@ -43,7 +63,14 @@ loop-again c =
     let start = c .before .before .before .before .before .before .before .before .before .before .before .before .before .before in
     let try-transition = c .before .before .before .before .before .try-transition in
     expanding-more _ _ _ _ _ _ _ _ _ (c .before .before .before .before .before .before .before .before .loop .inv)
-    (omega (arith, c .before .before .before .before .before .before .before .loop-test .taken, c .before .before .before .before .before .before .before .before .before .word-at .ensures, transitions-in (start .pre .1 .0)))
+    (
+    omega (
+      arith,
+      c .before .before .before .before .before .before .before .loop-test .taken,
+      c .before .before .before .before .before .before .before .before .before .word-at .ensures,
+      transitions-in (start .pre .1 .0),
+    )
+    )
     (try-transition .ensures) (c .before .before .either .ensures) (try-transition .kept .0) (c .enum-told .given .1)
 
 enum-known-trial : tie.Need-enum-known-trial Inv-loop μ-loop
@@ -56,7 +83,14 @@ returns : tie.Need-returns Inv-loop μ-loop
 returns c =
     let start = c .before .before .before .before .before .before .before .before .before .before .before .before .before .before .before in
     expanded-before _ _ _ _ _ _ _ _ _ (c .before .before .before .before .before .before .before .before .before .loop .inv)
-    (omega (arith, c .before .before .before .before .before .before .before .before .loop-test .taken, c .before .before .before .before .before .before .before .before .before .before .word-at .ensures, transitions-in (start .pre .1 .0)))
+    (
+    omega (
+      arith,
+      c .before .before .before .before .before .before .before .before .loop-test .taken,
+      c .before .before .before .before .before .before .before .before .before .before .word-at .ensures,
+      transitions-in (start .pre .1 .0),
+    )
+    )
     (c .before .before .before .before .before .before .try-transition .ensures) (c .before .before .before .either .ensures)
     (c .before .trial .given .1)
 
@@ -70,7 +104,14 @@ returns-2 : tie.Need-returns-2 Inv-loop μ-loop
 returns-2 c =
     let start = c .before .before .before .before .before .before .before .before .before .before .before .before .before .before .before in
     expanded-at _ _ _ _ _ _ _ _ _ (c .before .before .before .before .before .before .before .before .before .loop .inv)
-    (omega (arith, c .before .before .before .before .before .before .before .before .loop-test .taken, c .before .before .before .before .before .before .before .before .before .before .word-at .ensures, transitions-in (start .pre .1 .0)))
+    (
+    omega (
+      arith,
+      c .before .before .before .before .before .before .before .before .loop-test .taken,
+      c .before .before .before .before .before .before .before .before .before .before .word-at .ensures,
+      transitions-in (start .pre .1 .0),
+    )
+    )
     (c .before .before .before .before .before .before .try-transition .ensures) (c .before .before .before .either .ensures)
     (c .before .trial2 .given .1)
 

@@ -22,8 +22,28 @@ slice-aggregate-bounded c = search needs
 
 bounded-requires : tie.Need-bounded-requires
 bounded-requires c κs =
-    let start = c .before .before .before .before .before .before .before .before .before .before .before .before in
-    (start .pre .0, (start .pre .1 .0, (start .pre .1 .1 .0, (start .pre .1 .1 .1 .0, (start .pre .1 .1 .1 .1 .0, (start .pre .1 .1 .1 .1 .1, (moved-small (c .before .before .before .before .before .before .step .ensures) (c .before .before .before .c .given .1), search needs)))))))
+    let start = c .before .before .before .before .before .before .before .before .before .before .before .before in (
+      start .pre .0,
+      (
+        start .pre .1 .0,
+        (
+          start .pre .1 .1 .0,
+          (
+            start .pre .1 .1 .1 .0,
+            (
+              start .pre .1 .1 .1 .1 .0,
+              (
+                start .pre .1 .1 .1 .1 .1,
+                (
+                  moved-small (c .before .before .before .before .before .before .step .ensures) (c .before .before .before .c .given .1),
+                  search needs,
+                ),
+              ),
+            ),
+          ),
+        ),
+      ),
+    )
 
 enum-known-e : tie.Need-enum-known-e
 enum-known-e c = search needs

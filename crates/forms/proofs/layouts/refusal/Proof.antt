@@ -26,8 +26,11 @@ is-among-requires-3 c κs = search needs
 returns-3 : tie.Need-returns-3
 unfolding refusalOf beginsExpression
 returns-3 c =
-    rw
-    (sym (c .before .before .before .before .before .is-among .ensures) ∙ c .before .before .before .before .if1 .left, sym (c .before .before .before .is-among2 .ensures) ∙ c .before .before .if2 .left, sym (c .before .is-among3 .ensures) ∙ c .if3 .taken)
+    rw (
+      sym (c .before .before .before .before .before .is-among .ensures) ∙ c .before .before .before .before .if1 .left,
+      sym (c .before .before .before .is-among2 .ensures) ∙ c .before .before .if2 .left,
+      sym (c .before .is-among3 .ensures) ∙ c .if3 .taken,
+    )
 
 is-among-requires-4 : tie.Need-is-among-requires-4
 is-among-requires-4 c κs = search needs
@@ -35,14 +38,24 @@ is-among-requires-4 c κs = search needs
 returns-4 : tie.Need-returns-4
 unfolding refusalOf beginsExpression
 returns-4 c =
-    rw
-    (sym (c .before .before .before .before .before .before .before .is-among .ensures) ∙ c .before .before .before .before .before .before .if1 .left, sym (c .before .before .before .before .before .is-among2 .ensures) ∙ c .before .before .before .before .if2 .left, sym (c .before .before .before .is-among3 .ensures) ∙ c .before .before .if3 .left, sym (c .before .is-among4 .ensures) ∙ c .if4 .taken)
+    rw (
+      sym (c .before .before .before .before .before .before .before .is-among .ensures)
+          ∙ c .before .before .before .before .before .before .if1 .left,
+      sym (c .before .before .before .before .before .is-among2 .ensures) ∙ c .before .before .before .before .if2 .left,
+      sym (c .before .before .before .is-among3 .ensures) ∙ c .before .before .if3 .left,
+      sym (c .before .is-among4 .ensures) ∙ c .if4 .taken,
+    )
 
 returns-5 : tie.Need-returns-5
 unfolding refusalOf beginsExpression
 returns-5 c =
-    rw
-    (sym (c .before .before .before .before .before .before .before .is-among .ensures) ∙ c .before .before .before .before .before .before .if1 .left, sym (c .before .before .before .before .before .is-among2 .ensures) ∙ c .before .before .before .before .if2 .left, sym (c .before .before .before .is-among3 .ensures) ∙ c .before .before .if3 .left, sym (c .before .is-among4 .ensures) ∙ c .if4 .left)
+    rw (
+      sym (c .before .before .before .before .before .before .before .is-among .ensures)
+          ∙ c .before .before .before .before .before .before .if1 .left,
+      sym (c .before .before .before .before .before .is-among2 .ensures) ∙ c .before .before .before .before .if2 .left,
+      sym (c .before .before .before .is-among3 .ensures) ∙ c .before .before .if3 .left,
+      sym (c .before .is-among4 .ensures) ∙ c .if4 .left,
+    )
 
 pub refusal-spec : {M : Type 1} → statement M
 refusal-spec =

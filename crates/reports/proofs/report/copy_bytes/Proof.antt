@@ -32,8 +32,14 @@ loop-less c = search needs
 
 loop-again : tie.Need-loop-again Inv-loop μ-loop
 loop-again c =
-    let turn = c .before .before .loop in
-    (search needs, (search needs, copied-more (c .before .before .before .args .from .now) (c .before .before .before .args .to .now) (turn .to) (turn .i) (omega arith) (omega arith) (turn .inv .1 .1)))
+    let turn = c .before .before .loop in (
+      search needs,
+      (
+        search needs,
+        copied-more (c .before .before .before .args .from .now) (c .before .before .before .args .to .now) (turn .to) (turn .i) (omega arith)
+            (omega arith) (turn .inv .1 .1),
+      ),
+    )
 
 same-length : tie.Need-same-length Inv-loop μ-loop
 same-length c = search needs
@@ -41,7 +47,8 @@ same-length c = search needs
 returns : tie.Need-returns Inv-loop μ-loop
 returns c =
     let turn = c .before .loop in
-    copied-whole (c .before .before .args .from .now) (c .before .before .args .to .now) (turn .to) (c .before .before .args .n) (turn .i) (omega arith) (omega arith) (turn .inv .1 .1)
+    copied-whole (c .before .before .args .from .now) (c .before .before .args .to .now) (turn .to) (c .before .before .args .n) (turn .i)
+    (omega arith) (omega arith) (turn .inv .1 .1)
 
 pub copy-bytes-spec : {M : Type 1} → statement M
 copy-bytes-spec =

@@ -72,7 +72,8 @@ returns-3 : tie.Need-returns-3
 returns-3 c =
     let pre = c .before .before .before .before .before .before .before .before .before .before .before .pre in
     let ends = inside-beyond _ (c .before .before .before .before .before .before .ending3 .given .1) (pre .inside) in
-    reports-beyond _ _ _ _ _ _ _ _ _ _ (c .before .before .before .before .before .before .ending3 .given .1) (omega arith) (c .refused2 .ensures) (c .before .before .before .trace2 .ensures)
+    reports-beyond _ _ _ _ _ _ _ _ _ _ (c .before .before .before .before .before .before .ending3 .given .1) (omega arith) (c .refused2 .ensures)
+    (c .before .before .before .trace2 .ensures)
 
 pub report-spec : {M : Type 1} → statement M
 report-spec =

@@ -21,8 +21,13 @@ layer-end-requires c κs =
 move-on-requires : tie.Need-move-on-requires
 move-on-requires c κs =
     let start = c .before .before .before .before .before .before .before .before .before .before .before .before .before .before .before .before .before in
-    let taken = c .before .before .before .before .before .before .before .before .before .before .layer in
-    (c .before .layer-end .ensures .layer, (width-positive (taken .ensures .held), (start .pre .0 .narrow, (start .pre .0 .depth, (start .pre .0 .few-steps, omega (arith, start .pre .1 .1, taken .kept .0))))))
+    let taken = c .before .before .before .before .before .before .before .before .before .before .layer in (
+      c .before .layer-end .ensures .layer,
+      (
+        width-positive (taken .ensures .held),
+        (start .pre .0 .narrow, (start .pre .0 .depth, (start .pre .0 .few-steps, omega (arith, start .pre .1 .1, taken .kept .0)))),
+      ),
+    )
 
 enum-known-next : tie.Need-enum-known-next
 enum-known-next c = search needs

@@ -40,8 +40,10 @@ turn-requires-2 c κs =
     let loop = c .before .before .before .before .loop in
     let first = c .before .before .before .before .before .before .before .before .before .turn in
     let begun = c .before .before .before .before .before .before .before .before .before .before .before .before .before .before .start-round in
-    let loop-test = c .before .before .before .loop-test in
-    (ready-next (loop .inv .0) (loop-test .taken), (loop .inv .0 .now .goes-on (loop-test .taken) .1, omega (arith, start .pre .1 .0 .words-room, loop .inv .1 .0, begun .kept .0, first .kept .0)))
+    let loop-test = c .before .before .before .loop-test in (
+      ready-next (loop .inv .0) (loop-test .taken),
+      (loop .inv .0 .now .goes-on (loop-test .taken) .1, omega (arith, start .pre .1 .0 .words-room, loop .inv .1 .0, begun .kept .0, first .kept .0)),
+    )
 
 loop-less : tie.Need-loop-less Inv-loop μ-loop
 loop-less c =
@@ -51,8 +53,10 @@ loop-less c =
 loop-again : tie.Need-loop-again Inv-loop μ-loop
 loop-again c =
     let loop = c .before .before .before .before .before .before .before .before .before .loop in
-    let turn2 = c .before .before .before .before .turn2 in
-    (going-more (loop .inv .0) (c .before .before .before .before .before .before .before .before .loop-test .taken) (turn2 .ensures), (turn2 .kept .0 ∙ loop .inv .1 .0, turn2 .kept .1 .0 ∙ loop .inv .1 .1))
+    let turn2 = c .before .before .before .before .turn2 in (
+      going-more (loop .inv .0) (c .before .before .before .before .before .before .before .before .loop-test .taken) (turn2 .ensures),
+      (turn2 .kept .0 ∙ loop .inv .1 .0, turn2 .kept .1 .0 ∙ loop .inv .1 .1),
+    )
 
 same-length : tie.Need-same-length Inv-loop μ-loop
 same-length c =

@@ -26,8 +26,19 @@ take-node-requires : tie.Need-take-node-requires Inv-loop μ-loop
 take-node-requires c κs =
     let start = c .before .before .before .before in
     let turn = c .before .before .loop in
-    let h : turn .i < start .args .n = c .before .loop-test .taken in
-    (omega (arith, few-in (start .pre .0)), (start .pre .1 .1 .0, (omega arith, (omega (arith, turn .inv .1 .long, start .pre .1 .1 .1 .1), still-inside (start .args .words .now) (start .pre .0) (turn .words) (start .args .k + 1) (turn .i) (turn .inv .1) h))))
+    let h : turn .i < start .args .n = c .before .loop-test .taken in (
+      omega (arith, few-in (start .pre .0)),
+      (
+        start .pre .1 .1 .0,
+        (
+          omega arith,
+          (
+            omega (arith, turn .inv .1 .long, start .pre .1 .1 .1 .1),
+            still-inside (start .args .words .now) (start .pre .0) (turn .words) (start .args .k + 1) (turn .i) (turn .inv .1) h,
+          ),
+        ),
+      ),
+    )
 
 add-i : tie.Need-add-i Inv-loop μ-loop
 add-i c = search needs
@@ -40,8 +51,12 @@ loop-again c =
     let start = c .before .before .before .before .before .before .before in
     let turn = c .before .before .before .before .before .loop in
     let node = c .before .before .take-node in
-    let h : turn .i < start .args .n = c .before .before .before .before .loop-test .taken in
-    (omega arith, gathered-more (start .args .words .now) (turn .words) (node .last .0) (start .args .w) (start .args .k + 1) (turn .i) (omega (arith, few-in (start .pre .0))) (place-inside (start .args .words .now) (start .pre .0) (turn .i) h) (node .kept .0) (turn .inv .1) (node .ensures))
+    let h : turn .i < start .args .n = c .before .before .before .before .loop-test .taken in (
+      omega arith,
+      gathered-more (start .args .words .now) (turn .words) (node .last .0) (start .args .w) (start .args .k + 1) (turn .i)
+          (omega (arith, few-in (start .pre .0))) (place-inside (start .args .words .now) (start .pre .0) (turn .i) h) (node .kept .0) (turn .inv .1)
+          (node .ensures),
+    )
 
 mul-a : tie.Need-mul-a Inv-loop μ-loop
 mul-a c = search needs
@@ -82,7 +97,8 @@ returns c =
     let turn = c .before .before .before .before .before .loop in
     let z : turn .i ≡ start .args .n = omega (arith, turn .inv .0, c .before .before .before .before .loop-test .left) in
     let g : Gathered (start .args .words .now) (turn .words) (start .args .w) (start .args .k + 1) (start .args .n) = subst (Gathered (start .args .words .now) (turn .words) (start .args .w) (start .args .k + 1)) z (turn .inv .1) in
-    all-taken (start .args .words .now) (turn .words) (c .before .before .empty .last .0) (start .args .w) (start .args .k) (start .args .n) (start .pre .1 .0) (start .pre .0) (start .pre .1 .1 .1 .1) g (c .before .before .empty .kept .0) (c .before .before .empty .ensures)
+    all-taken (start .args .words .now) (turn .words) (c .before .before .empty .last .0) (start .args .w) (start .args .k) (start .args .n)
+    (start .pre .1 .0) (start .pre .0) (start .pre .1 .1 .1 .1) g (c .before .before .empty .kept .0) (c .before .before .empty .ensures)
 
 pub next-layer-spec : {M : Type 1} → statement M
 next-layer-spec =

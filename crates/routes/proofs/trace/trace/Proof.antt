@@ -61,8 +61,14 @@ loop-less c = search needs
 loop-again : tie.Need-loop-again Inv-loop μ-loop
 loop-again c =
     let start = c .before .before .before .before .before in
-    let turn = c .before .before .loop in
-    (omega arith, (length-set (turn .plan) (turn .left - 1) (c .word-at .result % 256) ∙ turn .inv .1 .0, step-on (start .args .words .now) (start .args .w) (turn .left) (turn .slot) (c .word-at .result) (turn .plan) (c .before .loop-test .taken) (omega (arith, turn .inv .0, turn .inv .1 .0, start .pre .1 .1 .1)) (c .word-at .ensures) (turn .inv .1 .1)))
+    let turn = c .before .before .loop in (
+      omega arith,
+      (
+        length-set (turn .plan) (turn .left - 1) (c .word-at .result % 256) ∙ turn .inv .1 .0,
+        step-on (start .args .words .now) (start .args .w) (turn .left) (turn .slot) (c .word-at .result) (turn .plan) (c .before .loop-test .taken)
+            (omega (arith, turn .inv .0, turn .inv .1 .0, start .pre .1 .1 .1)) (c .word-at .ensures) (turn .inv .1 .1),
+      ),
+    )
 
 same-length : tie.Need-same-length Inv-loop μ-loop
 same-length c = search needs

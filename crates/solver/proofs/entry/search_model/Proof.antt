@@ -59,13 +59,21 @@ same-length-2 c = search needs
 returns : tie.Need-returns
 returns c =
     says-run _ _ _ _ _ _ _ _
-    (start-value _ _ (c .before .before .before .before .before .before .before .before .before .before .before .before .before .before .before .before .before .before .start .ensures) _ (c .before .before .before .before .before .before .before .before .before .before .before .before .before .before .before .bound .ensures) _ (c .before .before .before .before .before .before .before .before .before .before .before .before .before .h .given .1))
+    (
+    start-value _ _ (
+    c .before .before .before .before .before .before .before .before .before .before .before .before .before .before .before .before .before .before .start .ensures
+    ) _ (c .before .before .before .before .before .before .before .before .before .before .before .before .before .before .before .bound .ensures)
+    _ (c .before .before .before .before .before .before .before .before .before .before .before .before .before .h .given .1)
+    )
     _ _ _ (c .before .before .before .before .before .before .before .before .before .rounds .ensures) (c .before .before .report .ensures)
 
 returns-2 : tie.Need-returns-2
 returns-2 c =
     says-refused _ _ _ _ _ _ _ _
-    (start-trouble _ _ (c .before .before .before .before .before .before .before .start .ensures) _ (c .before .before .before .before .bound .ensures) _ (c .before .before .t .given .1))
+    (
+    start-trouble _ _ (c .before .before .before .before .before .before .before .start .ensures) _
+    (c .before .before .before .before .bound .ensures) _ (c .before .before .t .given .1)
+    )
     refl (c .refusal-at-start .ensures)
 
 pub search-model-spec : {M : Type 1} → statement M

@@ -60,7 +60,9 @@ returns-2 c =
     let fit : settingsFit (settings (a .width) (a .length) 0) ≡ true = sym (c .before .before .before .before .before .before .before .before .before .before .before .before .before .before .before .settings-fit .ensures) ∙ c .before .before .before .before .before .before .before .before .before .before .before .before .before .before .if2 .taken in
     let enough : lentFits (settings (a .width) (a .length) 0) (lentOf (length (a .plan .now)) (length (a .words .now))) ≡ true = sym (c .before .before .before .before .before .before .before .before .before .before .before .before .before .lent-fits .ensures) ∙ c .before .before .before .before .before .before .before .before .before .before .before .before .if3 .taken in
     let none : 0 ≡ refusalOf (model (a .model .now)) = sym (c .before .before .before .before .before .before .before .before .if4 .taken) ∙ c .before .before .before .before .before .before .before .before .before .before .read-model .ensures .0 in
-    run-says (a .most) (a .model .now) (a .plan .now) (a .words .now) (a .width) (a .length) (a .budget) (c .before .before .before .before .before .before .before .before .before .before .before .before .before .before .before .before .if1 .left) fit enough none _ _ _ (c .before .before .before .before .search-model .ensures)
+    run-says (a .most) (a .model .now) (a .plan .now) (a .words .now) (a .width) (a .length) (a .budget)
+    (c .before .before .before .before .before .before .before .before .before .before .before .before .before .before .before .before .if1 .left) fit
+    enough none _ _ _ (c .before .before .before .before .search-model .ensures)
 
 refusal-requires-2 : tie.Need-refusal-requires-2
 refusal-requires-2 c κs = search needs
@@ -70,7 +72,11 @@ returns-3 c =
     let a = c .before .before .before .before .before .before .before .before .before .before .before .before .before .args in
     let fit : settingsFit (settings (a .width) (a .length) 0) ≡ true = sym (c .before .before .before .before .before .before .before .before .settings-fit .ensures) ∙ c .before .before .before .before .before .before .before .if2 .taken in
     let enough : lentFits (settings (a .width) (a .length) 0) (lentOf (length (a .plan .now)) (length (a .words .now))) ≡ true = sym (c .before .before .before .before .before .before .lent-fits .ensures) ∙ c .before .before .before .before .before .if3 .taken in
-    refused-says _ _ _ _ _ (run-refused (a .most) (a .model .now) (a .plan .now) (a .words .now) (a .width) (a .length) (a .budget) (c .before .before .before .before .before .before .before .before .before .if1 .left) fit enough _ (c .before .before .before .read-model .ensures .0) (omega (arith, c .before .if4 .left))) (c .refusal2 .ensures)
+    refused-says _ _ _ _ _ (
+    run-refused (a .most) (a .model .now) (a .plan .now) (a .words .now) (a .width) (a .length) (a .budget)
+    (c .before .before .before .before .before .before .before .before .before .if1 .left) fit enough _
+    (c .before .before .before .read-model .ensures .0) (omega (arith, c .before .if4 .left))
+    ) (c .refusal2 .ensures)
 
 refusal-requires-3 : tie.Need-refusal-requires-3
 refusal-requires-3 c κs = search needs
@@ -79,7 +85,10 @@ returns-4 : tie.Need-returns-4
 returns-4 c =
     let a = c .before .before .before .before .before .before .before .before .before .args in
     let fit : settingsFit (settings (a .width) (a .length) 0) ≡ true = sym (c .before .before .before .before .settings-fit .ensures) ∙ c .before .before .before .if2 .taken in
-    refused-says _ 3 _ _ _ (run-unlent (a .most) (a .model .now) (a .plan .now) (a .words .now) (a .width) (a .length) (a .budget) (c .before .before .before .before .before .if1 .left) fit (sym (c .before .before .lent-fits .ensures) ∙ c .before .if3 .left)) (c .refusal3 .ensures)
+    refused-says _ 3 _ _ _ (
+    run-unlent (a .most) (a .model .now) (a .plan .now) (a .words .now) (a .width) (a .length) (a .budget)
+    (c .before .before .before .before .before .if1 .left) fit (sym (c .before .before .lent-fits .ensures) ∙ c .before .if3 .left)
+    ) (c .refusal3 .ensures)
 
 refusal-requires-4 : tie.Need-refusal-requires-4
 refusal-requires-4 c κs = search needs

@@ -31,8 +31,12 @@ word-at-requires-2 c κs = search needs
 
 number-at-requires : tie.Need-number-at-requires Inv-loop μ-loop
 number-at-requires c κs =
-    let start = c .before .before .before .before .before .before .before in
-    (start .pre, bound-inside _ _ (start .pre) _ _ (omega (arith, c .before .loop-test .taken, c .before .before .before .word-at .ensures, start .pre .outlines .bound-count)) (c .word-at2 .ensures))
+    let start = c .before .before .before .before .before .before .before in (
+      start .pre,
+      bound-inside _ _ (start .pre) _ _
+          (omega (arith, c .before .loop-test .taken, c .before .before .before .word-at .ensures, start .pre .outlines .bound-count))
+          (c .word-at2 .ensures),
+    )
 
 enum-known-z : tie.Need-enum-known-z Inv-loop μ-loop
 enum-known-z c = search needs
@@ -48,7 +52,18 @@ loop-less c = search needs
 
 loop-again : tie.Need-loop-again Inv-loop μ-loop
 loop-again c = rw (c .raise .ensures, back (range-fits (value-within _ (c .before .before .z .given .1) (c .before .before .before .before .number-at .ensures .1) .0)))
-    (raising-more _ _ (c .before .before .before .before .before .before .before .before .before .before .before .before .pre) _ _ _ (c .before .before .before .before .before .before .before .loop .inv) (omega (arith, c .before .before .before .before .before .before .loop-test .taken, c .before .before .before .before .before .before .before .before .word-at .ensures, c .before .before .before .before .before .before .before .before .before .before .before .before .pre .outlines .bound-count)) _ (c .before .before .before .before .before .word-at2 .ensures) _ (c .before .before .before .before .number-at .ensures .0) (c .before .before .z .given .1))
+    (
+    raising-more _ _ (c .before .before .before .before .before .before .before .before .before .before .before .before .pre) _ _ _
+    (c .before .before .before .before .before .before .before .loop .inv) (
+    omega (
+      arith,
+      c .before .before .before .before .before .before .loop-test .taken,
+      c .before .before .before .before .before .before .before .before .word-at .ensures,
+      c .before .before .before .before .before .before .before .before .before .before .before .before .pre .outlines .bound-count,
+    )
+    ) _ (c .before .before .before .before .before .word-at2 .ensures) _ (c .before .before .before .before .number-at .ensures .0)
+    (c .before .before .z .given .1)
+    )
 
 enum-known-t : tie.Need-enum-known-t Inv-loop μ-loop
 enum-known-t c = search needs
@@ -57,13 +72,21 @@ returns : tie.Need-returns Inv-loop μ-loop
 returns c =
     let start = c .before .before .before .before .before .before .before .before .before .before .before in
     raising-troubles _ _ (start .pre) _ _ _ (c .before .before .before .before .before .before .loop .inv)
-    (omega (arith, c .before .before .before .before .before .loop-test .taken, c .before .before .before .before .before .before .before .word-at .ensures, start .pre .outlines .bound-count))
+    (
+    omega (
+      arith,
+      c .before .before .before .before .before .loop-test .taken,
+      c .before .before .before .before .before .before .before .word-at .ensures,
+      start .pre .outlines .bound-count,
+    )
+    )
     _ (c .before .before .before .before .word-at2 .ensures) _ (c .before .before .before .number-at .ensures .0) (c .before .t .given .1)
 
 returns-2 : tie.Need-returns-2 Inv-loop μ-loop
 returns-2 c =
     let start = c .before .before .before .before .before .before in
-    raising-last _ _ (start .pre) _ (c .before .loop .k) _ (c .before .loop .inv) (omega (arith, c .loop-test .left, c .before .before .word-at .ensures, start .pre .outlines .bound-count))
+    raising-last _ _ (start .pre) _ (c .before .loop .k) _ (c .before .loop .inv)
+    (omega (arith, c .loop-test .left, c .before .before .word-at .ensures, start .pre .outlines .bound-count))
 
 pub bound-spec : {M : Type 1} → statement M
 bound-spec =

@@ -47,8 +47,12 @@ add-next-2 c =
 
 loop-less : tie.Need-loop-less Inv-loop μ-loop
 loop-less c =
-    omega
-    (arith, byte-inside (c .before .before .before .before .before .before .before .before .before .before .before .args .model .now) (c .before .before .before .before .before .before .before .loop .next) 8 (omega arith) (sym (c .before .before .before .before .before .before .byte-at .ensures) ∙ c .before .before .before .before .before .if1 .taken))
+    omega (
+      arith,
+      byte-inside (c .before .before .before .before .before .before .before .before .before .before .before .args .model .now)
+          (c .before .before .before .before .before .before .before .loop .next) 8 (omega arith)
+          (sym (c .before .before .before .before .before .before .byte-at .ensures) ∙ c .before .before .before .before .before .if1 .taken),
+    )
 
 loop-again : tie.Need-loop-again Inv-loop μ-loop
 loop-again c =

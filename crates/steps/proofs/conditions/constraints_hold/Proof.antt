@@ -29,8 +29,12 @@ word-at-requires-2 c κs = search needs
 
 condition-at-requires : tie.Need-condition-at-requires Inv-loop μ-loop
 condition-at-requires c κs =
-    let start = c .before .before .before .before .before .before .before in
-    (start .pre, constraint-inside _ _ (start .pre) _ _ (omega (arith, c .before .loop-test .taken, c .before .before .before .word-at .ensures, start .pre .outlines .constraint-count)) (c .word-at2 .ensures))
+    let start = c .before .before .before .before .before .before .before in (
+      start .pre,
+      constraint-inside _ _ (start .pre) _ _
+          (omega (arith, c .before .loop-test .taken, c .before .before .before .word-at .ensures, start .pre .outlines .constraint-count))
+          (c .word-at2 .ensures),
+    )
 
 enum-known-holds : tie.Need-enum-known-holds Inv-loop μ-loop
 enum-known-holds c = search needs
@@ -45,7 +49,14 @@ loop-again : tie.Need-loop-again Inv-loop μ-loop
 loop-again c =
     let start = c .before .before .before .before .before .before .before .before .before .before .before .before in
     meeting-more _ _ (start .pre) _ _ (c .before .before .before .before .before .before .before .loop .inv)
-    (omega (arith, c .before .before .before .before .before .before .loop-test .taken, c .before .before .before .before .before .before .before .before .word-at .ensures, start .pre .outlines .constraint-count))
+    (
+    omega (
+      arith,
+      c .before .before .before .before .before .before .loop-test .taken,
+      c .before .before .before .before .before .before .before .before .word-at .ensures,
+      start .pre .outlines .constraint-count,
+    )
+    )
     _ (c .before .before .before .before .before .word-at2 .ensures) _ (c .before .before .before .before .condition-at .ensures .0)
     (c .before .before .holds .given .1) (c .if1 .taken)
 
@@ -53,7 +64,14 @@ returns : tie.Need-returns Inv-loop μ-loop
 returns c =
     let start = c .before .before .before .before .before .before .before .before .before .before .before .before in
     meeting-fails _ _ (start .pre) _ _ (c .before .before .before .before .before .before .before .loop .inv)
-    (omega (arith, c .before .before .before .before .before .before .loop-test .taken, c .before .before .before .before .before .before .before .before .word-at .ensures, start .pre .outlines .constraint-count))
+    (
+    omega (
+      arith,
+      c .before .before .before .before .before .before .loop-test .taken,
+      c .before .before .before .before .before .before .before .before .word-at .ensures,
+      start .pre .outlines .constraint-count,
+    )
+    )
     _ (c .before .before .before .before .before .word-at2 .ensures) _ (c .before .before .before .before .condition-at .ensures .0)
     (c .before .before .holds .given .1) (c .if1 .left)
 
@@ -64,13 +82,21 @@ returns-2 : tie.Need-returns-2 Inv-loop μ-loop
 returns-2 c =
     let start = c .before .before .before .before .before .before .before .before .before .before .before in
     meeting-troubles _ _ (start .pre) _ _ (c .before .before .before .before .before .before .loop .inv)
-    (omega (arith, c .before .before .before .before .before .loop-test .taken, c .before .before .before .before .before .before .before .word-at .ensures, start .pre .outlines .constraint-count))
+    (
+    omega (
+      arith,
+      c .before .before .before .before .before .loop-test .taken,
+      c .before .before .before .before .before .before .before .word-at .ensures,
+      start .pre .outlines .constraint-count,
+    )
+    )
     _ (c .before .before .before .before .word-at2 .ensures) _ (c .before .before .before .condition-at .ensures .0) (c .before .t .given .1)
 
 returns-3 : tie.Need-returns-3 Inv-loop μ-loop
 returns-3 c =
     let start = c .before .before .before .before .before .before in
-    meeting-last _ _ (start .pre) _ (c .before .loop .k) (c .before .loop .inv) (omega (arith, c .loop-test .left, c .before .before .word-at .ensures, start .pre .outlines .constraint-count))
+    meeting-last _ _ (start .pre) _ (c .before .loop .k) (c .before .loop .inv)
+    (omega (arith, c .loop-test .left, c .before .before .word-at .ensures, start .pre .outlines .constraint-count))
 
 pub constraints-hold-spec : {M : Type 1} → statement M
 constraints-hold-spec =

@@ -63,13 +63,21 @@ returns-2 : tie.Need-returns-2 Inv-loop μ-loop
 returns-2 c =
     let start = c .before .before .before .before .before .before .before .before .before .before .before in
     seeking-troubles _ _ (start .pre) _ _ (c .before .before .before .before .before .before .loop .inv)
-    (omega (arith, c .before .before .before .before .before .loop-test .taken, c .before .before .before .before .before .before .before .word-at .ensures, start .pre .outlines .base-case-count))
+    (
+    omega (
+      arith,
+      c .before .before .before .before .before .loop-test .taken,
+      c .before .before .before .before .before .before .before .word-at .ensures,
+      start .pre .outlines .base-case-count,
+    )
+    )
     _ (c .before .before .before .before .word-at2 .ensures) _ (c .before .before .before .conditions-hold .ensures) (c .before .t .given .1)
 
 returns-3 : tie.Need-returns-3 Inv-loop μ-loop
 returns-3 c =
     let start = c .before .before .before .before .before .before in
-    seeking-last _ _ (start .pre) _ (c .before .loop .k) (c .before .loop .inv) (omega (arith, c .loop-test .left, c .before .before .word-at .ensures, start .pre .outlines .base-case-count))
+    seeking-last _ _ (start .pre) _ (c .before .loop .k) (c .before .loop .inv)
+    (omega (arith, c .loop-test .left, c .before .before .word-at .ensures, start .pre .outlines .base-case-count))
 
 pub status-spec : {M : Type 1} → statement M
 status-spec =

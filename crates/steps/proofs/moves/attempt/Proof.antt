@@ -18,8 +18,12 @@ add-take c =
 
 take-requires : tie.Need-take-requires
 take-requires c κs =
-    let start = c .before .before .before .before .before .before .before .before .before in
-    (start .pre .0, rest-read _ _ _ _ (c .before .before .before .before .conditions-hold .ensures) (c .before .before .next .given .1) (start .pre .1), start .pre .2, start .pre .3)
+    let start = c .before .before .before .before .before .before .before .before .before in (
+      start .pre .0,
+      rest-read _ _ _ _ (c .before .before .before .before .conditions-hold .ensures) (c .before .before .next .given .1) (start .pre .1),
+      start .pre .2,
+      start .pre .3,
+    )
 
 enum-told : tie.Need-enum-told
 enum-told c = search needs

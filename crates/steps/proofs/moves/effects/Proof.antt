@@ -52,8 +52,15 @@ slice-write-child : tie.Need-slice-write-child Inv-loop μ-loop
 slice-write-child c =
     let start = c .before .before .before .before .before .before .before .before .before .before .before .before in
     let turn = c .before .before .before .before .before .before .before .loop in
-    omega
-    (arith, next-inside _ _ _ _ _ _ (turn .inv) _ (start .pre .0) (sym (c .before .before .before .before .before .before .byte-at .ensures) ∙ c .before .before .before .before .before .if1 .taken) (start .pre .1) .1, c .before .before .before .before .byte-at2 .ensures, turn .inv .long, start .pre .2)
+    omega (
+      arith,
+      next-inside _ _ _ _ _ _ (turn .inv) _ (start .pre .0)
+          (sym (c .before .before .before .before .before .before .byte-at .ensures) ∙ c .before .before .before .before .before .if1 .taken)
+          (start .pre .1) .1,
+      c .before .before .before .before .byte-at2 .ensures,
+      turn .inv .long,
+      start .pre .2,
+    )
 
 add-next : tie.Need-add-next Inv-loop μ-loop
 add-next c =
@@ -70,8 +77,12 @@ add-next-2 c =
 loop-less : tie.Need-loop-less Inv-loop μ-loop
 loop-less c =
     let start = c .before .before .before .before .before .before .before .before .before .before .before .before in
-    omega
-    (arith, next-inside _ _ _ _ _ _ (c .before .before .before .before .before .before .before .loop .inv) _ (start .pre .0) (sym (c .before .before .before .before .before .before .byte-at .ensures) ∙ c .before .before .before .before .before .if1 .taken) (start .pre .1) .0)
+    omega (
+      arith,
+      next-inside _ _ _ _ _ _ (c .before .before .before .before .before .before .before .loop .inv) _ (start .pre .0)
+          (sym (c .before .before .before .before .before .before .byte-at .ensures) ∙ c .before .before .before .before .before .if1 .taken)
+          (start .pre .1) .0,
+    )
 
 loop-again : tie.Need-loop-again Inv-loop μ-loop
 loop-again c =

@@ -23,13 +23,28 @@ word-at-requires-2 c κs = search needs
 
 attempt-requires : tie.Need-attempt-requires
 attempt-requires c κs =
-    let start = c .before .before .before .before .before .before .before .before in
-    (start .pre .0, transition-read _ _ (start .pre .0) (start .args .state .now) (start .args .t) (omega (arith, c .before .before .if1 .left, c .before .before .before .word-at .ensures, start .pre .0 .outlines .transition-count)) _ (c .before .word-at2 .ensures), start .pre .1, start .pre .2)
+    let start = c .before .before .before .before .before .before .before .before in (
+      start .pre .0,
+      transition-read _ _ (start .pre .0) (start .args .state .now) (start .args .t)
+          (omega (arith, c .before .before .if1 .left, c .before .before .before .word-at .ensures, start .pre .0 .outlines .transition-count)) _
+          (c .before .word-at2 .ensures),
+      start .pre .1,
+      start .pre .2,
+    )
 
 settle-requires : tie.Need-settle-requires
 settle-requires c κs =
-    let start = c .before .before .before .before .before .before .before .before .before .before .before .before in
-    (start .pre .0, tried _ _ (start .pre .0) _ _ (omega (arith, c .before .before .before .before .before .before .if1 .left, c .before .before .before .before .before .before .before .word-at .ensures, start .pre .0 .outlines .transition-count)) _ (c .before .before .before .before .before .word-at2 .ensures) _ _ (c .before .before .before .attempt .ensures))
+    let start = c .before .before .before .before .before .before .before .before .before .before .before .before in (
+      start .pre .0,
+      tried _ _ (start .pre .0) _ _ (
+          omega (
+            arith,
+            c .before .before .before .before .before .before .if1 .left,
+            c .before .before .before .before .before .before .before .word-at .ensures,
+            start .pre .0 .outlines .transition-count,
+          )
+          ) _ (c .before .before .before .before .before .word-at2 .ensures) _ _ (c .before .before .before .attempt .ensures),
+    )
 
 same-length : tie.Need-same-length
 same-length c = search needs

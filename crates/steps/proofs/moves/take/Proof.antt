@@ -25,8 +25,12 @@ add-effects c =
 
 effects-requires : tie.Need-effects-requires
 effects-requires c κs =
-    let start = c .before .before .before .before .before .before .before .before .before .before .before .before .before in
-    (start .pre .0, effects-begin _ _ (start .args .state .now) _ (c .before .before .before .before .before .before .before .before .cost-at .ensures .0) (c .before .before .before .before .before .before .cost .given .1) (start .pre .1), search needs)
+    let start = c .before .before .before .before .before .before .before .before .before .before .before .before .before in (
+      start .pre .0,
+      effects-begin _ _ (start .args .state .now) _ (c .before .before .before .before .before .before .before .before .cost-at .ensures .0)
+          (c .before .before .before .before .before .before .cost .given .1) (start .pre .1),
+      search needs,
+    )
 
 enum-told : tie.Need-enum-told
 enum-told c = search needs

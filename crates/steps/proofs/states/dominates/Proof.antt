@@ -47,7 +47,8 @@ returns c =
 returns-2 : tie.Need-returns-2 Inv-loop μ-loop
 returns-2 c =
     let start = c .before .before .before .before .before .before .before in
-    comparing-last _ _ (start .pre) _ _ (c .before .loop .v) (omega (arith, c .loop-test .left, c .before .before .word-at .ensures, start .pre .outlines .variable-count)) (c .before .loop .inv)
+    comparing-last _ _ (start .pre) _ _ (c .before .loop .v)
+    (omega (arith, c .loop-test .left, c .before .before .word-at .ensures, start .pre .outlines .variable-count)) (c .before .loop .inv)
 
 pub dominates-spec : {M : Type 1} → statement M
 dominates-spec =

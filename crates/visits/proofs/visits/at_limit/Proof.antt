@@ -15,7 +15,8 @@ either-requires c κs = search needs
 returns : tie.Need-returns
 returns c =
     let start = c .before .before .before .before in
-    limited (start .args .f) (start .args .round) (c .either .result) (c .either .ensures ∙ ap (λ (b : Bool). start .args .round .marks .length || b) (c .before .below-best .ensures))
+    limited (start .args .f) (start .args .round) (c .either .result)
+    (c .either .ensures ∙ ap (λ (b : Bool). start .args .round .marks .length || b) (c .before .below-best .ensures))
 
 pub at-limit-spec : {M : Type 1} → statement M
 at-limit-spec = tie.close (tie.spec below-best-requires either-requires returns)

@@ -19,7 +19,8 @@ enum-known-trial-2 c = search needs
 returns : tie.Need-returns
 returns c =
     let start = c .before .before .before .before in
-    told-on (start .args .g) (start .args .i) (start .args .x) (start .args .round) (c .before .before .either .result) (c .before .before .either .ensures) (c .enum-told .given .1)
+    told-on (start .args .g) (start .args .i) (start .args .x) (start .args .round) (c .before .before .either .result)
+    (c .before .before .either .ensures) (c .enum-told .given .1)
 
 returns-2 : tie.Need-returns-2
 returns-2 c =
@@ -31,7 +32,8 @@ returns-2 c =
 returns-3 : tie.Need-returns-3
 returns-3 c =
     let start = c .before .before .before .before .before in
-    told-at (start .args .g) (start .args .i) (start .args .x) (start .args .round) (c .before .before .before .either .result) (c .before .before .before .either .ensures) (c .before .trial2 .given .1)
+    told-at (start .args .g) (start .args .i) (start .args .x) (start .args .round) (c .before .before .before .either .result)
+    (c .before .before .before .either .ensures) (c .before .trial2 .given .1)
 
 pub told-spec : {M : Type 1} → statement M
 told-spec =
