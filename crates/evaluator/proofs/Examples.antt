@@ -46,7 +46,17 @@ pub data Told : Type 0 where
   bytes : ℕ → Told
 
 unfoldable pub opened : Asked → Told
-unfolding hex _bindValues_ ofValues.inRange ofValues.floorBy ofValues.floorQuotient ofSets.isMember ofSets.union ofSets.intersection ofSets.difference ofSets.isSubset ofSets.consIf ofSets.membersFrom ofSets.members ofReaders.after ofReaders.continue _bindReaders_ _thenReaders_ ofReaders.give ofReaders.require ofReaders.byte ofReaders.word ofReaders.signed ofReaders.one ofReaders.integer ofMeaning.equalZ ofMeaning.sumOver ofTables.orZero ofTables.cellAt ofTables.entryIn ofStates.valueOf ofForms.numberForm ofForms.setForm ofForms.conditionForm ofForms.shapeOf ofForms.operands ofForms.parts ofForms.span ofAnswers.numberAnswer ofAnswers.numberPast ofAnswers.conditionPast ofAnswers.numberOfTwo ofAnswers.conditionOfTwo ofAnswers.negated ofRuns.elementOf ofRuns.runElement ofRuns.twoElements ofRuns.elementThenSet ofRuns.setThenElement ofRuns.twoSets ofRuns.literalMembers ofRuns.literalSet ofRuns.setVariableAt ofRuns.changed ofRuns.combined ofRuns.complemented ofRuns.setBehind ofRuns.runSet ofRuns.literalValue ofRuns.literalNumber ofRuns.numberVariableAt ofRuns.arithmetic ofRuns.entryOf ofRuns.entryNumber ofRuns.sizeNumber ofRuns.totalNumber ofRuns.compared ofRuns.sameElements ofRuns.memberOf ofRuns.emptySet ofRuns.subsetOf ofRuns.pairSecond ofRuns.pairFirst ofRuns.runPair ofRuns.numberBefore ofRuns.chosen ofRuns.choiceFirst ofRuns.runChoice ofRuns.agree ofRuns.decided ofRuns.connectiveFirst ofRuns.runConnective ofRuns.numberBehind ofRuns.conditionBehind ofRuns.runNumber
+unfolding hex _bindValues_ ofValues.inRange ofValues.floorBy ofValues.floorQuotient ofSets.isMember ofSets.union ofSets.intersection ofSets.difference
+    ofSets.isSubset ofSets.consIf ofSets.membersFrom ofSets.members ofReaders.after ofReaders.continue _bindReaders_ _thenReaders_ ofReaders.give
+    ofReaders.require ofReaders.byte ofReaders.word ofReaders.signed ofReaders.one ofReaders.integer ofMeaning.equalZ ofMeaning.sumOver
+    ofTables.orZero ofTables.cellAt ofTables.entryIn ofStates.valueOf ofForms.numberForm ofForms.setForm ofForms.conditionForm ofForms.shapeOf
+    ofForms.operands ofForms.parts ofForms.span ofAnswers.numberAnswer ofAnswers.numberPast ofAnswers.conditionPast ofAnswers.numberOfTwo
+    ofAnswers.conditionOfTwo ofAnswers.negated ofRuns.elementOf ofRuns.runElement ofRuns.twoElements ofRuns.elementThenSet ofRuns.setThenElement
+    ofRuns.twoSets ofRuns.literalMembers ofRuns.literalSet ofRuns.setVariableAt ofRuns.changed ofRuns.combined ofRuns.complemented ofRuns.setBehind
+    ofRuns.runSet ofRuns.literalValue ofRuns.literalNumber ofRuns.numberVariableAt ofRuns.arithmetic ofRuns.entryOf ofRuns.entryNumber
+    ofRuns.sizeNumber ofRuns.totalNumber ofRuns.compared ofRuns.sameElements ofRuns.memberOf ofRuns.emptySet ofRuns.subsetOf ofRuns.pairSecond
+    ofRuns.pairFirst ofRuns.runPair ofRuns.numberBefore ofRuns.chosen ofRuns.choiceFirst ofRuns.runChoice ofRuns.agree ofRuns.decided
+    ofRuns.connectiveFirst ofRuns.runConnective ofRuns.numberBehind ofRuns.conditionBehind ofRuns.runNumber
 opened (numberAt d e) = number (runNumber d here e)
 opened (conditionAt d e) = condition (runCondition d here e)
 opened (spanOf e) = bytes (ofForms.span e 0 1)

@@ -38,7 +38,22 @@ pub data Told : Type 0 where
   checked : Value ℕ → Told
 
 unfoldable pub opened : Asked → Told
-unfolding ofLists.any ofLists.filter ofLists.isEmpty ofHex.hex ofHex.zeros _bindValues_ ofValues.inRange ofValues.floorBy ofValues.floorQuotient ofSets.isMember ofSets.union ofSets.intersection ofSets.difference ofSets.complement ofSets.isSubset ofSets.consIf ofSets.membersFrom ofSets.members ofSyntax.elementCount ofSyntax.setCount ofSyntax.tableAt ofReaders.after ofReaders.continue _bindReaders_ _thenReaders_ ofReaders.give ofReaders.refuse ofReaders.require ofReaders.peek ofReaders.byte ofReaders.word ofReaders.signed ofReaders.one ofReaders.two ofReaders.three ofReaders.integer ofReaders.command ofReaders.many ofReaders.upTo ofExpressions.among ofExpressions.beginsExpression ofExpressions.formOf ofExpressions.noDepth ofExpressions.isCount ofExpressions.objectsAndMembers ofExpressions.objectNumber ofExpressions.kindNumber ofExpressions.declared ofExpressions.elementAndSet ofExpressions.twoSets ofExpressions.variable ofExpressions.tableNumber ofExpressions.inTable ofExpressions.element ofExpressions.set ofExpressions.number ofCommands.ruleOf ofCommands.costRule ofCommands.preferenceOf ofCommands.setVariable ofCommands.elementVariable ofCommands.numberVariable ofCommands.variableOf ofCommands.variables ofCommands.entries ofCommands.sides ofCommands.tableOf ofCommands.tables ofCommands.conditions ofCommands.effectTarget ofCommands.expressionFor ofCommands.effectOn ofCommands.transition ofCommands.nothingMore ofCommands.model ofMeaning.numberAt ofMeaning.naturalAt ofMeaning.elementValue ofMeaning.setValue ofMeaning.equalZ ofMeaning.entryAt ofMeaning.sumOver ofMeaning.two ofMeaning.fit ofMeaning.expressionValue ofMeaning.allHold ofMeaning.someHolds ofMeaning.numberValue ofSteps.target ofSteps.combine ofSteps.statusOf ofSteps.costOf ofSteps.noWorse ofSteps.noneWorse ofSteps.raise ofSteps.status ofSteps.effects ofSteps.attempt ofSteps.constrained ofSteps.moveOf ofSteps.moveBy ofSteps.move ofSteps.greatest ofSteps.bound ofSteps.systemOf ofSteps.costsOf ofSteps.originOf ofCheck.final ofCheck.afterMove ofCheck.afterStatus ofCheck.follow ofCheck.checkModel ofCheck.check ofCheck.answerNumber ofCheck.answerCost valueRead
+unfolding ofLists.any ofLists.filter ofLists.isEmpty ofHex.hex ofHex.zeros _bindValues_ ofValues.inRange ofValues.floorBy ofValues.floorQuotient
+    ofSets.isMember ofSets.union ofSets.intersection ofSets.difference ofSets.complement ofSets.isSubset ofSets.consIf ofSets.membersFrom
+    ofSets.members ofSyntax.elementCount ofSyntax.setCount ofSyntax.tableAt ofReaders.after ofReaders.continue _bindReaders_ _thenReaders_
+    ofReaders.give ofReaders.refuse ofReaders.require ofReaders.peek ofReaders.byte ofReaders.word ofReaders.signed ofReaders.one ofReaders.two
+    ofReaders.three ofReaders.integer ofReaders.command ofReaders.many ofReaders.upTo ofExpressions.among ofExpressions.beginsExpression
+    ofExpressions.formOf ofExpressions.noDepth ofExpressions.isCount ofExpressions.objectsAndMembers ofExpressions.objectNumber
+    ofExpressions.kindNumber ofExpressions.declared ofExpressions.elementAndSet ofExpressions.twoSets ofExpressions.variable ofExpressions.tableNumber
+    ofExpressions.inTable ofExpressions.element ofExpressions.set ofExpressions.number ofCommands.ruleOf ofCommands.costRule ofCommands.preferenceOf
+    ofCommands.setVariable ofCommands.elementVariable ofCommands.numberVariable ofCommands.variableOf ofCommands.variables ofCommands.entries
+    ofCommands.sides ofCommands.tableOf ofCommands.tables ofCommands.conditions ofCommands.effectTarget ofCommands.expressionFor ofCommands.effectOn
+    ofCommands.transition ofCommands.nothingMore ofCommands.model ofMeaning.numberAt ofMeaning.naturalAt ofMeaning.elementValue ofMeaning.setValue
+    ofMeaning.equalZ ofMeaning.entryAt ofMeaning.sumOver ofMeaning.two ofMeaning.fit ofMeaning.expressionValue ofMeaning.allHold ofMeaning.someHolds
+    ofMeaning.numberValue ofSteps.target ofSteps.combine ofSteps.statusOf ofSteps.costOf ofSteps.noWorse ofSteps.noneWorse ofSteps.raise
+    ofSteps.status ofSteps.effects ofSteps.attempt ofSteps.constrained ofSteps.moveOf ofSteps.moveBy ofSteps.move ofSteps.greatest ofSteps.bound
+    ofSteps.systemOf ofSteps.costsOf ofSteps.originOf ofCheck.final ofCheck.afterMove ofCheck.afterStatus ofCheck.follow ofCheck.checkModel
+    ofCheck.check ofCheck.answerNumber ofCheck.answerCost valueRead
 opened (numberOf bytes) = valued (valueRead (ofExpressions.number [] [] mostNesting bytes))
 opened (checkOf bytes plan) = checked (check bytes plan)
 

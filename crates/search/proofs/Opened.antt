@@ -51,7 +51,30 @@ unfoldable pub toldCheck : Value ℕ → Told
 toldCheck v = checked (answerNumber v) (answerCost v)
 
 unfoldable pub opened : Asked → Told
-unfolding ofLists.any ofLists.filter ofLists.isEmpty ofHex.hex ofHex.zeros _bindValues_ ofValues.inRange ofValues.floorBy ofValues.floorQuotient ofSets.isMember ofSets.union ofSets.intersection ofSets.difference ofSets.complement ofSets.isSubset ofSets.consIf ofSets.membersFrom ofSets.members ofSyntax.elementCount ofSyntax.setCount ofSyntax.tableAt ofReaders.after ofReaders.continue _bindReaders_ _thenReaders_ ofReaders.give ofReaders.refuse ofReaders.require ofReaders.peek ofReaders.byte ofReaders.word ofReaders.signed ofReaders.one ofReaders.two ofReaders.three ofReaders.integer ofReaders.command ofReaders.many ofReaders.upTo ofExpressions.among ofExpressions.beginsExpression ofExpressions.formOf ofExpressions.noDepth ofExpressions.isCount ofExpressions.objectsAndMembers ofExpressions.objectNumber ofExpressions.kindNumber ofExpressions.declared ofExpressions.elementAndSet ofExpressions.twoSets ofExpressions.variable ofExpressions.tableNumber ofExpressions.inTable ofExpressions.element ofExpressions.set ofExpressions.number ofCommands.ruleOf ofCommands.costRule ofCommands.preferenceOf ofCommands.setVariable ofCommands.elementVariable ofCommands.numberVariable ofCommands.variableOf ofCommands.variables ofCommands.entries ofCommands.sides ofCommands.tableOf ofCommands.tables ofCommands.conditions ofCommands.effectTarget ofCommands.expressionFor ofCommands.effectOn ofCommands.transition ofCommands.nothingMore ofCommands.model ofMeaning.numberAt ofMeaning.naturalAt ofMeaning.elementValue ofMeaning.setValue ofMeaning.equalZ ofMeaning.entryAt ofMeaning.sumOver ofMeaning.two ofMeaning.fit ofMeaning.expressionValue ofMeaning.allHold ofMeaning.someHolds ofMeaning.numberValue ofSteps.target ofSteps.combine ofSteps.statusOf ofSteps.costOf ofSteps.noWorse ofSteps.noneWorse ofSteps.raise ofSteps.status ofSteps.effects ofSteps.attempt ofSteps.constrained ofSteps.moveOf ofSteps.moveBy ofSteps.move ofSteps.greatest ofSteps.bound ofSteps.systemOf ofSteps.costsOf ofSteps.originOf ofCheck.final ofCheck.afterMove ofCheck.afterStatus ofCheck.follow ofCheck.checkModel ofCheck.check ofCheck.answerNumber ofCheck.answerCost ofAnswer.verdictNumber ofAnswer.outcomeNumber ofAnswer.isRefusal ofAnswer.bufferAfter ofAnswer.handedBack ofSearch.andThen ofSearch.less ofSearch.belowBest ofSearch.before ofSearch.place ofSearch.beats ofSearch.cut ofSearch.insert ofSearch.offer ofSearch.refuse ofSearch.routeTo ofSearch.routeOver ofSearch.child ofSearch.bounded ofSearch.tried ofSearch.expand ofSearch.counted ofSearch.atLimit ofSearch.advance ofSearch.improvedBy ofSearch.newBest ofSearch.reached ofSearch.visit ofSearch.layer ofSearch.leastF ofSearch.raisedLow ofSearch.layerEnd ofSearch.nextLayer ofSearch.unlessEnded ofSearch.layers ofSearch.root ofSearch.freshRound ofSearch.round ofSearch.exhausted ofSearch.endWith ofSearch.judge ofSearch.afterRound ofSearch.hasPlan ofSearch.bestCost ofSearch.bestSteps ofSearch.boundAt ofSearch.tallyOf ofSearch.answerOf ofSearch.answer ofSearch.nextWidth ofSearch.laterWidths ofSearch.unlessOver ofSearch.rounds ofSearch.begin ofSearch.search ofRun.widerUpTo ofRun.settingsFit ofRun.wordsNeeded ofRun.lentFits ofRun.refusedByInput ofRun.searchModel ofRun.runRead ofRun.run ofRun.fields valueRead told toldCheck
+unfolding ofLists.any ofLists.filter ofLists.isEmpty ofHex.hex ofHex.zeros _bindValues_ ofValues.inRange ofValues.floorBy ofValues.floorQuotient
+    ofSets.isMember ofSets.union ofSets.intersection ofSets.difference ofSets.complement ofSets.isSubset ofSets.consIf ofSets.membersFrom
+    ofSets.members ofSyntax.elementCount ofSyntax.setCount ofSyntax.tableAt ofReaders.after ofReaders.continue _bindReaders_ _thenReaders_
+    ofReaders.give ofReaders.refuse ofReaders.require ofReaders.peek ofReaders.byte ofReaders.word ofReaders.signed ofReaders.one ofReaders.two
+    ofReaders.three ofReaders.integer ofReaders.command ofReaders.many ofReaders.upTo ofExpressions.among ofExpressions.beginsExpression
+    ofExpressions.formOf ofExpressions.noDepth ofExpressions.isCount ofExpressions.objectsAndMembers ofExpressions.objectNumber
+    ofExpressions.kindNumber ofExpressions.declared ofExpressions.elementAndSet ofExpressions.twoSets ofExpressions.variable ofExpressions.tableNumber
+    ofExpressions.inTable ofExpressions.element ofExpressions.set ofExpressions.number ofCommands.ruleOf ofCommands.costRule ofCommands.preferenceOf
+    ofCommands.setVariable ofCommands.elementVariable ofCommands.numberVariable ofCommands.variableOf ofCommands.variables ofCommands.entries
+    ofCommands.sides ofCommands.tableOf ofCommands.tables ofCommands.conditions ofCommands.effectTarget ofCommands.expressionFor ofCommands.effectOn
+    ofCommands.transition ofCommands.nothingMore ofCommands.model ofMeaning.numberAt ofMeaning.naturalAt ofMeaning.elementValue ofMeaning.setValue
+    ofMeaning.equalZ ofMeaning.entryAt ofMeaning.sumOver ofMeaning.two ofMeaning.fit ofMeaning.expressionValue ofMeaning.allHold ofMeaning.someHolds
+    ofMeaning.numberValue ofSteps.target ofSteps.combine ofSteps.statusOf ofSteps.costOf ofSteps.noWorse ofSteps.noneWorse ofSteps.raise
+    ofSteps.status ofSteps.effects ofSteps.attempt ofSteps.constrained ofSteps.moveOf ofSteps.moveBy ofSteps.move ofSteps.greatest ofSteps.bound
+    ofSteps.systemOf ofSteps.costsOf ofSteps.originOf ofCheck.final ofCheck.afterMove ofCheck.afterStatus ofCheck.follow ofCheck.checkModel
+    ofCheck.check ofCheck.answerNumber ofCheck.answerCost ofAnswer.verdictNumber ofAnswer.outcomeNumber ofAnswer.isRefusal ofAnswer.bufferAfter
+    ofAnswer.handedBack ofSearch.andThen ofSearch.less ofSearch.belowBest ofSearch.before ofSearch.place ofSearch.beats ofSearch.cut ofSearch.insert
+    ofSearch.offer ofSearch.refuse ofSearch.routeTo ofSearch.routeOver ofSearch.child ofSearch.bounded ofSearch.tried ofSearch.expand ofSearch.counted
+    ofSearch.atLimit ofSearch.advance ofSearch.improvedBy ofSearch.newBest ofSearch.reached ofSearch.visit ofSearch.layer ofSearch.leastF
+    ofSearch.raisedLow ofSearch.layerEnd ofSearch.nextLayer ofSearch.unlessEnded ofSearch.layers ofSearch.root ofSearch.freshRound ofSearch.round
+    ofSearch.exhausted ofSearch.endWith ofSearch.judge ofSearch.afterRound ofSearch.hasPlan ofSearch.bestCost ofSearch.bestSteps ofSearch.boundAt
+    ofSearch.tallyOf ofSearch.answerOf ofSearch.answer ofSearch.nextWidth ofSearch.laterWidths ofSearch.unlessOver ofSearch.rounds ofSearch.begin
+    ofSearch.search ofRun.widerUpTo ofRun.settingsFit ofRun.wordsNeeded ofRun.lentFits ofRun.refusedByInput ofRun.searchModel ofRun.runRead ofRun.run
+    ofRun.fields valueRead told toldCheck
 opened (runOf bytes widest limit budget buffer words) = told (run mostModelBytes bytes (record { widest = widest; limit = limit; budget = budget }) (record { planBytes = length buffer; words = words })) buffer
 opened (checkOf bytes plan) = toldCheck (check bytes plan)
 opened (numberOf bytes) = valued (valueRead (ofExpressions.number [] [] mostNesting bytes))
