@@ -17,7 +17,7 @@ returns : tie.Need-returns
 returns c = rw (c .enum-told .given .1)
 
 returns-2 : tie.Need-returns-2
-returns-2 c = rw (c .before .enum-told2 .given .1, le-leb _ _ (c .if1 .taken))
+returns-2 c = let a = c .before .before .before .args in rw (c .before .enum-told2 .given .1, le-leb (a .a) (a .b) (c .if1 .taken))
 
 returns-3 : tie.Need-returns-3
 returns-3 c = rw (c .before .enum-told2 .given .1, lt-leb _ _ (c .if1 .left))
