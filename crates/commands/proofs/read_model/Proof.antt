@@ -43,10 +43,10 @@ returns c =
     let cost-rule = c .before .before .before .before .before .before .before .before .before .before .before .cost-rule in
     let p = c .before .before .before .before .before .before .before .before .before .p in
     let behind-rule = c .before .before .before .before .before .before .behind-rule in
-    let the-enum-told = c .before .before .enum-told in (
-      model-number (start .args .model .now) (sym (p .given .1) ∙ cost-rule .ensures) (behind-rule .last .1 .1 .0) (the-enum-told .given .1)
+    let told = c .before .before .enum-told in (
+      model-number (start .args .model .now) (sym (p .given .1) ∙ cost-rule .ensures) (behind-rule .last .1 .1 .0) (told .given .1)
           (behind-rule .ensures .1),
-      (λ z. model-outlined (start .args .model .now) (sym (p .given .1) ∙ cost-rule .ensures) (behind-rule .last .1 .1 .0) (the-enum-told .given .1) (behind-rule .ensures .1) (c .wide .result) (c .wide .ensures .0 ∙ c .before .byte-at .ensures) (omega (arith, behind-rule .ensures .0, start .pre .1)), length-set (behind-rule .last .1 .1 .0) 0 (c .wide .result) ∙ behind-rule .ensures .0),
+      (λ z. model-outlined (start .args .model .now) (sym (p .given .1) ∙ cost-rule .ensures) (behind-rule .last .1 .1 .0) (told .given .1) (behind-rule .ensures .1) (c .wide .result) (c .wide .ensures .0 ∙ c .before .byte-at .ensures) (omega (arith, behind-rule .ensures .0, start .pre .1)), length-set (behind-rule .last .1 .1 .0) 0 (c .wide .result) ∙ behind-rule .ensures .0),
     )
 
 same-length-2 : tie.Need-same-length-2

@@ -149,8 +149,8 @@ set-behind-element-then-set-requires t c κs =
 
 set-behind-changed-requires : (t : ℕ) → set-behind-lts.Need-changed-requires (set-behind-calls t) (set-behind-at t) set-behind.Post
 set-behind-changed-requires t c κs =
-    let the-args = c .before .before .before .before .before .before .before .args in
-    rw (c .element-then-set .ensures) (element-set-small (the-args .state .now) _ (drop (the-args .at) (the-args .e .now)))
+    let a = c .before .before .before .before .before .before .before .args in
+    rw (c .element-then-set .ensures) (element-set-small (a .state .now) _ (drop (a .at) (a .e .now)))
 
 set-behind-enum-known-form-2 : (t : ℕ) → set-behind-lts.Need-enum-known-form-2 (set-behind-calls t) (set-behind-at t) set-behind.Post
 set-behind-enum-known-form-2 t c = search needs
