@@ -56,13 +56,13 @@ int main(int argc, char **argv)
     struct repgypsum_answer a = repgypsum_search(model, (uintptr_t)n, WIDTH, LENGTH, BUDGET, plan, sizeof plan, words,
                                                  sizeof words / sizeof *words);
     if (a.refused) {
-        printf("refused %" PRIu32 "\n", a.number);
+        printf("refused %" PRIu32 "\n", a.verdict);
         print_plan("path:", plan, a.length);
         return 1;
     }
-    printf("verdict %" PRIu32 ", bound %" PRIu64 ", %" PRIu64 " expansions in %" PRIu64 " rounds\n", a.number, a.bound,
+    printf("verdict %" PRIu32 ", bound %" PRIu64 ", %" PRIu64 " expansions in %" PRIu64 " rounds\n", a.verdict, a.bound,
            a.expansions, a.rounds);
-    if (!a.plan) {
+    if (!a.flag) {
         printf("no plan is given\n");
         return 0;
     }

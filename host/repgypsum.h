@@ -1,8 +1,7 @@
 /* Repgypsum for C: the search and the plan check on the bytes of a model.
  *
- * Link with target/staticlib/libsolver.a and target/staticlib/libchecker.a, which `rt staticlib solver` and
- * `rt staticlib checker` write, on x86-64. Every function takes any bytes and any numbers: what is wrong with them is told
- * by a refusal. Nothing is allocated, nothing is kept between calls, and no call uses more than a few kilobytes of stack.
+ * Link with target/staticlib/librepgypsum.a, which `rt staticlib repgypsum` writes, on x86-64. Every function takes any bytes
+ * and any numbers: what is wrong with them is told by a refusal. Nothing is allocated, nothing is kept between calls, and no call uses more than a few kilobytes of stack.
  * A pointer may be null only where its length is 0.
  */
 #ifndef REPGYPSUM_H
@@ -28,14 +27,14 @@ enum repgypsum_verdict {
 /* Why a call was refused: 1 to 9 by the input, 11 to 14 by a state. */
 enum repgypsum_refusal {
     REPGYPSUM_MODEL_TOO_LONG = 1,   /* over 65,536 bytes */
-    REPGYPSUM_SETTING = 2,          /* a setting out of range, or a plan of over 256 steps */
+    REPGYPSUM_BAD_SETTING = 2,      /* a setting out of range, or a plan of over 256 steps */
     REPGYPSUM_TOO_LITTLE_LENT = 3,
     REPGYPSUM_ENDS_EARLY = 4,
     REPGYPSUM_NOT_DUE = 5,          /* a byte that begins nothing due here */
     REPGYPSUM_MISMATCH = 6,         /* wrong kind, undeclared name, counts that do not fit */
     REPGYPSUM_OFF_LIMITS = 7,       /* an operand outside its limits, one command too many, a second effect */
     REPGYPSUM_TOO_DEEP = 8,
-    REPGYPSUM_AFTER_END = 9,
+    REPGYPSUM_BYTES_AFTER_END = 9,
     REPGYPSUM_OUT_OF_RANGE = 11,    /* a number expression left -2^31 .. 2^31 - 1 */
     REPGYPSUM_DIVISOR_ZERO = 12,
     REPGYPSUM_NEGATIVE_COST = 13,
@@ -45,9 +44,9 @@ enum repgypsum_refusal {
 /* The answer of a search. At a refusal by the input all fields but the first two are 0. At a refusal by a state cost, length
  * and the plan buffer give the path to the state evaluated. */
 struct repgypsum_answer {
-    uint32_t refused;     /* 0: `number` is a verdict. 1: it is a refusal */
-    uint32_t number;
-    uint64_t plan;        /* 1 if a plan is given */
+    uint32_t refused;     /* 1 at a refusal, else 0 */
+    uint32_t verdict;     /* the verdict's number, or the refusal's */
+    uint64_t flag;        /* 1 if a plan is given */
     uint64_t cost;
     uint64_t bound;
     uint64_t length;      /* steps at the front of the plan buffer */

@@ -1,5 +1,5 @@
 /* Times the proved evaluators against a plain C interpreter of the same bytes, in one run, alternating.
-   Build: cc -O3 evaluate.c libtiming.a (see run-evaluate beside this file). */
+   Build: cc -O3 evaluate.c libbench_parts.a (see run-evaluate beside this file). */
 #include <stdint.h>
 #include <stdio.h>
 #include <time.h>

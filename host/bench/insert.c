@@ -1,5 +1,5 @@
 /* Times the proved insertion alone, nanoseconds a child: layer after layer of width 16 to 4,096, eight children offered for each place.
-   Build: cc -O3 insert.c libtiming.a (see run-insert beside this file). */
+   Build: cc -O3 insert.c libbench_parts.a (see run-insert beside this file). */
 #include <stdint.h>
 #include <stdio.h>
 #include <stdlib.h>

@@ -1,9 +1,10 @@
 //! The proved search against the fast plain one: the same searches in one process, in turns, with the same counts required.
 
+use crate::answer::Answer;
 use crate::families::{families, family, Family};
 use crate::fast::search_counted;
+use crate::numbers::words_needed;
 use crate::proved;
-use crate::reference::{words_needed, Answer};
 use std::io::Write;
 use std::time::Instant;
 
@@ -77,7 +78,7 @@ fn write_row(out: &mut impl Write, family: &Family, width: u64, row: &Row) -> st
         "{:20} {:>4} {width:>6} {:>8} {:>10} {:>11} {:>11.0} {:>11.0} {:>11.0} {:>11.0} {:>7.2} {:>8.0} {:>8.0}",
         family.name,
         family.usual,
-        row.answer.number,
+        row.answer.verdict,
         row.answer.expansions,
         row.children,
         expansions / row.proved,

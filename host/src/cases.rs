@@ -1,4 +1,4 @@
-//! The stored cases: calls with the answers of the reference, and their text as vector modules.
+//! The stored cases: calls, with the answers of the reference.
 
 pub mod meaning;
 pub mod plans;
@@ -6,9 +6,10 @@ pub mod reading;
 pub mod searches;
 pub mod text;
 
+use crate::answer::Answer;
 use crate::build::Bytes;
-use crate::reference::{plan_check_with, search_with, words_needed, Answer};
-use crate::slip::Slip;
+use crate::numbers::words_needed;
+use crate::reference::{plan_check, search};
 
 /// The byte with which lent plan buffers are filled.
 pub const FILL: u8 = 0xA5;
@@ -56,14 +57,15 @@ impl Call {
         }
     }
 
-    pub fn run(&self, slip: Slip) -> Outcome {
+    /// What the reference answers.
+    pub fn run(&self) -> Outcome {
         match self {
             Call::Check { model, plan } => {
-                let (answer, cost) = plan_check_with(slip, model, plan);
+                let (answer, cost) = plan_check(model, plan);
                 Outcome::Check(answer, cost)
             }
             Call::Search(search) => {
-                let (answer, after) = search.run(slip);
+                let (answer, after) = search.run();
                 Outcome::Search(answer, after)
             }
         }
@@ -71,11 +73,10 @@ impl Call {
 }
 
 impl Search {
-    /// The answer, and the plan buffer afterwards.
-    pub fn run(&self, slip: Slip) -> (Answer, Bytes) {
+    /// The reference's answer, and the plan buffer afterwards.
+    pub fn run(&self) -> (Answer, Bytes) {
         let mut after = self.buffer.clone();
-        let answer = search_with(
-            slip,
+        let answer = search(
             &self.model,
             self.width,
             self.length,
@@ -94,8 +95,8 @@ impl Outcome {
             Outcome::Check(answer, cost) => vec![u64::from(*answer), *cost],
             Outcome::Search(answer, _) => vec![
                 u64::from(answer.refused),
-                u64::from(answer.number),
-                u64::from(answer.plan_flag),
+                u64::from(answer.verdict),
+                u64::from(answer.flag),
                 answer.cost,
                 answer.bound,
                 answer.length,
@@ -140,12 +141,19 @@ impl Cases {
         });
     }
 
-    pub fn add_random(&mut self, call: Call) {
-        self.0.push(Case {
-            note: None,
-            call,
-            stated: None,
-        });
+    /// Of a sequence of random calls those at the places, the last of which is the greatest.
+    pub fn add_random(&mut self, places: &[usize], mut next: impl FnMut() -> Call) {
+        let end = places.last().map_or(0, |last| last + 1);
+        for place in 0..end {
+            let call = next();
+            if places.contains(&place) {
+                self.0.push(Case {
+                    note: None,
+                    call,
+                    stated: None,
+                });
+            }
+        }
     }
 
     /// A plan check whose answer and cost are stated.

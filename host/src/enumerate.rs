@@ -1,7 +1,8 @@
 //! Full enumeration of small models: all reachable states, without pruning and without dominance.
 
-use crate::reference::verdict;
-use crate::reference::{Answer, Model, State};
+use crate::answer::Answer;
+use crate::numbers::verdict;
+use crate::reference::{Model, State};
 use std::collections::{BTreeSet, HashMap};
 
 /// What trying the base cases of a state ends with.
@@ -217,14 +218,12 @@ impl Space {
         if answer.refused {
             return None;
         }
-        if answer.plan_flag && self.plan_cost(model, plan) != Some(cost) {
+        if answer.flag && self.plan_cost(model, plan) != Some(cost) {
             return Some("a plan given is a plan of the model, at the cost stated");
         }
         let least = self.to_go[0];
-        let broken = match answer.number {
-            verdict::CHEAPEST
-                if declarations_true && (!answer.plan_flag || least != Some(cost)) =>
-            {
+        let broken = match answer.verdict {
+            verdict::CHEAPEST if declarations_true && (!answer.flag || least != Some(cost)) => {
                 Some("a plan marked cheapest costs no more than every other plan")
             }
             verdict::NO_PLAN if declarations_true && least.is_some() => {
@@ -240,7 +239,7 @@ impl Space {
             }
             _ => None,
         };
-        let stop = [verdict::WIDTH_STOP, verdict::LENGTH_STOP].contains(&answer.number);
+        let stop = [verdict::WIDTH_STOP, verdict::LENGTH_STOP].contains(&answer.verdict);
         if stop && self.fits(settings.0, settings.1) {
             return Some("neither stop is given when the layers fit");
         }

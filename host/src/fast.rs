@@ -8,7 +8,9 @@ mod layer;
 mod program;
 mod run;
 
-use crate::reference::{limit, read_model, refusal, Answer};
+use crate::answer::Answer;
+use crate::numbers::{limit, refusal};
+use crate::reference::read_model;
 use program::Program;
 use run::Run;
 
@@ -36,12 +38,8 @@ pub fn search_counted(
 ) -> (Answer, Vec<u8>, Counts) {
     match program(model, width, length) {
         Ok(program) => Run::new(&program, width, length, budget).answer(),
-        Err(number) => {
-            let answer = Answer {
-                refused: true,
-                number,
-                ..Answer::default()
-            };
+        Err(refusal) => {
+            let answer = Answer::refused_by_input(refusal);
             (answer, Vec::new(), Counts::default())
         }
     }
@@ -50,11 +48,11 @@ pub fn search_counted(
 /// The compiled model, or the refusal by the input. Nothing is lent, so refusal 3 does not occur.
 fn program(model: &[u8], width: u64, length: u64) -> Result<Program, u8> {
     if model.len() > limit::MODEL_BYTES {
-        return Err(refusal::TOO_LONG);
+        return Err(refusal::MODEL_TOO_LONG);
     }
     let width_fits = width.is_power_of_two() && width <= limit::WIDTH;
     if !width_fits || length == 0 || length > limit::LENGTH {
-        return Err(refusal::SETTING);
+        return Err(refusal::BAD_SETTING);
     }
     Ok(Program::of(&read_model(model)?))
 }

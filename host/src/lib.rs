@@ -1,17 +1,19 @@
-//! What stands outside the proofs: a plain second implementation of document 01 with its enumeration, test vectors and model
+//! What stands outside the proofs: a plain second implementation of document 01 with its enumeration, stored cases and model
 //! families, a fast one to measure against, the proved libraries, the text form of models, and the command line.
 
+pub mod answer;
 pub mod bench;
 pub mod build;
 pub mod cases;
 pub mod command;
+pub mod edit;
 pub mod enumerate;
 pub mod families;
 pub mod fast;
 pub mod generate;
 pub mod line;
 pub mod models;
+pub mod numbers;
 pub mod proved;
 pub mod reference;
-pub mod slip;
 pub mod text;

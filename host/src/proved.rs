@@ -1,6 +1,6 @@
 //! The proved search and plan check, through their C interface.
 
-use crate::reference::Answer;
+use crate::answer::Answer;
 
 /// The answer's fields as the proved search returns them.
 #[repr(C)]
@@ -67,8 +67,8 @@ pub fn search(
     };
     Answer {
         refused: fields.refused == 1,
-        number: fields.verdict as u8,
-        plan_flag: fields.flag == 1,
+        verdict: fields.verdict as u8,
+        flag: fields.flag == 1,
         cost: fields.cost,
         bound: fields.bound,
         length: fields.length,

@@ -1,7 +1,9 @@
 //! Damaged models and wrong settings: an answer always, and no buffer changed by a refusal of the input.
 
+use repgypsum_host::answer::Answer;
 use repgypsum_host::generate::{damaged, model, Random};
-use repgypsum_host::reference::{plan_check, search, words_needed, Answer};
+use repgypsum_host::numbers::{refusal::BAD_SETTING, words_needed};
+use repgypsum_host::reference::{plan_check, search};
 
 /// A search's answer and whether the buffer changed.
 fn run(model: &[u8], width: u64, length: u64) -> (Answer, bool) {
@@ -21,15 +23,11 @@ fn damaged_models() {
         let (answer, changed) = run(&bytes, 4, 6);
         answers[usize::from(checked)] += 1;
         if (4..=9).contains(&checked) {
-            assert_eq!((answer.refused, answer.number, cost), (true, checked, 0));
-            let nothing_else = Answer {
-                refused: true,
-                number: checked,
-                ..Answer::default()
-            };
+            assert_eq!((answer.refused, answer.verdict, cost), (true, checked, 0));
+            let nothing_else = Answer::refused_by_input(checked);
             assert_eq!((answer, changed), (nothing_else, false));
         } else {
-            assert!(answer.rounds >= 1 && !(answer.refused && answer.number < 11));
+            assert!(answer.rounds >= 1 && !(answer.refused && answer.verdict < 11));
         }
     }
     println!("answers by number {answers:?}");
@@ -59,11 +57,7 @@ fn prefixes_and_continuations() {
 fn wrong_settings() {
     let bytes = model(&mut Random::new(5)).end();
     for (width, length) in [(0, 4), (3, 4), (6, 4), (8_192, 4), (4, 0), (4, 257)] {
-        let nothing_else = Answer {
-            refused: true,
-            number: 2,
-            ..Answer::default()
-        };
+        let nothing_else = Answer::refused_by_input(BAD_SETTING);
         assert_eq!(run(&bytes, width, length), (nothing_else, false));
     }
 }

@@ -1,11 +1,15 @@
 //! Demand 3's sentences against full enumeration, on seeded random small models at many settings.
 
+use repgypsum_host::answer::Answer;
+use repgypsum_host::cases::FILL;
 use repgypsum_host::enumerate::Space;
 use repgypsum_host::generate::{model, settings, Random};
-use repgypsum_host::reference::{
-    plan_check, read_model, search, search_with, words_needed, Answer,
+use repgypsum_host::numbers::verdict::{
+    BUDGET_SPENT, CHEAPEST, CONTRADICTED, LENGTH_STOP, NO_PLAN, WIDTH_STOP,
 };
-use repgypsum_host::slip::Slip;
+use repgypsum_host::numbers::words_needed;
+use repgypsum_host::reference::{plan_check, read_model, search};
+use std::collections::BTreeMap;
 
 const MODELS: usize = 4_000;
 const SETTINGS: usize = 10;
@@ -26,7 +30,15 @@ struct Tally {
     broken: Vec<String>,
 }
 
-fn run(slip: Slip, models: usize) -> Tally {
+/// The answer of a search with the buffers that its settings need, and the plan buffer afterwards.
+fn searched(bytes: &[u8], (width, length, budget): (u64, u64, u64)) -> (Answer, Vec<u8>) {
+    let mut buffer = vec![FILL; length as usize];
+    let words = words_needed(width, length);
+    let answer = search(bytes, width, length, budget, &mut buffer, words);
+    (answer, buffer)
+}
+
+fn run(models: usize) -> Tally {
     let mut tally = Tally::default();
     let mut random = Random::new(0x5EED);
     while tally.models < models {
@@ -42,24 +54,20 @@ fn run(slip: Slip, models: usize) -> Tally {
         let mut troubled = false;
         for _ in 0..SETTINGS {
             let (width, length, budget) = settings(&mut random);
-            let mut buffer = vec![0xA5; length as usize];
-            let words = words_needed(width, length);
-            let answer = search_with(slip, &bytes, width, length, budget, &mut buffer, words);
+            let (answer, buffer) = searched(&bytes, (width, length, budget));
             let plan = &buffer[..answer.length as usize];
             tally.searches += 1;
             if answer.refused {
-                tally.refusals[usize::from(answer.number)] += 1;
+                tally.refusals[usize::from(answer.verdict)] += 1;
                 troubled = true;
                 continue;
             }
-            tally.verdicts[usize::from(answer.number)] += 1;
-            tally.true_verdicts[usize::from(answer.number)] += usize::from(declarations_true);
+            tally.verdicts[usize::from(answer.verdict)] += 1;
+            tally.true_verdicts[usize::from(answer.verdict)] += usize::from(declarations_true);
             tally.fitting += usize::from(space.fits(width, length));
-            if slip == Slip::Nothing {
-                agrees_with_plan_check(&bytes, &answer, plan);
-                within_limit(&space, &read, length, &answer);
-                assert!(answer.expansions <= budget);
-            }
+            agrees_with_plan_check(&bytes, &answer, plan);
+            within_limit(&space, &read, length, &answer);
+            assert!(answer.expansions <= budget);
             let broken = space.broken(&read, declarations_true, (width, length), &answer, plan);
             if let Some(sentence) = broken {
                 tally.broken.push(format!(
@@ -73,7 +81,7 @@ fn run(slip: Slip, models: usize) -> Tally {
 }
 
 fn agrees_with_plan_check(bytes: &[u8], answer: &Answer, plan: &[u8]) {
-    if answer.plan_flag {
+    if answer.flag {
         assert_eq!(plan_check(bytes, plan), (0, answer.cost));
     }
 }
@@ -86,7 +94,7 @@ fn within_limit(
     answer: &Answer,
 ) {
     assert!(answer.length <= length);
-    if answer.plan_flag {
+    if answer.flag {
         let least = space.cheapest_within(model, length).expect("a plan exists");
         assert!(least <= answer.cost as i64);
     }
@@ -94,7 +102,7 @@ fn within_limit(
 
 #[test]
 fn demand_three_holds() {
-    let tally = run(Slip::Nothing, MODELS);
+    let tally = run(MODELS);
     println!(
         "models {}, with trouble in a search {}, declarations true {}, of these with comparable states {}",
         tally.models, tally.troubled, tally.declarations_true, tally.comparable_true
@@ -107,32 +115,74 @@ fn demand_three_holds() {
         &tally.refusals[11..14],
         tally.fitting
     );
-    assert_eq!(tally.broken, Vec::<String>::new());
+    let (broken, first) = (tally.broken.len(), tally.broken.first());
+    assert_eq!(broken, 0, "answers that break a sentence, first {first:?}");
     assert!(tally.models >= 2_000 && tally.declarations_true >= 1_000);
     assert!(tally.comparable_true >= 100 && tally.fitting >= 1_000);
     assert!(tally.verdicts.iter().all(|met| *met >= 50));
     assert!(tally.refusals[11..14].iter().all(|met| *met >= 20));
 }
 
-/// The test above can fail: known slips break a sentence on the same models.
-#[test]
-fn slips_break_demand_three() {
-    let slips = [
-        Slip::FinishedUnderWidthMark,
-        Slip::LowRaisedAfterCut,
-        Slip::RemovesCheaper,
-        Slip::DropsCheaper,
-        Slip::LengthMarkForgotten,
-        Slip::FinishedWithRemaining,
-        Slip::EffectReadsNewValue,
-        Slip::FullLayerRefusesFirst,
-        Slip::PreferenceReversed,
-    ];
-    for slip in slips {
-        let broken = run(slip, 1_500).broken.len();
-        println!("{slip:?}: {broken} answers break a sentence");
-        assert!(broken > 0, "{slip:?}");
+/// Answers that say what is not so in a space, made from one that is so.
+fn false_answers(
+    space: &Space,
+    declarations_true: bool,
+    (width, length): (u64, u64),
+    answer: &Answer,
+) -> Vec<Answer> {
+    let mut made = Vec::new();
+    let mut when = |possible: bool, changed: Answer| {
+        if possible {
+            made.push(changed);
+        }
+    };
+    let verdict = |verdict: u8| Answer { verdict, ..*answer };
+    let cost = answer.cost + 1;
+    when(answer.flag, Answer { cost, ..*answer });
+    let least = space.to_go[0].map(|least| least as u64);
+    let not_cheapest = !answer.flag || least != Some(answer.cost);
+    when(declarations_true && not_cheapest, verdict(CHEAPEST));
+    when(declarations_true && least.is_some(), verdict(NO_PLAN));
+    when(declarations_true, verdict(CONTRADICTED));
+    let fits = space.fits(width, length);
+    when(fits, verdict(WIDTH_STOP));
+    when(fits, verdict(LENGTH_STOP));
+    if let Some(least) = least {
+        let bound = least + 1;
+        let stopped = verdict(BUDGET_SPENT);
+        when(declarations_true, Answer { bound, ..stopped });
     }
+    made
+}
+
+/// The test above can fail: every answer that says what is not so breaks a sentence, and each sentence is broken by some.
+#[test]
+fn false_answers_break_demand_three() {
+    let mut broken: BTreeMap<&str, usize> = BTreeMap::new();
+    let mut random = Random::new(0x5EED);
+    for _ in 0..1_500 {
+        let bytes = model(&mut random).end();
+        let settings = settings(&mut random);
+        let read = read_model(&bytes).expect("a generated model is well made");
+        let Some(space) = Space::of(&read, STATES) else {
+            continue;
+        };
+        let (answer, buffer) = searched(&bytes, settings);
+        if answer.refused {
+            continue;
+        }
+        let plan = &buffer[..answer.length as usize];
+        let declarations_true = space.bounds_true(&read) && space.preferences_true(&read);
+        let settings = (settings.0, settings.1);
+        for told in false_answers(&space, declarations_true, settings, &answer) {
+            let sentence = space.broken(&read, declarations_true, settings, &told, plan);
+            let sentence = sentence.unwrap_or_else(|| panic!("{told:?}: {bytes:02x?}"));
+            *broken.entry(sentence).or_default() += 1;
+        }
+    }
+    println!("{broken:#?}");
+    assert_eq!(broken.len(), 6);
+    assert!(broken.values().all(|times| *times >= 20));
 }
 
 /// The costs to go agree with the layered enumeration, which knows nothing of them.
@@ -158,11 +208,7 @@ fn searches_repeat() {
     let mut random = Random::new(11);
     for _ in 0..200 {
         let bytes = model(&mut random).end();
-        let once = || {
-            let mut buffer = [0xA5; 8];
-            let answer = search(&bytes, 4, 6, 40, &mut buffer, words_needed(4, 6));
-            (answer, buffer)
-        };
+        let once = || searched(&bytes, (4, 6, 40));
         assert_eq!(once(), once());
     }
 }

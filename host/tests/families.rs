@@ -2,9 +2,8 @@
 
 use repgypsum_host::enumerate::Space;
 use repgypsum_host::families::{families, family, Family};
-use repgypsum_host::reference::{
-    limit, plan_check, read_model, search, verdict, words_needed, Model,
-};
+use repgypsum_host::numbers::{limit, verdict, words_needed};
+use repgypsum_host::reference::{plan_check, read_model, search, Model};
 
 const STATES: usize = 1_500;
 const SEEDS: u64 = 8;
@@ -117,14 +116,14 @@ fn cheapest_by_enumeration() {
             assert!(!answer.refused);
             match space.to_go[0] {
                 Some(least) => {
-                    assert_eq!(answer.number, verdict::CHEAPEST, "{}", family.name);
+                    assert_eq!(answer.verdict, verdict::CHEAPEST, "{}", family.name);
                     assert_eq!(answer.cost as i64, least, "{}", family.name);
                     let plan = &buffer[..answer.length as usize];
                     assert_eq!(plan_check(&bytes, plan), (0, answer.cost));
                     assert_eq!(answer.length, steps(family.name, size, answer.cost));
                     with_plan += 1;
                 }
-                None => assert_eq!(answer.number, verdict::NO_PLAN, "{}", family.name),
+                None => assert_eq!(answer.verdict, verdict::NO_PLAN, "{}", family.name),
             }
             bounded += usize::from(model.h(&space.states[0]).unwrap() > 0);
         }

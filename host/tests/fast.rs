@@ -1,12 +1,13 @@
 //! The fast search gives every answer field and every plan byte of the reference.
 
+use repgypsum_host::answer::Answer;
 use repgypsum_host::build::*;
 use repgypsum_host::cases::{groups, Call, FILL};
 use repgypsum_host::families::families;
 use repgypsum_host::fast;
 use repgypsum_host::generate::{damaged, model, settings, Random};
-use repgypsum_host::reference::{refusal, search, words_needed, Answer};
-use repgypsum_host::slip::Slip;
+use repgypsum_host::numbers::{refusal, words_needed};
+use repgypsum_host::reference::search;
 
 /// The searches compared, by verdict and by refusal.
 #[derive(Default, Debug)]
@@ -17,7 +18,7 @@ struct Met {
 
 impl Met {
     fn count(&mut self, answer: &Answer) {
-        let number = usize::from(answer.number);
+        let number = usize::from(answer.verdict);
         if answer.refused {
             self.refusals[number] += 1;
         } else {
@@ -65,9 +66,9 @@ fn stored_searches() {
             let Call::Search(search) = case.call else {
                 continue;
             };
-            let (expected, expected_buffer) = search.run(Slip::Nothing);
+            let (expected, expected_buffer) = search.run();
             met.count(&expected);
-            if (expected.refused, expected.number) == (true, refusal::LENT) {
+            if (expected.refused, expected.verdict) == (true, refusal::TOO_LITTLE_LENT) {
                 continue;
             }
             let (found, plan) =

@@ -1,13 +1,15 @@
 //! The proved search and plan check, as built, against the independent implementation: every field, every buffer byte.
 //! REPGYPSUM_MODELS=N makes the run over random models longer.
 
+use repgypsum_host::answer::Answer;
 use repgypsum_host::cases::{groups, Call, Outcome};
 use repgypsum_host::enumerate::Space;
 use repgypsum_host::families::families;
 use repgypsum_host::fast;
 use repgypsum_host::generate::{damaged, model, Random};
-use repgypsum_host::reference::{self, read_model, words_needed, Answer};
-use repgypsum_host::{proved, slip::Slip};
+use repgypsum_host::numbers::words_needed;
+use repgypsum_host::proved;
+use repgypsum_host::reference::{self, read_model};
 
 const FILL: u8 = 0xA5;
 const WORD: u64 = 0x0123_4567_89AB_CDEF;
@@ -50,7 +52,7 @@ fn compare(
     let call = format!("W {width} L {length} budget {budget}: {model:02x?}");
     assert_eq!(answer, expected, "{call}");
     assert_eq!(plan, expected_plan, "{call}");
-    if answer.refused && answer.number < 11 {
+    if answer.refused && answer.verdict < 11 {
         assert!(words.iter().all(|word| *word == WORD), "{call}");
     }
     (answer, plan)
@@ -69,7 +71,7 @@ fn stored_cases() {
     let mut checks = 0;
     for (_, cases) in groups() {
         for case in cases {
-            match (&case.call, case.call.run(Slip::Nothing)) {
+            match (&case.call, case.call.run()) {
                 (Call::Check { model, plan }, Outcome::Check(answer, cost)) => {
                     assert_eq!(proved::plan_check(model, plan), (answer, cost));
                     checks += 1;
@@ -103,11 +105,11 @@ fn random_models() {
         let (answer, buffer) = compare_at(&bytes, settings, more);
         let plan = &buffer[..answer.length as usize];
         if answer.refused {
-            refusals[usize::from(answer.number)] += 1;
+            refusals[usize::from(answer.verdict)] += 1;
             continue;
         }
-        verdicts[usize::from(answer.number)] += 1;
-        if answer.plan_flag {
+        verdicts[usize::from(answer.verdict)] += 1;
+        if answer.flag {
             assert_eq!(proved::plan_check(&bytes, plan), (0, answer.cost));
         }
         let read = read_model(&bytes).expect("a generated model is well made");
@@ -187,7 +189,7 @@ fn damaged_calls() {
             (length.min(300) as usize).saturating_sub(random.pick(&[0, 0, 0, 0, 0, 1]));
         let (answer, _) = compare(&bytes, (width, length, budget), plan_bytes, words);
         refusals[if answer.refused {
-            usize::from(answer.number)
+            usize::from(answer.verdict)
         } else {
             0
         }] += 1;

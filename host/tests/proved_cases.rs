@@ -1,9 +1,11 @@
 //! The cases P1 to P11 and "Others" of document 01, and the typed-in models.
 
+use repgypsum_host::answer::Answer;
 use repgypsum_host::build::*;
 use repgypsum_host::line::line_at as line;
 use repgypsum_host::models::{sop, three_designs, tsptw, Designs};
-use repgypsum_host::reference::{plan_check, search, words_needed, Answer};
+use repgypsum_host::numbers::words_needed;
+use repgypsum_host::reference::{plan_check, search};
 
 /// A search with lent buffers of the sizes due, and the plan.
 fn run(model: &[u8], width: u64, length: u64, budget: u64) -> (Answer, Vec<u8>) {
@@ -23,10 +25,10 @@ fn p1_to_p10() {
     assert_eq!(line(&designs, 4, 3, 100_000), p1);
     assert_eq!(line(&designs, 2, 3, 100_000), "2 1 7 0 3 8 2 2 : 0 1 2");
     let (p4, _) = run(&designs, 1, 3, 100_000);
-    assert_eq!((p4.number, p4.expansions, p4.rounds), (2, 6, 2));
+    assert_eq!((p4.verdict, p4.expansions, p4.rounds), (2, 6, 2));
     assert_eq!(line(&designs, 8, 2, 100_000), "3 0 0 5 0 13 4 8 :");
     let (p6, _) = run(&designs, 16, 64, 0);
-    assert_eq!((p6.number, p6.plan_flag, p6.expansions), (4, false, 0));
+    assert_eq!((p6.verdict, p6.flag, p6.expansions), (4, false, 0));
     let p7 = Designs {
         start: 0,
         ..Designs::default()
@@ -37,19 +39,19 @@ fn p1_to_p10() {
         ..Designs::default()
     };
     let (p8, _) = run(&p8.bytes(), 16, 64, 100_000);
-    assert_eq!((p8.number, p8.cost, p8.expansions), (5, 7, 3));
+    assert_eq!((p8.verdict, p8.cost, p8.expansions), (5, 7, 3));
     let p9 = Designs {
         constraint: Some(not(same(elem(1), obj(2)))),
         ..Designs::default()
     };
     let (p9, _) = run(&p9.bytes(), 16, 64, 100_000);
-    assert_eq!((p9.refused, p9.number, p9.bound), (false, 1, 0));
+    assert_eq!((p9.refused, p9.verdict, p9.bound), (false, 1, 0));
     let p10 = Designs {
         rule: LARGEST,
         ..Designs::default()
     };
     let (p10, plan) = run(&p10.bytes(), 16, 64, 100_000);
-    assert_eq!((p10.number, p10.cost), (0, 3));
+    assert_eq!((p10.verdict, p10.cost), (0, 3));
     assert_eq!(plan_check(&p10_bytes(), &plan), (0, 3));
 }
 

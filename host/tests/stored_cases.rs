@@ -1,8 +1,7 @@
-//! The stored cases: answers stated by hand, strength against planted slips, and the files written from them.
+//! The stored cases: answers stated by hand, and the files written from them.
 
-use repgypsum_host::cases::text::{files, plan_checks, search_cases, CASES_PER_FILE};
+use repgypsum_host::cases::text::{modules, plan_checks, search_cases, CASES_PER_MODULE};
 use repgypsum_host::cases::{groups, Outcome};
-use repgypsum_host::slip::{Slip, ALL};
 use std::collections::BTreeSet;
 use std::path::Path;
 
@@ -13,7 +12,7 @@ fn answers_are_as_stated() {
         let stated = cases.iter().filter(|case| case.stated.is_some()).count();
         println!("{group}: {} cases, {stated} stated by hand", cases.len());
         for case in &cases {
-            let outcome = case.call.run(Slip::Nothing);
+            let outcome = case.call.run();
             if !case.as_stated(&outcome) {
                 wrong += 1;
                 println!(
@@ -28,39 +27,6 @@ fn answers_are_as_stated() {
     assert_eq!(wrong, 0);
 }
 
-/// Each planted slip changes the answer of at least two stored cases.
-#[test]
-fn slips_are_caught() {
-    let groups = groups();
-    let mut weak = Vec::new();
-    println!(
-        "{:24} {:>8} {:>8} {:>8} {:>8}",
-        "slip", "Reading", "Meaning", "Plans", "Searches"
-    );
-    for (slip, text) in ALL {
-        let mut caught = Vec::new();
-        for (_, cases) in &groups {
-            let changed =
-                |call: &repgypsum_host::cases::Call| call.run(*slip) != call.run(Slip::Nothing);
-            caught.push(cases.iter().filter(|case| changed(&case.call)).count());
-        }
-        println!(
-            "{:24} {:8} {:8} {:8} {:8}  {text}",
-            format!("{slip:?}"),
-            caught[0],
-            caught[1],
-            caught[2],
-            caught[3]
-        );
-        if caught.iter().sum::<usize>() < 2 {
-            weak.push(*slip);
-        }
-    }
-    println!("{} slips", ALL.len());
-    assert!(ALL.len() >= 20);
-    assert_eq!(weak, Vec::<Slip>::new());
-}
-
 /// The searches are small enough to be computed by the proof checker, and meet every verdict and refusal.
 #[test]
 fn searches_are_small_and_varied() {
@@ -68,14 +34,14 @@ fn searches_are_small_and_varied() {
     let mut refusals = [0; 15];
     for (_, cases) in groups() {
         for case in cases {
-            match case.call.run(Slip::Nothing) {
+            match case.call.run() {
                 Outcome::Check(answer, _) => refusals[usize::from(answer)] += 1,
                 Outcome::Search(answer, _) => {
                     assert!(answer.expansions <= 60);
                     if answer.refused {
-                        refusals[usize::from(answer.number)] += 1;
+                        refusals[usize::from(answer.verdict)] += 1;
                     } else {
-                        verdicts[usize::from(answer.number)] += 1;
+                        verdicts[usize::from(answer.verdict)] += 1;
                     }
                 }
             }
@@ -88,7 +54,7 @@ fn searches_are_small_and_varied() {
         .all(|number| refusals[number] >= 3));
 }
 
-/// The names of the vector modules in a directory.
+/// The names of the modules of cases in a directory.
 fn module_names(directory: &Path) -> BTreeSet<String> {
     let entries = std::fs::read_dir(directory).expect("the directory can be listed");
     let names = entries.map(|entry| entry.unwrap().file_name().into_string().unwrap());
@@ -97,17 +63,17 @@ fn module_names(directory: &Path) -> BTreeSet<String> {
     names.filter(of_a_group).collect()
 }
 
-/// Two runs write the same; the stored files, where they exist, are byte for byte what is written.
+/// Two runs write the same; the stored modules, where they exist, are byte for byte what is written.
 #[test]
-fn files_repeat_and_are_stored() {
-    let written = files();
-    assert_eq!(written, files());
-    let directory = Path::new(env!("CARGO_MANIFEST_DIR")).join("../crates/vectors/specs");
+fn modules_repeat_and_are_stored() {
+    let written = modules();
+    assert_eq!(written, modules());
+    let directory = Path::new(env!("CARGO_MANIFEST_DIR")).join("../crates/test_definitions/specs");
     let stored = directory.exists();
     for (name, text) in &written {
         let cases = text.matches("checked (").count() + text.matches("searched (").count();
         println!("{name}: {cases} cases, {} bytes", text.len());
-        assert!(cases <= CASES_PER_FILE);
+        assert!(cases <= CASES_PER_MODULE);
         if stored {
             let found = std::fs::read_to_string(directory.join(name)).unwrap_or_default();
             assert!(found == *text, "{name} is not what the generator writes");
@@ -118,15 +84,15 @@ fn files_repeat_and_are_stored() {
         assert_eq!(module_names(&directory), names);
     }
     println!(
-        "{} files, compared with stored ones: {stored}",
+        "{} modules, compared with stored ones: {stored}",
         written.len()
     );
 }
 
-/// The stored input and output of the program `plan_checks` are what the generator writes.
+/// The stored input and output of the program `test_plan_checks` are what the generator writes.
 #[test]
 fn plan_checks_are_stored() {
-    let directory = Path::new(env!("CARGO_MANIFEST_DIR")).join("../crates/plan_checks");
+    let directory = Path::new(env!("CARGO_MANIFEST_DIR")).join("../crates/test_plan_checks");
     let (input, output) = plan_checks();
     assert!(std::fs::read(directory.join("stdin")).unwrap() == input);
     assert_eq!(
@@ -140,10 +106,10 @@ fn plan_checks_are_stored() {
     );
 }
 
-/// The stored arguments, models and output of the program `cases` are what the generator writes.
+/// The stored arguments, models and output of the program `test_searches` are what the generator writes.
 #[test]
 fn search_cases_are_stored() {
-    let directory = Path::new(env!("CARGO_MANIFEST_DIR")).join("../crates/cases");
+    let directory = Path::new(env!("CARGO_MANIFEST_DIR")).join("../crates/test_searches");
     let cases = search_cases();
     let stored = |name: &str| std::fs::read_to_string(directory.join(name)).unwrap();
     assert_eq!(stored("args"), cases.arguments);

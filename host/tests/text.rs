@@ -15,7 +15,8 @@ mod names;
 #[path = "text/trips.rs"]
 mod trips;
 
-use repgypsum_host::reference::{limit, read_model, refusal};
+use repgypsum_host::numbers::{limit, refusal};
+use repgypsum_host::reference::read_model;
 use repgypsum_host::text::{assemble, disassemble};
 use std::path::Path;
 
@@ -27,7 +28,7 @@ const PRELUDE: &str = "cost sum objects node = home east west
 /// Whether the reader accepts the bytes; then text and back gives the same bytes, else the reader's refusal.
 fn round_trip(bytes: &[u8]) -> bool {
     let read = if bytes.len() > limit::MODEL_BYTES {
-        Err(refusal::TOO_LONG)
+        Err(refusal::MODEL_TOO_LONG)
     } else {
         read_model(bytes).map(|_| ())
     };

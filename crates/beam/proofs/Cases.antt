@@ -13,23 +13,23 @@ use Rattle.model.specs.Syntax.{Rule, Variable}
 use Rattle.model.specs.Meaning.{State}
 use Rattle.model.specs.Steps.{costsOf}
 use Rattle.search.specs.Search.{Round, insert}
-use Rattle.steps.specs.Held.{systemIn}
+use Rattle.steps.specs.InBytes.{systemIn}
 use Rattle.outline.specs.Outline.{modelOf}
-use Rattle.order.specs.Slots.{fAt, hAt, wordsIn, before, placed}
-use Rattle.order.specs.Order.{keptIn, earlierAt, Cutoff}
-use Rattle.order.proofs.Arrays.{fails-below}
-use Rattle.order.proofs.Counts.{count-at, without-last}
-use Rattle.order.proofs.Ranks.{placed-length, cut-last, cut-before}
+use Rattle.beam_order.specs.Slots.{fAt, hAt, wordsIn, before, placed}
+use Rattle.beam_order.specs.Order.{keptIn, earlierAt, Cutoff}
+use Rattle.beam_order.proofs.Arrays.{fails-below}
+use Rattle.beam_order.proofs.Counts.{count-at, without-last}
+use Rattle.beam_order.proofs.Ranks.{placed-length, cut-last, cut-before}
 use Rattle.beam.specs.Nodes.{nodeOf, nodesIn, beats}
-use Rattle.beam.specs.Parts.{Held, Removed, Placed, BeatenRemoved, LastReplaced}
-use Rattle.beam.specs.Held.{roundWith}
+use Rattle.beam.specs.Parts.{IndexedParts, Removed, Placed, BeatenRemoved, LastReplaced}
+use Rattle.beam.specs.Layers.{roundWith}
 use Rattle.beam.proofs.Mapped.{any-map, insert-dropped, insert-placed}
 use Rattle.beam.proofs.Layers.{first-length, kept-length, rising, placed-by}
 use Rattle.beam.proofs.Removals.{some-kept}
 
 -- ---- the last of a full layer
 
-pub last-replaced : {outline : List ℕ} {w size : ℕ} {slots order links slots′ order₁ links₁ order′ links′ c : List ℕ} → Held outline w size w slots order links → 0 < w
+pub last-replaced : {outline : List ℕ} {w size : ℕ} {slots order links slots′ order₁ links₁ order′ links′ c : List ℕ} → IndexedParts outline w size w slots order links → 0 < w
     → Removed outline w size w (w - 1) slots order order₁ links₁ → Placed outline w size (w - 1) slots order₁ slots′ order′ links′ c → LastReplaced outline w size slots order slots′ order′ links′ c
 last-replaced {w = w} {slots = slots} {order = order} {c = c} hd pos r p =
     let z : w - 1 + 1 ≡ w = omega arith in
@@ -67,7 +67,7 @@ behind-all w slots order c l = rw (take-all w (take w order) l, drop-of-length-l
 
 -- rule 5 over three lists
 pub record InsertedInto (bytes outline : List ℕ) (w size n count : ℕ) (cut : Bool) (slots order slots′ order′ links′ child : List ℕ) : Type 0 where
-  pub held : Held outline w size count slots′ order′ links′
+  pub held : IndexedParts outline w size count slots′ order′ links′
   pub inserts : (rule : Rule) (parentPath : ℕ → List ℕ) (r : Round State ℕ) → r .kept ≡ nodesIn (modelOf bytes .variables) parentPath slots order n
       → insert (costsOf rule) (systemIn bytes) w (nodeOf (modelOf bytes .variables) parentPath child) r ≡ roundWith (nodesIn (modelOf bytes .variables) parentPath slots′ order′ count) cut r
 
@@ -78,14 +78,14 @@ rest vs slots order n c = filter (λ m. not (beats vs c m)) (keptIn slots order 
 with-child : {vs : List Variable} {outline : List ℕ} {w size n m : ℕ} {slots order order₁ links₁ c : List ℕ} → BeatenRemoved vs outline w size n m slots order order₁ links₁ c → length (placed c (rest vs slots order n c)) ≡ suc m
 with-child {vs} {n = n} {slots = slots} {order = order} {c = c} b = placed-length c (rest vs slots order n c) ∙ ap suc (ap length (sym (b .kept)) ∙ kept-length (b .held))
 
-pub dropped : {bytes outline : List ℕ} {w size n : ℕ} {slots order links c : List ℕ} → Held outline w size n slots order links → any (λ m. beats (modelOf bytes .variables) m c) (keptIn slots order n) ≡ true
+pub dropped : {bytes outline : List ℕ} {w size n : ℕ} {slots order links c : List ℕ} → IndexedParts outline w size n slots order links → any (λ m. beats (modelOf bytes .variables) m c) (keptIn slots order n) ≡ true
     → InsertedInto bytes outline w size n n false slots order slots order links c
 dropped {bytes} {w = w} {n = n} {slots = slots} {order = order} {c = c} hd e =
     record { held = hd; inserts = λ rule path r is. unfold nodesIn in insert-dropped bytes rule path w c (keptIn slots order n) r (unfold nodesIn in is) e }
 
 module _ {bytes outline : List ℕ} {w size n : ℕ} {slots order c : List ℕ} (free : any (λ m. beats (modelOf bytes .variables) m c) (keptIn slots order n) ≡ false) where
   -- a layer that holds what the definition keeps
-  ended : {count : ℕ} (cut : Bool) {slots′ order′ links′ : List ℕ} → Held outline w size count slots′ order′ links′ → ltb w (length (placed c (rest (modelOf bytes .variables) slots order n c))) ≡ cut
+  ended : {count : ℕ} (cut : Bool) {slots′ order′ links′ : List ℕ} → IndexedParts outline w size count slots′ order′ links′ → ltb w (length (placed c (rest (modelOf bytes .variables) slots order n c))) ≡ cut
       → keptIn slots′ order′ count ≡ cond cut (dropLast (placed c (rest (modelOf bytes .variables) slots order n c))) (placed c (rest (modelOf bytes .variables) slots order n c))
       → InsertedInto bytes outline w size n count cut slots order slots′ order′ links′ c
   ended {count} cut {slots′} {order′} hd m k =

@@ -15,12 +15,12 @@ use Rattle.model.specs.Syntax.{Rule, Variable}
 use Rattle.model.specs.Meaning.{State}
 use Rattle.model.specs.Steps.{costsOf}
 use Rattle.search.specs.Search.{Node, Route, less, belowBest, leastF}
-use Rattle.order.specs.Slots.{slotWords, fAt, wordsIn, before, Sorted, more}
-use Rattle.order.specs.Order.{keptIn}
-use Rattle.order.proofs.Arrays.{word-in}
-use Rattle.order.proofs.Ranks.{f-order, sorted-take}
+use Rattle.beam_order.specs.Slots.{slotWords, fAt, wordsIn, before, Sorted, more}
+use Rattle.beam_order.specs.Order.{keptIn}
+use Rattle.beam_order.proofs.Arrays.{word-in}
+use Rattle.beam_order.proofs.Ranks.{f-order, sorted-take}
 use Rattle.beam.specs.Nodes.{nodeOf, nodesIn}
-use Rattle.beam.specs.Parts.{Layer}
+use Rattle.beam.specs.Parts.{LayerParts}
 use Rattle.beam.proofs.Mapped.{filter-map, filter-same, take-map, not-at-most}
 
 -- ---- a test that the first r pass and the others do not
@@ -52,11 +52,11 @@ f-rises at (x ∷ k) (suc i) (suc j) (more a s) l h = f-rises at k i j s (omega 
 -- rule 6 over two lists
 pub record Below (w n count best : ℕ) (slots order : List ℕ) : Type 0 where
   pub fewer : count ≤ n
-  pub layer : Layer w count slots order
+  pub layer : LayerParts w count slots order
   pub left : (rule : Rule) (M : System State ℕ) (vs : List Variable) (parentPath : ℕ → List ℕ) (b : Route ℕ) → b .cost ≡ best
       → nodesIn vs parentPath slots order count ≡ filter (λ m. belowBest (costsOf rule) M (m .f) (some b)) (nodesIn vs parentPath slots order n)
 
-module _ {w n : ℕ} {slots order : List ℕ} (la : Layer w n slots order) where
+module _ {w n : ℕ} {slots order : List ℕ} (la : LayerParts w n slots order) where
   long : length (take n order) ≡ n
   long = length-take-le n order (la .inside .room)
 

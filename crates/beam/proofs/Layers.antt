@@ -7,16 +7,16 @@ use mathlib.Core.List.{List, [], _∷_, _++_, map}
 use native.Mathlib.Omega.{arith}
 use lib.ListN.{length, take, drop, getD, length-map}
 use lib.Seq.{length-take-le, getD-take, split-at}
-use Rattle.order.specs.Slots.{slotWords, fAt, hAt, wordsIn, earlier, placed, none}
-use Rattle.order.specs.Order.{count, Distinct, used, keptIn, inserted, removed, without, upFrom, earlierAt, Cutoff, Rising, Inside}
-use Rattle.order.proofs.Counts.{count-append, count-cons, count-here, count-other, count-part, count-at, map-same, count-inserted, count-removed, without-map, without-count, take-removed, take-inserted, count-more, used-same, used-no, used-yes, up-distinct, slot-below}
-use Rattle.order.proofs.Ranks.{sorted-rising, sorted-without, sorted-placed, placed-at}
-use Rattle.links.specs.Links.{SameBut, Added, Cleared}
-use Rattle.links.specs.Links as L
-use Rattle.links.proofs.Linked.{cleared-falling, cleared-index}
+use Rattle.beam_order.specs.Slots.{slotWords, fAt, hAt, wordsIn, earlier, placed, none}
+use Rattle.beam_order.specs.Order.{count, Distinct, used, keptIn, inserted, removed, without, upFrom, earlierAt, Cutoff, Rising, Inside}
+use Rattle.beam_order.proofs.Counts.{count-append, count-cons, count-here, count-other, count-part, count-at, map-same, count-inserted, count-removed, without-map, without-count, take-removed, take-inserted, count-more, used-same, used-no, used-yes, up-distinct, slot-below}
+use Rattle.beam_order.proofs.Ranks.{sorted-rising, sorted-without, sorted-placed, placed-at}
+use Rattle.beam_index.specs.Links.{SameBut, Added, Cleared}
+use Rattle.beam_index.specs.Links as L
+use Rattle.beam_index.proofs.Linked.{cleared-falling, cleared-index}
 use Rattle.beam.specs.Nodes.{stateWords}
 use Rattle.beam.specs.Buckets.{bucketOf}
-use Rattle.beam.specs.Parts.{bucketIn, written, Held, Removed, Placed, Layer}
+use Rattle.beam.specs.Parts.{bucketIn, written, IndexedParts, Removed, Placed, LayerParts}
 use Rattle.beam.proofs.Written.{written-same, written-other}
 use Rattle.beam.proofs.Mapped.{map-append}
 
@@ -24,7 +24,7 @@ kept-by : (slots order : List ℕ) (n : ℕ) (l : List (List ℕ)) → map (word
 unfolding keptIn
 kept-by slots order n l e = e
 
-module _ {outline : List ℕ} {w size n : ℕ} {slots order links : List ℕ} (hd : Held outline w size n slots order links) where
+module _ {outline : List ℕ} {w size n : ℕ} {slots order links : List ℕ} (hd : IndexedParts outline w size n slots order links) where
   pub order-room : n ≤ length order
   order-room = omega (arith, hd .few, hd .order-long)
 
@@ -45,7 +45,7 @@ module _ {outline : List ℕ} {w size n : ℕ} {slots order links : List ℕ} (h
   pub inside : Inside w n order
   inside = record { room = order-room; each = λ i h. slot-inside i (omega (arith, hd .few)) }
 
-  pub layer : Layer w n slots order
+  pub layer : LayerParts w n slots order
   layer = record { slots-long = hd .slots-long; inside = inside; sorted = hd .sorted }
 
   used-at : (p : ℕ) → p < n → used order n (getD order p 0) ≡ true
@@ -209,7 +209,7 @@ module _ {outline : List ℕ} {w size n : ℕ} {slots order links : List ℕ} (h
 
 -- ---- an empty layer
 
-pub emptied : (outline slots order links : List ℕ) (w size : ℕ) → 0 < size → size ≤ 2 ^ 32 → w * slotWords ≤ length slots → length order ≡ w → length links ≡ w + size → order ≡ upFrom 0 w → Cleared links → Held outline w size 0 slots order links
+pub emptied : (outline slots order links : List ℕ) (w size : ℕ) → 0 < size → size ≤ 2 ^ 32 → w * slotWords ≤ length slots → length order ≡ w → length links ≡ w + size → order ≡ upFrom 0 w → Cleared links → IndexedParts outline w size 0 slots order links
 emptied outline slots order links w size pos few long lo ll e c =
     record {
       few = omega arith;

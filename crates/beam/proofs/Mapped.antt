@@ -15,12 +15,12 @@ use Rattle.model.specs.Meaning.{State}
 use Rattle.model.specs.Steps.{noneWorse, systemOf, costsOf}
 use Rattle.words.specs.States.{stateOf}
 use Rattle.outline.specs.Outline.{modelOf}
-use Rattle.steps.specs.Held.{systemIn, stateIn}
+use Rattle.steps.specs.InBytes.{systemIn, stateIn}
 use Rattle.search.specs.Search.{Node, Round, less, before as before·node, place, beats as beats·node, cut, insert}
-use Rattle.order.specs.Slots.{gAt, hAt, fAt, earlier, before, placed}
-use Rattle.order.specs.Order.{without}
+use Rattle.beam_order.specs.Slots.{gAt, hAt, fAt, earlier, before, placed}
+use Rattle.beam_order.specs.Order.{without}
 use Rattle.beam.specs.Nodes.{stateWords, nodeOf, beats}
-use Rattle.beam.specs.Held.{roundWith}
+use Rattle.beam.specs.Layers.{roundWith}
 
 -- ---- any list
 

@@ -13,7 +13,7 @@ use Rattle.laws.proofs.Bools.{and-both}
 use Rattle.model.specs.Syntax.{Variable}
 use Rattle.model.specs.Steps.{noneWorse}
 use Rattle.outline.specs.Outline.{modelOf, variableCountAt, kindsFrom, preferencesFrom}
-use Rattle.steps.specs.Held.{Outlined, stateIn}
+use Rattle.steps.specs.InBytes.{Outlined, stateIn}
 use Rattle.steps.specs.Order.{comparedWord, noWorseBy, noWorseAt}
 use Rattle.steps.proofs.Items.{nth-of}
 use Rattle.steps.proofs.Dominance.{compared-at}

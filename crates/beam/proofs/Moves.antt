@@ -8,16 +8,16 @@ use lib.ListN.{length, drop, getD}
 use lib.Seq.{length-take-le, getD-take}
 use Rattle.laws.specs.Lists.{any, filter}
 use Rattle.outline.specs.Outline.{modelOf}
-use Rattle.steps.specs.Held.{Outlined}
-use Rattle.order.specs.Slots.{slotWords, fAt, hAt, wordsIn}
-use Rattle.order.specs.Order.{used, keptIn, inserted, removed, upFrom, earlierAt, Cutoff, FoundBelow}
-use Rattle.links.specs.Links.{Added, Cleared, Found}
-use Rattle.links.specs.Links as L
+use Rattle.steps.specs.InBytes.{Outlined}
+use Rattle.beam_order.specs.Slots.{slotWords, fAt, hAt, wordsIn}
+use Rattle.beam_order.specs.Order.{used, keptIn, inserted, removed, upFrom, earlierAt, Cutoff, FoundBelow}
+use Rattle.beam_index.specs.Links.{Added, Cleared, Found}
+use Rattle.beam_index.specs.Links as L
 use Rattle.beam.specs.Nodes.{stateWords, beats}
 use Rattle.beam.specs.Buckets.{bucketOf}
 use Rattle.beam.specs.Parts.{bucketIn, written, sought, Removed, Placed, SlotRemoved, BeatenRemoved, LastReplaced}
 use Rattle.beam.specs.Parts as P
-use Rattle.beam.specs.Held.{slotsOf, orderOf, linksOf, Held, InsertedInto, Layer, Below, Emptied}
+use Rattle.beam.specs.Layers.{slotsOf, orderOf, linksOf, Indexed, InsertedInto, Layer, Below, Emptied}
 use Rattle.beam.proofs.Layers.{slot-inside, layer, held-removed, held-placed, emptied}
 use Rattle.beam.proofs.Removals.{slot-found, beaten-none}
 use Rattle.beam.proofs.Cases as C
@@ -39,25 +39,25 @@ order-at w words i h = part-at (20 * w) (21 * w) words i (omega arith)
 
 -- ---- a layer that holds parts that are held
 
-pub held-in : {outline : List ℕ} {w n : ℕ} {words slots order links : List ℕ} → Holds w words slots order links → P.Held outline w (4 * w) n slots order links → Held outline w n words
+pub held-in : {outline : List ℕ} {w n : ℕ} {words slots order links : List ℕ} → Holds w words slots order links → P.IndexedParts outline w (4 * w) n slots order links → Indexed outline w n words
 held-in h p = record { long = h .long; parts = rw (h .slots-in, h .order-in, h .links-in) p }
 
 pub rest-held : {outline : List ℕ} {w n : ℕ} (words words′ : List ℕ) → 26 * w ≤ length words → length words′ ≡ length words → slotsOf w words′ ≡ slotsOf w words
-    → P.Held outline w (4 * w) n (slotsOf w words) (orderOf w words′) (linksOf w words′) → Held outline w n words′
+    → P.IndexedParts outline w (4 * w) n (slotsOf w words) (orderOf w words′) (linksOf w words′) → Indexed outline w n words′
 rest-held words words′ long l e p = held-in (record { long = omega arith; slots-in = e; order-in = refl; links-in = refl }) p
 
-pub layer-of : {outline : List ℕ} {w n : ℕ} {words : List ℕ} → Held outline w n words → Layer w n words
+pub layer-of : {outline : List ℕ} {w n : ℕ} {words : List ℕ} → Indexed outline w n words → Layer w n words
 layer-of h = record { long = h .long; parts = layer (h .parts) }
 
-pub width-positive : {outline : List ℕ} {w n : ℕ} {words : List ℕ} → Held outline w n words → 0 < w
+pub width-positive : {outline : List ℕ} {w n : ℕ} {words : List ℕ} → Indexed outline w n words → 0 < w
 width-positive h = omega (arith, h .parts .some-bucket)
 
 -- the slot at a place
-pub slot-at : {outline : List ℕ} {w n : ℕ} {words : List ℕ} → Held outline w n words → (p : ℕ) → p < w → getD words (20 * w + p) 0 < w
+pub slot-at : {outline : List ℕ} {w n : ℕ} {words : List ℕ} → Indexed outline w n words → (p : ℕ) → p < w → getD words (20 * w + p) 0 < w
 slot-at {w = w} {words = words} h p hp = subst (λ (s : ℕ). s < w) (order-at w words p hp) (slot-inside (h .parts) p hp)
 
 -- a used slot is found before the place where a node like its own would go
-pub slot-found-in : {outline : List ℕ} {w n : ℕ} {words : List ℕ} → Held outline w n words → (s end p : ℕ) → s < w → used (orderOf w words) n s ≡ true
+pub slot-found-in : {outline : List ℕ} {w n : ℕ} {words : List ℕ} → Indexed outline w n words → (s end p : ℕ) → s < w → used (orderOf w words) n s ≡ true
     → Cutoff (earlierAt (slotsOf w words) (orderOf w words) (getD words (s * slotWords + fAt) 0) (getD words (s * slotWords + hAt) 0)) n end → FoundBelow (orderOf w words) end s p
     → (p < n) × (getD (orderOf w words) p 0 ≡ s)
 slot-found-in {w = w} {n} {words} h s end p hs u cut found =
@@ -81,7 +81,7 @@ emptied-in w words os ls pos few long lo eo ll c =
 
 -- ---- one out
 
-pub removed-in : {outline : List ℕ} {w n p k : ℕ} {words ls os : List ℕ} → Held outline w n words → p < n → bucketIn outline (slotsOf w words) (4 * w) (getD (orderOf w words) p 0) ≡ k
+pub removed-in : {outline : List ℕ} {w n p k : ℕ} {words ls os : List ℕ} → Indexed outline w n words → p < n → bucketIn outline (slotsOf w words) (4 * w) (getD (orderOf w words) p 0) ≡ k
     → length ls ≡ length (linksOf w words) → L.Removed (linksOf w words) ls w k (getD words (20 * w + p) 0)
     → length os ≡ length (orderOf w (put (21 * w) (26 * w) words ls)) → os ≡ removed (orderOf w (put (21 * w) (26 * w) words ls)) n p
     → (slotsOf w (put (20 * w) (21 * w) (put (21 * w) (26 * w) words ls) os) ≡ slotsOf w words)
@@ -101,19 +101,19 @@ pub slot-gone : {outline : List ℕ} {w n s : ℕ} (words words′ : List ℕ) �
 slot-gone {w = w} {n} words words′ e r p f = ap (λ (l : List ℕ). filter p (keptIn l (orderOf w words′) (n - 1))) e ∙ r .kept p f
 
 -- all that the child beats are out
-pub beaten-gone : (bytes : List ℕ) {outline : List ℕ} {w n m k : ℕ} (words₀ words c : List ℕ) → Outlined bytes outline → bucketOf outline (stateWords c) (4 * w) ≡ k → slotsOf w words ≡ slotsOf w words₀ → Held outline w m words
+pub beaten-gone : (bytes : List ℕ) {outline : List ℕ} {w n m k : ℕ} (words₀ words c : List ℕ) → Outlined bytes outline → bucketOf outline (stateWords c) (4 * w) ≡ k → slotsOf w words ≡ slotsOf w words₀ → Indexed outline w m words
     → (q : ℕ) → Found (linksOf w words) w k (sought (modelOf bytes .variables) (slotsOf w words) c true) q → q ≡ 0
     → filter (λ m. not (beats (modelOf bytes .variables) c m)) (keptIn (slotsOf w words) (orderOf w words) m) ≡ filter (λ m. not (beats (modelOf bytes .variables) c m)) (keptIn (slotsOf w words₀) (orderOf w words₀) n)
     → BeatenRemoved (modelOf bytes .variables) outline w (4 * w) n m (slotsOf w words₀) (orderOf w words₀) (orderOf w words) (linksOf w words) c
 beaten-gone bytes {outline} {w} {n} {m} {k} words₀ words c o key e h q found z same =
     record {
-      held = subst (λ (l : List ℕ). P.Held outline w (4 * w) m l (orderOf w words) (linksOf w words)) e (h .parts);
+      held = subst (λ (l : List ℕ). P.IndexedParts outline w (4 * w) m l (orderOf w words) (linksOf w words)) e (h .parts);
       kept = ap (λ (l : List ℕ). keptIn l (orderOf w words) m) (sym e) ∙ sym (beaten-none bytes (h .parts) k c o key q found z) ∙ same;
     }
 
 -- ---- one in
 
-pub placed-in : {outline : List ℕ} {w n p k : ℕ} {words os ss ls c : List ℕ} → Held outline w n words → n < w → length c ≡ slotWords → bucketOf outline (stateWords c) (4 * w) ≡ k
+pub placed-in : {outline : List ℕ} {w n p k : ℕ} {words os ss ls c : List ℕ} → Indexed outline w n words → n < w → length c ≡ slotWords → bucketOf outline (stateWords c) (4 * w) ≡ k
     → Cutoff (earlierAt (slotsOf w words) (orderOf w words) (getD c fAt 0) (getD c hAt 0)) n p
     → length os ≡ length (orderOf w words) → os ≡ inserted (orderOf w words) n p (getD words (20 * w + n) 0)
     → length ss ≡ length (slotsOf w (put (20 * w) (21 * w) words os)) → ss ≡ written (slotsOf w (put (20 * w) (21 * w) words os)) (getD words (20 * w + n) 0) c
@@ -133,7 +133,7 @@ placed-in {outline} {w} {n} {p} {k} {words} {os} {ss} {ls} {c} h hn full key cut
 
 -- ---- the last replaced
 
-pub last-replaced-in : {outline : List ℕ} {w : ℕ} {words : List ℕ} (words₁ : List ℕ) {slots′ order′ links′ c : List ℕ} → Held outline w w words → slotsOf w words₁ ≡ slotsOf w words
+pub last-replaced-in : {outline : List ℕ} {w : ℕ} {words : List ℕ} (words₁ : List ℕ) {slots′ order′ links′ c : List ℕ} → Indexed outline w w words → slotsOf w words₁ ≡ slotsOf w words
     → Removed outline w (4 * w) w (w - 1) (slotsOf w words) (orderOf w words) (orderOf w words₁) (linksOf w words₁) → Placed outline w (4 * w) (w - 1) (slotsOf w words₁) (orderOf w words₁) slots′ order′ links′ c
     → LastReplaced outline w (4 * w) (slotsOf w words) (orderOf w words) slots′ order′ links′ c
 last-replaced-in {outline} {w} {words} words₁ {slots′} {order′} {links′} {c} h e r p =
@@ -145,17 +145,17 @@ inserted-in : {bytes outline : List ℕ} {w n count : ℕ} {cut : Bool} {words w
     → C.InsertedInto bytes outline w (4 * w) n count cut (slotsOf w words) (orderOf w words) (slotsOf w words′) (orderOf w words′) (linksOf w words′) c → InsertedInto bytes outline w n count cut words words′ c
 inserted-in long l i = record { held = record { long = omega arith; parts = i .held }; inserts = i .inserts }
 
-pub dropped-in : {bytes outline : List ℕ} {w n : ℕ} {words c : List ℕ} → Held outline w n words → any (λ m. beats (modelOf bytes .variables) m c) (keptIn (slotsOf w words) (orderOf w words) n) ≡ true
+pub dropped-in : {bytes outline : List ℕ} {w n : ℕ} {words c : List ℕ} → Indexed outline w n words → any (λ m. beats (modelOf bytes .variables) m c) (keptIn (slotsOf w words) (orderOf w words) n) ≡ true
     → InsertedInto bytes outline w n n false words words c
 dropped-in h e = inserted-in (h .long) refl (C.dropped (h .parts) e)
 
-module _ (bytes : List ℕ) {outline : List ℕ} {w n m : ℕ} {words : List ℕ} (words₁ c : List ℕ) (h : Held outline w n words)
+module _ (bytes : List ℕ) {outline : List ℕ} {w n m : ℕ} {words : List ℕ} (words₁ c : List ℕ) (h : Indexed outline w n words)
     (l₁ : length words₁ ≡ length words) (e : slotsOf w words₁ ≡ slotsOf w words)
     (b : BeatenRemoved (modelOf bytes .variables) outline w (4 * w) n m (slotsOf w words) (orderOf w words) (orderOf w words₁) (linksOf w words₁) c) where
-  pub beaten-held : Held outline w m words₁
+  pub beaten-held : Indexed outline w m words₁
   beaten-held = rest-held words words₁ (h .long) l₁ e (b .held)
 
-  pub full-held : w ≤ m → Held outline w w words₁
+  pub full-held : w ≤ m → Indexed outline w w words₁
   full-held hm = rest-held words words₁ (h .long) l₁ e (C.full-removed b hm .held)
 
   module _ (free : any (λ m. beats (modelOf bytes .variables) m c) (keptIn (slotsOf w words) (orderOf w words) n) ≡ false) where

@@ -13,11 +13,11 @@ use Rattle.model.specs.Syntax.{Rule, Variable}
 use Rattle.model.specs.Meaning.{State}
 use Rattle.model.specs.Steps.{costsOf}
 use Rattle.search.specs.Search.{raisedLow}
-use Rattle.order.specs.Slots.{slotWords, fAt, wordsIn, Sorted}
-use Rattle.order.specs.Order.{keptIn}
-use Rattle.order.proofs.Arrays.{word-in}
+use Rattle.beam_order.specs.Slots.{slotWords, fAt, wordsIn, Sorted}
+use Rattle.beam_order.specs.Order.{keptIn}
+use Rattle.beam_order.proofs.Arrays.{word-in}
 use Rattle.beam.specs.Nodes.{nodeOf, nodeIn, nodesIn}
-use Rattle.beam.specs.Held.{slotsOf, orderOf, nodesOf, Layer}
+use Rattle.beam.specs.Layers.{slotsOf, orderOf, nodesOf, Layer}
 use Rattle.beam.proofs.Ends.{least-first}
 use Rattle.beam.proofs.Moves.{slots-length, order-at, few-in, place-below, f-in}
 

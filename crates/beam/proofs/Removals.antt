@@ -13,17 +13,17 @@ use Rattle.laws.specs.Lists.{any, filter}
 use Rattle.laws.proofs.Bools.{and-both, not-both}
 use Rattle.model.specs.Syntax.{Variable}
 use Rattle.outline.specs.Outline.{modelOf}
-use Rattle.steps.specs.Held.{Outlined}
-use Rattle.order.specs.Slots.{slotWords, fAt, hAt, wordsIn}
-use Rattle.order.specs.Order.{count, used, keptIn, without, earlierAt, Cutoff, FoundBelow}
-use Rattle.order.proofs.Counts.{count-find, used-yes, used-no, used-count, kept-below}
-use Rattle.order.proofs.Arrays.{word-in}
-use Rattle.order.proofs.Ranks.{not-before-itself}
-use Rattle.links.specs.Links.{Found}
-use Rattle.links.proofs.Linked.{member-of, is-member}
+use Rattle.steps.specs.InBytes.{Outlined}
+use Rattle.beam_order.specs.Slots.{slotWords, fAt, hAt, wordsIn}
+use Rattle.beam_order.specs.Order.{count, used, keptIn, without, earlierAt, Cutoff, FoundBelow}
+use Rattle.beam_order.proofs.Counts.{count-find, used-yes, used-no, used-count, kept-below}
+use Rattle.beam_order.proofs.Arrays.{word-in}
+use Rattle.beam_order.proofs.Ranks.{not-before-itself}
+use Rattle.beam_index.specs.Links.{Found}
+use Rattle.beam_index.proofs.Linked.{member-of, is-member}
 use Rattle.beam.specs.Nodes.{stateWords, beats}
 use Rattle.beam.specs.Buckets.{bucketOf}
-use Rattle.beam.specs.Parts.{bucketIn, sought, Held, Removed, SlotRemoved}
+use Rattle.beam.specs.Parts.{bucketIn, sought, IndexedParts, Removed, SlotRemoved}
 use Rattle.beam.proofs.Mixing.{same-bucket}
 use Rattle.beam.proofs.Mapped.{any-map, filter-all, filter-without}
 use Rattle.beam.proofs.Layers.{first-length}
@@ -52,7 +52,7 @@ none-kept p (y ∷ k) n =
     let q : p y ≡ false = n y (rw (eq-eqb y y refl) (omega arith)) in
     rw q (none-kept p k (λ s h. n s (omega arith)))
 
-module _ {outline : List ℕ} {w size n : ℕ} {slots order links : List ℕ} (hd : Held outline w size n slots order links) (b : ℕ) (p : List ℕ → Bool)
+module _ {outline : List ℕ} {w size n : ℕ} {slots order links : List ℕ} (hd : IndexedParts outline w size n slots order links) (b : ℕ) (p : List ℕ → Bool)
     (own : (m : List ℕ) → p m ≡ true → bucketOf outline (stateWords m) size ≡ b) (passes : ℕ → Bool) (by-words : (s : ℕ) → passes s ≡ p (wordsIn slots s)) where
   -- where only bucket b can hold what passes, its search answers for all
   pub found-none : Found links w b passes 0 → any p (keptIn slots order n) ≡ false
@@ -91,7 +91,7 @@ test-at slots order s i e =
     rw (e, ← f, ← h) (not-before-itself (wordsIn slots s))
 
 -- a used slot is found before the place where a node like its own would go
-pub slot-found : {outline : List ℕ} {w size n : ℕ} {slots order links : List ℕ} → Held outline w size n slots order links → (s end p : ℕ) → used order n s ≡ true
+pub slot-found : {outline : List ℕ} {w size n : ℕ} {slots order links : List ℕ} → IndexedParts outline w size n slots order links → (s end p : ℕ) → used order n s ≡ true
     → Cutoff (earlierAt slots order (getD slots (s * slotWords + fAt) 0) (getD slots (s * slotWords + hAt) 0)) n end → FoundBelow order end s p → (p < n) × (getD order p 0 ≡ s)
 slot-found {n = n} {slots = slots} {order = order} hd s end p u cut f = count-find (take n order) s (used-count order n s u) there
   where
@@ -107,7 +107,7 @@ filter-kept : (q : List ℕ → Bool) (slots order : List ℕ) (n p : ℕ) → p
 unfolding keptIn
 filter-kept q slots order n p l g = filter-without q (wordsIn slots) p (take n order) l g
 
-pub removed-slot : {outline : List ℕ} {w size n : ℕ} {slots order links order′ links′ : List ℕ} → Held outline w size n slots order links → (s p : ℕ) → (p < n) × (getD order p 0 ≡ s)
+pub removed-slot : {outline : List ℕ} {w size n : ℕ} {slots order links order′ links′ : List ℕ} → IndexedParts outline w size n slots order links → (s p : ℕ) → (p < n) × (getD order p 0 ≡ s)
     → Removed outline w size n p slots order order′ links′ → SlotRemoved outline w size n s slots order order′ links′
 removed-slot {n = n} {slots = slots} {order = order} hd s p at r = record { held = r .held; kept = λ q f. ap (filter q) (r .kept) ∙ same q f }
   where
@@ -119,7 +119,7 @@ removed-slot {n = n} {slots = slots} {order = order} hd s p at r = record { held
 
 -- ---- removing all that the child beats
 
-module _ (bytes : List ℕ) {outline : List ℕ} {w size n : ℕ} {slots order links : List ℕ} (hd : Held outline w size n slots order links) (b : ℕ) (c : List ℕ) where
+module _ (bytes : List ℕ) {outline : List ℕ} {w size n : ℕ} {slots order links : List ℕ} (hd : IndexedParts outline w size n slots order links) (b : ℕ) (c : List ℕ) where
   abbrev vs : List Variable
   vs = modelOf bytes .variables
 

@@ -5,7 +5,7 @@ use mathlib.Core.List.{List, _++_}
 use native.Mathlib.Omega.{arith}
 use lib.ListN.{length, take, drop, getD, length-drop, length-append, take-append-drop}
 use lib.Seq.{length-take-le, take-at, drop-at, drop-drop, take-append-le, drop-append-le, getD-take, getD-drop}
-use Rattle.beam.specs.Held.{part, slotsOf, orderOf, linksOf}
+use Rattle.beam.specs.Layers.{part, slotsOf, orderOf, linksOf}
 
 -- ---- any part
 

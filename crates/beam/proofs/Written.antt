@@ -7,7 +7,7 @@ use native.Mathlib.Omega.{arith}
 use native.Mathlib.Decide.{decLt}
 use lib.ListN.{length, take, drop, length-drop, take-append-drop}
 use lib.Seq.{length-take-le, take-at, drop-at, drop-drop, take-append-le, drop-append-le}
-use Rattle.order.specs.Slots.{slotWords, wordsIn}
+use Rattle.beam_order.specs.Slots.{slotWords, wordsIn}
 use Rattle.beam.specs.Parts.{written}
 
 -- the words of a slot are as many as a slot has

@@ -2,4 +2,4 @@
 pub mod Nodes
 pub mod Buckets
 pub mod Parts
-pub mod Held
+pub mod Layers

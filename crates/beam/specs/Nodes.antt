@@ -10,8 +10,8 @@ use Rattle.model.specs.Meaning.{State}
 use Rattle.model.specs.Steps.{noneWorse}
 use Rattle.words.specs.States.{stateOf}
 use Rattle.search.specs.Search.{Node}
-use Rattle.order.specs.Slots.{gAt, hAt, fAt, backAt, wordsIn}
-use Rattle.order.specs.Order.{keptIn}
+use Rattle.beam_order.specs.Slots.{gAt, hAt, fAt, backAt, wordsIn}
+use Rattle.beam_order.specs.Order.{keptIn}
 
 -- the words of a node's state
 abbrev pub stateWords : List ℕ → List ℕ

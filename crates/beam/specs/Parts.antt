@@ -6,9 +6,9 @@ use mathlib.Core.List.{List, _++_, dropLast}
 use lib.ListN.{length, take, drop}
 use Rattle.laws.specs.Lists.{filter}
 use Rattle.model.specs.Syntax.{Variable}
-use Rattle.order.specs.Slots.{slotWords, wordsIn, placed, Sorted}
-use Rattle.order.specs.Order.{Distinct, used, keptIn, without, Inside}
-use Rattle.links.specs.Links.{Index, Falling}
+use Rattle.beam_order.specs.Slots.{slotWords, wordsIn, placed, Sorted}
+use Rattle.beam_order.specs.Order.{Distinct, used, keptIn, without, Inside}
+use Rattle.beam_index.specs.Links.{Index, Falling}
 use Rattle.beam.specs.Nodes.{stateWords, beats}
 use Rattle.beam.specs.Buckets.{bucketOf}
 
@@ -16,7 +16,7 @@ use Rattle.beam.specs.Buckets.{bucketOf}
 unfoldable pub bucketIn : (outline slots : List ℕ) (size s : ℕ) → ℕ
 bucketIn outline slots size s = bucketOf outline (stateWords (wordsIn slots s)) size
 
-pub record Held (outline : List ℕ) (w size n : ℕ) (slots order links : List ℕ) : Type 0 where
+pub record IndexedParts (outline : List ℕ) (w size n : ℕ) (slots order links : List ℕ) : Type 0 where
   pub few : n ≤ w
   pub some-bucket : 0 < size
   pub few-buckets : size ≤ 2 ^ 32
@@ -38,31 +38,31 @@ sought vs slots child beaten s = cond beaten (beats vs child (wordsIn slots s)) 
 
 -- the node at place p is out
 pub record Removed (outline : List ℕ) (w size n p : ℕ) (slots order order′ links′ : List ℕ) : Type 0 where
-  pub held : Held outline w size (n - 1) slots order′ links′
+  pub held : IndexedParts outline w size (n - 1) slots order′ links′
   pub kept : keptIn slots order′ (n - 1) ≡ without p (keptIn slots order n)
 
 -- the child is in, at its place
 pub record Placed (outline : List ℕ) (w size n : ℕ) (slots order slots′ order′ links′ child : List ℕ) : Type 0 where
-  pub held : Held outline w size (n + 1) slots′ order′ links′
+  pub held : IndexedParts outline w size (n + 1) slots′ order′ links′
   pub kept : keptIn slots′ order′ (n + 1) ≡ placed child (keptIn slots order n)
 
 -- the node in slot s is out: nothing else is missing
 pub record SlotRemoved (outline : List ℕ) (w size n s : ℕ) (slots order order′ links′ : List ℕ) : Type 0 where
-  pub held : Held outline w size (n - 1) slots order′ links′
+  pub held : IndexedParts outline w size (n - 1) slots order′ links′
   pub kept : (p : List ℕ → Bool) → p (wordsIn slots s) ≡ false → filter p (keptIn slots order′ (n - 1)) ≡ filter p (keptIn slots order n)
 
 -- r are left: those that the child does not beat
 pub record BeatenRemoved (vs : List Variable) (outline : List ℕ) (w size n r : ℕ) (slots order order′ links′ child : List ℕ) : Type 0 where
-  pub held : Held outline w size r slots order′ links′
+  pub held : IndexedParts outline w size r slots order′ links′
   pub kept : keptIn slots order′ r ≡ filter (λ m. not (beats vs child m)) (keptIn slots order n)
 
 -- the child in the place of the last of a full layer
 pub record LastReplaced (outline : List ℕ) (w size : ℕ) (slots order slots′ order′ links′ child : List ℕ) : Type 0 where
-  pub held : Held outline w size w slots′ order′ links′
+  pub held : IndexedParts outline w size w slots′ order′ links′
   pub kept : keptIn slots′ order′ w ≡ placed child (dropLast (keptIn slots order w))
 
 -- what is left of a held layer to those that only read it
-pub record Layer (w n : ℕ) (slots order : List ℕ) : Type 0 where
+pub record LayerParts (w n : ℕ) (slots order : List ℕ) : Type 0 where
   pub slots-long : w * slotWords ≤ length slots
   pub inside : Inside w n order
   pub sorted : Sorted (keptIn slots order n)

@@ -6,21 +6,21 @@ ghost use Prim.Native.Nat.{_-_, _*_, _^_, _≤_, _<_};
 ghost use lib.ListN.{length, getD};
 ghost use Rattle.model.specs.Numbers.{mostVariables};
 ghost use Rattle.outline.specs.Outline.{modelOf, variableCountAt};
-ghost use Rattle.steps.specs.Held.{Outlined};
-ghost use Rattle.order.specs.Slots.{slotWords};
-ghost use Rattle.order.specs.Order.{used, earlierAt, Rising, Cutoff};
-ghost use Rattle.links.specs.Links.{Falling, Found};
+ghost use Rattle.steps.specs.InBytes.{Outlined};
+ghost use Rattle.beam_order.specs.Slots.{slotWords};
+ghost use Rattle.beam_order.specs.Order.{used, earlierAt, Rising, Cutoff};
+ghost use Rattle.beam_index.specs.Links.{Falling, Found};
 ghost use Rattle.beam.specs.Nodes.{stateWords};
 ghost use Rattle.beam.specs.Buckets.{bucketOf};
 ghost use Rattle.beam.specs.Parts.{bucketIn, sought, Removed, Placed, SlotRemoved, BeatenRemoved, LastReplaced};
-ghost use Rattle.beam.specs.Held.{slotsOf, orderOf, linksOf, Held, InsertedInto, Layer, Below, Emptied};
+ghost use Rattle.beam.specs.Layers.{slotsOf, orderOf, linksOf, Indexed, InsertedInto, Layer, Below, Emptied};
 use crate::buckets::bucket;
 use crate::buckets::slot_bucket;
 use crate::slots::find;
 use crate::slots::write_slot;
-use order::F_AT;
-use order::H_AT;
-use order::SLOT_WORDS;
+use beam_order::F_AT;
+use beam_order::H_AT;
+use beam_order::SLOT_WORDS;
 
 // Where the order and the links begin behind the slots, and where a layer ends, for each place of the width.
 pub const ORDER_AT: usize = 20;
@@ -43,31 +43,31 @@ pub fn empty(layer: &mut [u64], w: usize)
     let a = ORDER_AT * w;
     let b = LINKS_AT * w;
     let e = LAYER_END * w;
-    order::fill(&mut layer[a..b]);
-    links::clear(&mut layer[b..e]);
+    beam_order::fill(&mut layer[a..b]);
+    beam_index::clear(&mut layer[b..e]);
 }
 
 // Takes the node at place p, which is in bucket k, out.
-fn remove_place(layer: &mut [u64], outline: &[u64], w: usize, n: usize, k: usize, p: usize)
-    requires { ⌜ Held (now outline) w n (now layer) × ((p < n) × ((k < 4 * w) × (bucketIn (now outline) (slotsOf w (now layer)) (4 * w) (getD (orderOf w (now layer)) p 0) ≡ k))) ⌝ }
+fn remove_position(layer: &mut [u64], outline: &[u64], w: usize, n: usize, k: usize, p: usize)
+    requires { ⌜ Indexed (now outline) w n (now layer) × ((p < n) × ((k < 4 * w) × (bucketIn (now outline) (slotsOf w (now layer)) (4 * w) (getD (orderOf w (now layer)) p 0) ≡ k))) ⌝ }
     ensures { λ _. ⌜ (slotsOf w (now (layer .exit)) ≡ slotsOf w (now (layer .entry))) × Removed (now (outline .entry)) w (4 * w) n p (slotsOf w (now (layer .entry))) (orderOf w (now (layer .entry))) (orderOf w (now (layer .exit))) (linksOf w (now (layer .exit))) ⌝ }
 {
     let a = ORDER_AT * w;
     let b = LINKS_AT * w;
     let e = LAYER_END * w;
     let s = layer[a + p] as usize;
-    links::remove(&mut layer[b..e], w, k, s);
-    order::remove_at(&mut layer[a..b], n, p);
+    beam_index::remove(&mut layer[b..e], w, k, s);
+    beam_order::remove_at(&mut layer[a..b], n, p);
 }
 
 // The place of a node with this f and h among the first n.
-fn place_in(layer: &[u64], w: usize, n: usize, f: u64, h: u64) -> usize
+fn position_in(layer: &[u64], w: usize, n: usize, f: u64, h: u64) -> usize
     requires { ⌜ Layer w n (now layer) ⌝ }
     ensures { λ r. ⌜ (r ≤ n) × (Rising (earlierAt (slotsOf w (now (layer .entry))) (orderOf w (now (layer .entry))) f h) n → Cutoff (earlierAt (slotsOf w (now (layer .entry))) (orderOf w (now (layer .entry))) f h) n r) ⌝ }
 {
     let a = ORDER_AT * w;
     let b = LINKS_AT * w;
-    order::place(&layer[..a], &layer[a..b], w, n, f, h)
+    beam_order::position_for(&layer[..a], &layer[a..b], w, n, f, h)
 }
 
 // Whether a node with this f and h goes before the last of a full layer.
@@ -77,7 +77,7 @@ fn before_last(layer: &[u64], w: usize, f: u64, h: u64) -> bool
 {
     let a = ORDER_AT * w;
     let b = LINKS_AT * w;
-    order::earlier_at(&layer[..a], &layer[a..b], w - 1, f, h)
+    beam_order::earlier_at(&layer[..a], &layer[a..b], w - 1, f, h)
 }
 
 // The link to a node of bucket k that beats the child, or, for beaten, that the child beats; 0 where there is none.
@@ -110,7 +110,7 @@ fn find_in(
 
 // Takes the child, whose bucket is k, in.
 fn add_child(layer: &mut [u64], outline: &[u64], w: usize, n: usize, k: usize, child: &[u64])
-    requires { ⌜ Held (now outline) w n (now layer) × ((n < w) × ((k < 4 * w) × ((length (now child) ≡ slotWords) × (bucketOf (now outline) (stateWords (now child)) (4 * w) ≡ k)))) ⌝ }
+    requires { ⌜ Indexed (now outline) w n (now layer) × ((n < w) × ((k < 4 * w) × ((length (now child) ≡ slotWords) × (bucketOf (now outline) (stateWords (now child)) (4 * w) ≡ k)))) ⌝ }
     ensures { λ _. ⌜ Placed (now (outline .entry)) w (4 * w) n (slotsOf w (now (layer .entry))) (orderOf w (now (layer .entry))) (slotsOf w (now (layer .exit))) (orderOf w (now (layer .exit))) (linksOf w (now (layer .exit))) (now (child .entry)) ⌝ }
 {
     let a = ORDER_AT * w;
@@ -118,17 +118,17 @@ fn add_child(layer: &mut [u64], outline: &[u64], w: usize, n: usize, k: usize, c
     let e = LAYER_END * w;
     let f = child[F_AT];
     let h = child[H_AT];
-    let p = place_in(layer, w, n, f, h);
+    let p = position_in(layer, w, n, f, h);
     let x = layer[a + n];
-    order::insert_at(&mut layer[a..b], n, p, x);
+    beam_order::insert_at(&mut layer[a..b], n, p, x);
     let s = x as usize;
     write_slot(&mut layer[..a], s, child);
-    links::add(&mut layer[b..e], w, k, s);
+    beam_index::add(&mut layer[b..e], w, k, s);
 }
 
 // Takes the node in slot s, which is in bucket k, out.
 fn remove_slot(layer: &mut [u64], outline: &[u64], w: usize, n: usize, k: usize, s: usize)
-    requires { ⌜ Held (now outline) w n (now layer) × ((s < w) × ((used (orderOf w (now layer)) n s ≡ true) × ((k < 4 * w) × (bucketIn (now outline) (slotsOf w (now layer)) (4 * w) s ≡ k)))) ⌝ }
+    requires { ⌜ Indexed (now outline) w n (now layer) × ((s < w) × ((used (orderOf w (now layer)) n s ≡ true) × ((k < 4 * w) × (bucketIn (now outline) (slotsOf w (now layer)) (4 * w) s ≡ k)))) ⌝ }
     ensures { λ _. ⌜ (slotsOf w (now (layer .exit)) ≡ slotsOf w (now (layer .entry))) × SlotRemoved (now (outline .entry)) w (4 * w) n s (slotsOf w (now (layer .entry))) (orderOf w (now (layer .entry))) (orderOf w (now (layer .exit))) (linksOf w (now (layer .exit))) ⌝ }
 {
     let a = ORDER_AT * w;
@@ -136,9 +136,9 @@ fn remove_slot(layer: &mut [u64], outline: &[u64], w: usize, n: usize, k: usize,
     let at = s * SLOT_WORDS;
     let f = layer[at + F_AT];
     let h = layer[at + H_AT];
-    let end = place_in(layer, w, n, f, h);
-    let p = order::find_below(&layer[a..b], end, s as u64);
-    remove_place(layer, outline, w, n, k, p);
+    let end = position_in(layer, w, n, f, h);
+    let p = beam_order::find_below(&layer[a..b], end, s as u64);
+    remove_position(layer, outline, w, n, k, p);
 }
 
 // Takes out each node that the child, whose bucket is k, beats; answers how many are left.
@@ -151,7 +151,7 @@ fn remove_beaten(
     k: usize,
     child: &[u64],
 ) -> usize
-    requires { ⌜ Held (now outline) w n (now layer) × (Outlined (now model) (now outline) × ((k < 4 * w) × ((length (now child) ≡ slotWords) × (bucketOf (now outline) (stateWords (now child)) (4 * w) ≡ k)))) ⌝ }
+    requires { ⌜ Indexed (now outline) w n (now layer) × (Outlined (now model) (now outline) × ((k < 4 * w) × ((length (now child) ≡ slotWords) × (bucketOf (now outline) (stateWords (now child)) (4 * w) ≡ k)))) ⌝ }
     ensures { λ r. ⌜ (slotsOf w (now (layer .exit)) ≡ slotsOf w (now (layer .entry))) × BeatenRemoved (modelOf (now (model .entry)) .variables) (now (outline .entry)) w (4 * w) n r (slotsOf w (now (layer .entry))) (orderOf w (now (layer .entry))) (orderOf w (now (layer .exit))) (linksOf w (now (layer .exit))) (now (child .entry)) ⌝ }
 {
     let mut left = n;
@@ -166,14 +166,14 @@ fn remove_beaten(
 
 // The child, whose bucket is k, takes the place of the last node of a full layer.
 fn replace_last(layer: &mut [u64], outline: &[u64], w: usize, k: usize, child: &[u64])
-    requires { ⌜ Held (now outline) w w (now layer) × ((getD (now outline) variableCountAt 0 ≤ mostVariables) × ((k < 4 * w) × ((length (now child) ≡ slotWords) × (bucketOf (now outline) (stateWords (now child)) (4 * w) ≡ k)))) ⌝ }
+    requires { ⌜ Indexed (now outline) w w (now layer) × ((getD (now outline) variableCountAt 0 ≤ mostVariables) × ((k < 4 * w) × ((length (now child) ≡ slotWords) × (bucketOf (now outline) (stateWords (now child)) (4 * w) ≡ k)))) ⌝ }
     ensures { λ _. ⌜ LastReplaced (now (outline .entry)) w (4 * w) (slotsOf w (now (layer .entry))) (orderOf w (now (layer .entry))) (slotsOf w (now (layer .exit))) (orderOf w (now (layer .exit))) (linksOf w (now (layer .exit))) (now (child .entry)) ⌝ }
 {
     let a = ORDER_AT * w;
     let p = w - 1;
     let s = layer[a + p] as usize;
     let other = slot_bucket(outline, &layer[..a], s, 4 * w);
-    remove_place(layer, outline, w, w, other, p);
+    remove_position(layer, outline, w, w, other, p);
     add_child(layer, outline, w, p, k, child);
 }
 
@@ -186,7 +186,7 @@ pub fn insert(
     n: usize,
     child: &[u64],
 ) -> Inserted
-    requires { ⌜ Held (now outline) width n (now layer) × (Outlined (now model) (now outline) × (length (now child) ≡ slotWords)) ⌝ }
+    requires { ⌜ Indexed (now outline) width n (now layer) × (Outlined (now model) (now outline) × (length (now child) ≡ slotWords)) ⌝ }
     ensures { λ r. ⌜ InsertedInto (now (model .entry)) (now (outline .entry)) width n (r .count) (r .cut) (now (layer .entry)) (now (layer .exit)) (now (child .entry)) ⌝ }
 {
     let k = bucket(outline, &child[..16], 4 * width);

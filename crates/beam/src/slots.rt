@@ -4,14 +4,14 @@ ghost use mathlib.Core.Path.{_≡_};
 ghost use Prim.Native.Nat.{_*_, _+_, _≤_, _<_};
 ghost use lib.ListN.{length};
 ghost use Rattle.outline.specs.Outline.{modelOf};
-ghost use Rattle.steps.specs.Held.{Outlined};
-ghost use Rattle.order.specs.Slots.{slotWords};
-ghost use Rattle.links.specs.Links.{Falling, Found};
+ghost use Rattle.steps.specs.InBytes.{Outlined};
+ghost use Rattle.beam_order.specs.Slots.{slotWords};
+ghost use Rattle.beam_index.specs.Links.{Falling, Found};
 ghost use Rattle.beam.specs.Nodes.{beats as Nodes·beats};
-ghost use Rattle.beam.specs.Parts.{written, sought as Held·sought};
+ghost use Rattle.beam.specs.Parts.{written, sought as slotSought};
+use beam_order::G_AT;
+use beam_order::SLOT_WORDS;
 use laws::copy_words;
-use order::G_AT;
-use order::SLOT_WORDS;
 use steps::states::dominates;
 
 // Writes a node's words into slot s.
@@ -44,7 +44,7 @@ fn sought(
     beaten: bool,
 ) -> bool
     requires { ⌜ Outlined (now model) (now outline) × ((s * slotWords + slotWords ≤ length (now slots)) × (length (now child) ≡ slotWords)) ⌝ }
-    ensures { λ r. ⌜ r ≡ Held·sought (modelOf (now (model .entry)) .variables) (now (slots .entry)) (now (child .entry)) beaten s ⌝ }
+    ensures { λ r. ⌜ r ≡ slotSought (modelOf (now (model .entry)) .variables) (now (slots .entry)) (now (child .entry)) beaten s ⌝ }
 {
     let at = s * SLOT_WORDS;
     if beaten {
@@ -65,7 +65,7 @@ pub fn find(
     beaten: bool,
 ) -> usize
     requires { ⌜ Outlined (now model) (now outline) × ((w + b < length (now links)) × (Falling w (now links) × ((w * slotWords ≤ length (now slots)) × (length (now child) ≡ slotWords)))) ⌝ }
-    ensures { λ r. ⌜ Found (now (links .entry)) w b (Held·sought (modelOf (now (model .entry)) .variables) (now (slots .entry)) (now (child .entry)) beaten) r ⌝ }
+    ensures { λ r. ⌜ Found (now (links .entry)) w b (slotSought (modelOf (now (model .entry)) .variables) (now (slots .entry)) (now (child .entry)) beaten) r ⌝ }
 {
     let mut link = links[w + b] as usize;
     while 0 < link {

@@ -1,4 +1,4 @@
--- The plan check: step by step, to the first trouble; then on bytes.
+-- The plan check: step by step, to the first trouble; then on bytes. docs/FORMAT.md, "Plan check".
 use Prim.Native.Nat.{ℕ, _≤_}
 use mathlib.Core.Path.{_≡_}
 use mathlib.Core.Bool.{Bool, cond}

@@ -1,4 +1,5 @@
 -- Reading a whole model: its commands in their order, within their sizes.
+-- docs/FORMAT.md, "Commands", "Sizes" and "Refusals by the input".
 use Prim.Native.Nat.{ℕ, zero, suc, _*_}
 use mathlib.Core.Bool.{cond, not, _&&_}
 use mathlib.Core.List.{List, [], _∷_}

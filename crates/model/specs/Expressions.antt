@@ -1,5 +1,5 @@
 -- Reading expressions: a byte, its fixed operands, its parts. In one place the refusals come in the order 4, 8, 5, 6 for kind,
--- 4 for operands, 7, 6 for names, and 6 for counts once the parts are read.
+-- 4 for operands, 7, 6 for names, and 6 for counts once the parts are read. docs/FORMAT.md, "Expressions" and "Refusals by the input".
 use Prim.Native.Nat.{ℕ, zero, suc, _+_, _^_}
 use mathlib.Core.Bool.{Bool, cond, _&&_, _||_}
 use mathlib.Core.List.{List, [], _∷_}

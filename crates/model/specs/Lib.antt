@@ -1,4 +1,4 @@
--- The lower layer's definitions, in the order to read them.
+-- The lower layer's definitions, in the order to read them. docs/FORMAT.md says them in words; each file names its headings there.
 pub mod Numbers
 pub mod Values
 pub mod Sets

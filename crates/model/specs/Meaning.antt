@@ -1,4 +1,5 @@
 -- The value of an expression in a state. Sets and elements always have one; numbers and conditions may meet trouble.
+-- docs/FORMAT.md, "Expressions" and "Values".
 use Prim.Native.Nat.{ℕ, _+_, _*_, _^_}
 use mathlib.Core.Bool.{Bool, true, false, cond, not, _&&_}
 use mathlib.Core.List.{List, [], _∷_}

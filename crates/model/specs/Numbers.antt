@@ -1,4 +1,5 @@
 -- The numbers that document 01 fixes: refusals and sizes, each said once.
+-- docs/FORMAT.md, "Sizes", "Refusals by the input" and "Refusals by the state".
 use Prim.Native.Nat.{ℕ, _^_}
 
 -- ---- refused by the input

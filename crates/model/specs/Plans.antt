@@ -1,4 +1,5 @@
 -- Steps, layers, plans and true declarations, as document 01's "States and plans" has them.
+-- docs/FORMAT.md, "States and steps", "Plans" and "Bounds and preferences".
 use Prim.Native.Nat.{ℕ, suc, _≤_, _<_}
 use mathlib.Core.Path.{_≡_}
 use mathlib.Core.Bool.{true}

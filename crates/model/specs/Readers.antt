@@ -1,4 +1,5 @@
 -- Readers: from bytes to what they say and how many they are, or to the number of a refusal. No position appears in them.
+-- docs/FORMAT.md, "Refusals by the input".
 use Prim.Native.Nat.{ℕ, zero, suc, _+_, _*_}
 use mathlib.Core.Bool.{Bool, true, false, cond}
 use mathlib.Core.List.{List, [], _∷_, reverse}

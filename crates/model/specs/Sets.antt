@@ -1,4 +1,5 @@
 -- A set of objects as the number whose bit k says that object k is a member. There is no word size in it.
+-- docs/FORMAT.md, "Expressions".
 use Prim.Native.Nat.{ℕ, zero, suc, _-_, _/_, _%_, _^_}
 use mathlib.Core.Bool.{Bool}
 use mathlib.Core.List.{List, [], _∷_}

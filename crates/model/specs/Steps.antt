@@ -1,4 +1,5 @@
 -- A model as a system: its start, the status of a state, a transition's move, h, dominance, its costs.
+-- docs/FORMAT.md, "States and steps" and "Bounds and preferences".
 use Prim.Native.Nat.{ℕ, suc, _+_, max}
 use mathlib.Core.Bool.{Bool, true, false, cond, _&&_}
 use mathlib.Core.List.{List, [], _∷_, map}

@@ -1,4 +1,5 @@
 -- Abstract syntax: what the bytes of a model say. Object counts stand at the leaves, so a set or an element has its own count.
+-- docs/FORMAT.md, "Commands" and "Expressions".
 use Prim.Native.Nat.{ℕ, suc}
 use mathlib.Core.List.{List, []}
 use lib.ListN.{getD}

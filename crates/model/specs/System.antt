@@ -1,4 +1,5 @@
 -- The promises of the lower layer: all that plans and the search know of a model. Costs are any ordered costs that combine.
+-- docs/FORMAT.md, "States and steps" and "Bounds and preferences".
 use Prim.Native.Nat.{ℕ}
 use mathlib.Core.Path.{_≡_}
 use mathlib.Core.Bool.{Bool, true, false}

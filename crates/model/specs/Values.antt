@@ -1,4 +1,4 @@
--- Values that evaluation may fail to have, the range of numbers, and the quotient rounded down.
+-- Values that evaluation may fail to have, the range of numbers, and the quotient rounded down. docs/FORMAT.md, "Values".
 use Prim.Native.Nat.{ℕ, zero, suc, _/_}
 use mathlib.Core.Bool.{cond}
 use lib.Dec.{ltb}

@@ -6,9 +6,9 @@ use lib.ListN.{length}
 use Rattle.search.specs.Answer as A
 use Rattle.search.specs.Answer.{bufferAfter}
 use Rattle.search.specs.Run.{run}
-use Rattle.reports.specs.Answers.{AnswerIs}
+use Rattle.search_report.specs.Answers.{AnswerIs}
 use Rattle.solver.specs.Searches.{settings}
-use Rattle.reports.specs.declared.answers.Answer.{Answer}
+use Rattle.search_report.specs.declared.answers.Answer.{Answer}
 
 -- "more than 16,384 bytes: refused 1; W 16, L 64, budget 100,000"
 abbrev pub programRun : (bytes plan : List ℕ) → A.Answer ℕ

@@ -3,7 +3,7 @@
 use io::write_all;
 use libc::STDERR_FILENO;
 use libc::STDIN_FILENO;
-use reports::answers::Answer;
+use search_report::answers::Answer;
 use solver::entry::search_up_to;
 ghost use Prim.Native.Nat.{_≤_};
 ghost use lib.ListN.{length};
@@ -73,7 +73,7 @@ fn plan_model(model: &[u8], plan: &mut [u8]) -> Answer
 fn write_plan(model: &[u8]) {
     let mut plan = [0u8; 64];
     let answer = plan_model(model, &mut plan);
-    lines::write_answer(answer, &mut plan);
+    line::write_answer(answer, &mut plan);
 }
 
 // A byte more than a model may have here tells one that is too long.

@@ -1,4 +1,5 @@
 -- The answer of a search: its fields, document 01's number for its outcome, and what the plan buffer holds afterwards.
+-- docs/FORMAT.md, "Answer" and "Verdicts".
 use Prim.Native.Nat.{ℕ}
 use mathlib.Core.Bool.{Bool, true, false, cond}
 use mathlib.Core.List.{List, [], _++_}

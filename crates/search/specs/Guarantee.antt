@@ -1,4 +1,4 @@
--- What an answer is worth: demand 3 of the mission, of plans as document 01 defines them.
+-- What an answer is worth: demand 3 of the mission, of plans as document 01 defines them. docs/FORMAT.md, "Verdicts".
 use Prim.Native.Nat.{ℕ, _≤_}
 use mathlib.Core.Path.{_≡_}
 use mathlib.Core.Bool.{true}

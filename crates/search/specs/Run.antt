@@ -1,4 +1,5 @@
 -- A run from the bytes of a model and the settings: refusals 1, 2 and 3, then reading, then the search.
+-- docs/FORMAT.md, "Settings", "Refusals by the input" and "Program".
 use Prim.Native.Nat.{ℕ, _+_, _*_}
 use mathlib.Core.Bool.{Bool, false, cond, not, _&&_}
 use mathlib.Core.List.{List, [], _∷_}

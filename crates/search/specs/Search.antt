@@ -1,4 +1,4 @@
--- Complete anytime beam search, document 01's rules 1 to 7, over the promises of the lower layer.
+-- Complete anytime beam search, document 01's rules 1 to 7, over the promises of the lower layer. docs/FORMAT.md, "Search".
 use Prim.Native.Nat.{ℕ, zero, suc}
 use mathlib.Core.Bool.{Bool, true, false, cond, not, _&&_, _||_}
 use mathlib.Core.List.{List, [], _∷_, reverse, dropLast}

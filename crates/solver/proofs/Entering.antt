@@ -30,18 +30,18 @@ use Rattle.search.specs.Search.{root, search, begin, answer, answerOf}
 use Rattle.search.specs.Run.{widerWidths, isWidth, widerUpTo, settingsFit, wordsNeeded, lentFits, refusedByInput, searchModel, runRead, run}
 use Rattle.search.proofs.Counts.{never-by-input}
 use Rattle.search.proofs.Mission.{run-guarantee}
-use Rattle.steps.specs.Held.{systemIn, stateIn}
+use Rattle.steps.specs.InBytes.{systemIn, stateIn}
 use Rattle.steps.specs.Follow.{costsIn}
 use Rattle.steps.specs.Answers.{boundAnswer}
 use Rattle.steps.specs.declared.answers.BoundAnswer.{BoundAnswer}
 use Rattle.steps.specs.declared.answers.BoundAnswer.the-variants as B
-use Rattle.runs.specs.Runs.{Runs}
-use Rattle.reports.specs.Answers.{AnswerIs, stopAnswer, Reports}
+use Rattle.search_runs.specs.Runs.{Runs}
+use Rattle.search_report.specs.Answers.{AnswerIs, stopAnswer, Reports}
 use Rattle.solver.specs.Searches.{SearchSays, settings, lentOf, lent, runOf, BuffersAre, Guaranteed}
-use Rattle.reports.specs.Reported.{RefusesStart}
-use Rattle.reports.specs.declared.answers.Answer.{Answer}
-use Rattle.runs.specs.declared.Stop.{Stop}
-use Rattle.reports.proofs.Reporting.{answer-same}
+use Rattle.search_report.specs.Reported.{RefusesStart}
+use Rattle.search_report.specs.declared.answers.Answer.{Answer}
+use Rattle.search_runs.specs.declared.Stop.{Stop}
+use Rattle.search_report.proofs.Reporting.{answer-same}
 
 -- ---- the widths
 

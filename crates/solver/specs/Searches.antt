@@ -14,10 +14,10 @@ use Rattle.search.specs.Guarantee as G
 use Rattle.search.specs.Search.{search}
 use Rattle.search.specs.Run.{Settings, Lent, widerUpTo, run}
 use Rattle.outline.specs.Outline.{modelOf}
-use Rattle.steps.specs.Held.{systemIn}
+use Rattle.steps.specs.InBytes.{systemIn}
 use Rattle.steps.specs.Follow.{costsIn}
-use Rattle.reports.specs.Answers.{AnswerIs}
-use Rattle.reports.specs.declared.answers.Answer.{Answer}
+use Rattle.search_report.specs.Answers.{AnswerIs}
+use Rattle.search_report.specs.declared.answers.Answer.{Answer}
 
 -- the search of the model that stands in the bytes
 pub record SearchSays (bytes plan plan′ : List ℕ) (widest limit budget : ℕ) (x : Answer) : Type 0 where

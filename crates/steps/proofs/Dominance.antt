@@ -18,7 +18,7 @@ use Rattle.model.specs.Steps.{noWorse, noneWorse, systemOf}
 use Rattle.words.specs.States.{valueOf}
 use Rattle.words.specs.Signature.{kindByteOf, kindByte, Objects}
 use Rattle.outline.specs.Outline.{modelOf, preferenceNumber}
-use Rattle.steps.specs.Held.{Outlined, systemIn, stateIn}
+use Rattle.steps.specs.InBytes.{Outlined, systemIn, stateIn}
 use Rattle.steps.specs.Order.{comparedWord, noWorseBy, noWorseAt}
 use Rattle.steps.proofs.Items.{Nth, nth-of}
 use Rattle.steps.proofs.StateWords.{state-at}

@@ -7,18 +7,18 @@ use lib.Seq.{getD-drop}
 use Rattle.model.specs.Numbers.{mostNesting, mostObjects}
 use Rattle.words.proofs.Literal.{suffix}
 use Rattle.outline.specs.Outline.{modelOf}
-use Rattle.evaluator.specs.declared.answers.NumberValue.{NumberValue}
-use Rattle.evaluator.specs.declared.answers.ConditionValue.{ConditionValue}
-use Rattle.evaluator.specs.declared.answers.ElementValue.{ElementValue}
-use Rattle.evaluator.specs.declared.answers.SetValue.{SetValue}
-use Rattle.evaluator.specs.Bounds.{NumberWithin, ConditionWithin}
-use Rattle.evaluator.specs.Runs.{Place, place, runElement, runSet, runNumber, runCondition}
-use Rattle.evaluator.specs.Promise.{Describes}
-use Rattle.evaluator.proofs.Promises.{run-number, run-condition, run-set, run-element}
-use Rattle.evaluator.proofs.Within.{number-within, condition-within, set-within, element-within, element-small}
-use Rattle.conjunctions.specs.Stopped.{stopped}
-use Rattle.conjunctions.proofs.Stopping.{stopped-within}
-use Rattle.steps.specs.Held.{Outlined}
+use Rattle.eval_sets.specs.declared.answers.NumberValue.{NumberValue}
+use Rattle.eval_sets.specs.declared.answers.ConditionValue.{ConditionValue}
+use Rattle.eval_sets.specs.declared.answers.ElementValue.{ElementValue}
+use Rattle.eval_sets.specs.declared.answers.SetValue.{SetValue}
+use Rattle.eval_sets.specs.Bounds.{NumberWithin, ConditionWithin}
+use Rattle.eval_sets.specs.Runs.{Environment, environment, runElement, runSet, runNumber, runCondition}
+use Rattle.eval_sets.specs.Promise.{Describes}
+use Rattle.eval_sets.proofs.Promises.{run-number, run-condition, run-set, run-element}
+use Rattle.eval_sets.proofs.Within.{number-within, condition-within, set-within, element-within, element-small}
+use Rattle.eval_tests.specs.Stopped.{stopped}
+use Rattle.eval_tests.proofs.Stopping.{stopped-within}
+use Rattle.steps.specs.InBytes.{Outlined}
 use Rattle.steps.specs.Says.{ConditionSays, NumberSays, ElementSays, SetSays}
 
 -- the part of a slice that is lent from n on
@@ -26,8 +26,8 @@ abbrev lent : ℕ → List ℕ → List ℕ
 lent n l = take (length l - n) (drop n l)
 
 module _ (bytes words : List ℕ) (o : Outlined bytes words) (at : ℕ) (state : List ℕ) where
-  abbrev here : Place
-  here = place bytes state (drop 64 words) (drop 80 words)
+  abbrev here : Environment
+  here = environment bytes state (drop 64 words) (drop 80 words)
 
   described : Describes (modelOf bytes .variables) (modelOf bytes .tables) here
   described = record {
@@ -35,14 +35,14 @@ module _ (bytes words : List ℕ) (o : Outlined bytes words) (at : ℕ) (state :
     tabled = λ t h. rw (getD-drop 80 words t 0) (o .outlines .tables t h);
   }
 
-  pub condition-promised : (r : ConditionValue) → r ≡ stopped (runCondition mostNesting (place bytes state (lent 64 words) (lent 80 words)) (lent at bytes))
+  pub condition-promised : (r : ConditionValue) → r ≡ stopped (runCondition mostNesting (environment bytes state (lent 64 words) (lent 80 words)) (lent at bytes))
       → ConditionSays bytes at state r × ConditionWithin (length bytes - at) r
   condition-promised r e =
       let f : r ≡ stopped (runCondition mostNesting here (drop at bytes)) = rw (suffix 64 words, suffix 80 words, suffix at bytes) at e in
       rw (f, ← length-drop at bytes)
       (λ x n h. ap stopped (run-condition mostNesting here (drop at bytes) _ _ x n described h), stopped-within _ _ (condition-within mostNesting here (drop at bytes)))
 
-  pub number-promised : (r : NumberValue) → r ≡ runNumber mostNesting (place bytes state (lent 64 words) (lent 80 words)) (lent at bytes)
+  pub number-promised : (r : NumberValue) → r ≡ runNumber mostNesting (environment bytes state (lent 64 words) (lent 80 words)) (lent at bytes)
       → NumberSays bytes at state r × NumberWithin (length bytes - at) r
   number-promised r e =
       let f : r ≡ runNumber mostNesting here (drop at bytes) = rw (suffix 64 words, suffix 80 words, suffix at bytes) at e in

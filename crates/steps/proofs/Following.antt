@@ -22,13 +22,13 @@ use Rattle.outline.specs.Outline.{modelOf, ruleNumber}
 use Rattle.steps.specs.declared.answers.StatusAnswer.the-variants as S
 use Rattle.steps.specs.declared.answers.MoveAnswer.{MoveAnswer}
 use Rattle.steps.specs.declared.answers.MoveAnswer.the-variants as M
-use Rattle.steps.specs.declared.answers.TurnAnswer.{TurnAnswer}
-use Rattle.steps.specs.declared.answers.TurnAnswer.the-variants as T
+use Rattle.steps.specs.declared.answers.FollowAnswer.{FollowAnswer}
+use Rattle.steps.specs.declared.answers.FollowAnswer.the-variants as T
 use Rattle.steps.specs.declared.answers.Checked.{Checked}
-use Rattle.steps.specs.Held.{Outlined, stateIn, systemIn}
+use Rattle.steps.specs.InBytes.{Outlined, stateIn, systemIn}
 use Rattle.steps.specs.Answers.{statusAnswer, moveAnswer}
 use Rattle.steps.specs.Says.{MoveSays}
-use Rattle.steps.specs.Follow.{costsIn, followIn, movedOn, finished, TurnIs, CheckedIs}
+use Rattle.steps.specs.Follow.{costsIn, followIn, stepTried, finished, FollowsOn, CheckedIs}
 use Rattle.steps.proofs.Items.{none-beyond}
 
 -- ---- answers taken apart
@@ -114,34 +114,34 @@ module _ (bytes state : List ℕ) (t g : ℕ) (child : List ℕ) (q : MoveAnswer
   abbrev here : State
   here = stateIn bytes state
 
-  pub turn-blocked : q ≡ M.Blocked → TurnIs bytes (movedOn bytes here t g) child g (T.Ended notAPlan)
+  pub checked-blocked : q ≡ M.Blocked → FollowsOn bytes (stepTried bytes here t g) child g (T.Ended notAPlan)
   unfolding afterMove
-  turn-blocked e plan = let m = is-blocked _ (sym (says .answer) ∙ e) in rw m
+  checked-blocked e plan = let m = is-blocked _ (sym (says .answer) ∙ e) in rw m
 
-  pub turn-before : {n : ℕ} → q ≡ M.Before n → TurnIs bytes (movedOn bytes here t g) child g (T.Ended n)
+  pub checked-before : {n : ℕ} → q ≡ M.Before n → FollowsOn bytes (stepTried bytes here t g) child g (T.Ended n)
   unfolding afterMove
-  turn-before e plan = let m = is-before _ (sym (says .answer) ∙ e) in rw m
+  checked-before e plan = let m = is-before _ (sym (says .answer) ∙ e) in rw m
 
-  pub turn-after : {c n : ℕ} → q ≡ M.After c n → TurnIs bytes (movedOn bytes here t g) child g (T.Ended n)
+  pub checked-after : {c n : ℕ} → q ≡ M.After c n → FollowsOn bytes (stepTried bytes here t g) child g (T.Ended n)
   unfolding afterMove
-  turn-after e plan = let m = is-after _ (sym (says .answer) ∙ e) in rw m
+  checked-after e plan = let m = is-after _ (sym (says .answer) ∙ e) in rw m
 
   -- the cost of a step is below the range's end
   pub step-small : {c : ℕ} → q ≡ M.Moved c → c < rangeEnd
   step-small e = let m = is-moved _ (sym (says .answer) ∙ e) in step-cost-below rangeEnd (modelOf bytes) here t (m .1)
 
-  pub turn-moved : {c h : ℕ} → q ≡ M.Moved c → h ≡ costsIn bytes .combine g c → TurnIs bytes (movedOn bytes here t g) child g (T.On h)
+  pub checked-moved : {c h : ℕ} → q ≡ M.Moved c → h ≡ costsIn bytes .combine g c → FollowsOn bytes (stepTried bytes here t g) child g (T.On h)
   unfolding afterMove
-  turn-moved {c} {h} e f =
+  checked-moved {c} {h} e f =
       let m = is-moved _ (sym (says .answer) ∙ e) in
       let w : stateIn bytes child ≡ m .0 = says .arrives c (m .0) (m .1) in
       (λ plan. rw (m .1, f, w), omega (arith, f, combined-small bytes g c, step-small e))
 
 -- ---- one turn: the status of the state, then the transition
 
-turn-same : (bytes : List ℕ) (f k : List ℕ → Value ℕ) (child : List ℕ) (g : ℕ) (r : TurnAnswer) → ((plan : List ℕ) → k plan ≡ f plan) → TurnIs bytes f child g r → TurnIs bytes k child g r
-turn-same bytes f k child g (T.On h) e t = (λ plan. e plan ∙ t .0 plan, t .1)
-turn-same bytes f k child g (T.Ended n) e t = λ plan. e plan ∙ t plan
+checked-same : (bytes : List ℕ) (f k : List ℕ → Value ℕ) (child : List ℕ) (g : ℕ) (r : FollowAnswer) → ((plan : List ℕ) → k plan ≡ f plan) → FollowsOn bytes f child g r → FollowsOn bytes k child g r
+checked-same bytes f k child g (T.On h) e t = (λ plan. e plan ∙ t .0 plan, t .1)
+checked-same bytes f k child g (T.Ended n) e t = λ plan. e plan ∙ t plan
 
 module _ (bytes : List ℕ) (s : State) (t g : ℕ) where
   -- a number that is not declared is blocked
@@ -154,7 +154,7 @@ module _ (bytes : List ℕ) (s : State) (t g : ℕ) where
       by-test true h = refl
       by-test false h = rw (none-beyond (modelOf bytes .transitions) t (h refl))
 
-  follow-unfinished : (plan : List ℕ) → systemIn bytes .status s ≡ unfinished → followIn bytes (t ∷ plan) s g ≡ movedOn bytes s t g plan
+  follow-unfinished : (plan : List ℕ) → systemIn bytes .status s ≡ unfinished → followIn bytes (t ∷ plan) s g ≡ stepTried bytes s t g plan
   unfolding follow afterStatus
   follow-unfinished plan e = rw e (undeclared (λ c u. followIn bytes plan u (costsIn bytes .combine g c)))
 
@@ -162,16 +162,16 @@ module _ (bytes : List ℕ) (s : State) (t g : ℕ) where
     abbrev whole : List ℕ → Value ℕ
     whole plan = followIn bytes (t ∷ plan) s g
 
-    pub turn-base : S.Base ≡ statusAnswer (systemIn bytes .status s) → TurnIs bytes whole child g (T.Ended notAPlan)
+    pub checked-base : S.Base ≡ statusAnswer (systemIn bytes .status s) → FollowsOn bytes whole child g (T.Ended notAPlan)
     unfolding follow afterStatus
-    turn-base e plan = rw (is-base _ (sym e))
+    checked-base e plan = rw (is-base _ (sym e))
 
-    pub turn-troubles : {n : ℕ} → S.Trouble n ≡ statusAnswer (systemIn bytes .status s) → TurnIs bytes whole child g (T.Ended n)
+    pub checked-troubles : {n : ℕ} → S.Trouble n ≡ statusAnswer (systemIn bytes .status s) → FollowsOn bytes whole child g (T.Ended n)
     unfolding follow afterStatus
-    turn-troubles e plan = rw (no-status _ (sym e))
+    checked-troubles e plan = rw (no-status _ (sym e))
 
-    pub turn-on : S.Unfinished ≡ statusAnswer (systemIn bytes .status s) → (r : TurnAnswer) → TurnIs bytes (movedOn bytes s t g) child g r → TurnIs bytes whole child g r
-    turn-on e r h = turn-same bytes (movedOn bytes s t g) whole child g r (λ plan. follow-unfinished plan (is-unfinished _ (sym e))) h
+    pub checked-on : S.Unfinished ≡ statusAnswer (systemIn bytes .status s) → (r : FollowAnswer) → FollowsOn bytes (stepTried bytes s t g) child g r → FollowsOn bytes whole child g r
+    checked-on e r h = checked-same bytes (stepTried bytes s t g) whole child g r (λ plan. follow-unfinished plan (is-unfinished _ (sym e))) h
 
 -- ---- the final state
 
@@ -210,7 +210,7 @@ module _ (bytes plan state child : List ℕ) where
     unfolding follow
     followed-last h r c = rw (so-far .left, drop-of-length-le plan h) c
 
-    module _ (h : i < length plan) (after : List ℕ) (r : TurnAnswer) (turned : TurnIs bytes (λ rest. followIn bytes (getD plan i 0 ∷ rest) (stateIn bytes state) g) after g r) where
+    module _ (h : i < length plan) (after : List ℕ) (r : FollowAnswer) (turned : FollowsOn bytes (λ rest. followIn bytes (getD plan i 0 ∷ rest) (stateIn bytes state) g) after g r) where
       next-step : followIn bytes plan (target (modelOf bytes)) 0 ≡ followIn bytes (getD plan i 0 ∷ drop (i + 1) plan) (stateIn bytes state) g
       next-step = so-far .left ∙ ap (λ (l : List ℕ). followIn bytes l (stateIn bytes state) g) (drop-cons plan i 0 h ∙ ap (λ (k : ℕ). getD plan i 0 ∷ drop k plan) (sym (add-one i)))
 

@@ -13,13 +13,13 @@ use Rattle.model.specs.Syntax.{Condition}
 use Rattle.model.specs.Commands.{conditions}
 use Rattle.model.specs.Meaning.{conditionValue, allHold}
 use Rattle.outline.specs.Outline.{modelOf}
-use Rattle.evaluator.specs.declared.answers.ConditionValue.{ConditionValue}
-use Rattle.evaluator.specs.declared.answers.ConditionValue.the-variants as C
-use Rattle.evaluator.specs.Answers.{conditionAnswer}
-use Rattle.evaluator.specs.Bounds.{ConditionWithin}
-use Rattle.conjunctions.specs.Stopped.{stopped}
+use Rattle.eval_sets.specs.declared.answers.ConditionValue.{ConditionValue}
+use Rattle.eval_sets.specs.declared.answers.ConditionValue.the-variants as C
+use Rattle.eval_sets.specs.Answers.{conditionAnswer}
+use Rattle.eval_sets.specs.Bounds.{ConditionWithin}
+use Rattle.eval_tests.specs.Stopped.{stopped}
 use Rattle.steps.specs.declared.answers.HeldAnswer.the-variants as H
-use Rattle.steps.specs.Held.{stateIn}
+use Rattle.steps.specs.InBytes.{stateIn}
 use Rattle.steps.specs.Answers.{heldAnswer}
 use Rattle.steps.specs.Says.{ConditionSays, HeldSays}
 use Rattle.steps.proofs.Readings.{Listed, ConditionAt, conditions-listed, First, first-of, none-of}

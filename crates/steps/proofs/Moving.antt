@@ -24,7 +24,7 @@ use Rattle.steps.specs.declared.answers.AttemptAnswer.{AttemptAnswer}
 use Rattle.steps.specs.declared.answers.AttemptAnswer.the-variants as A
 use Rattle.steps.specs.declared.answers.MoveAnswer.{MoveAnswer}
 use Rattle.steps.specs.declared.answers.MoveAnswer.the-variants as M
-use Rattle.steps.specs.Held.{Outlined, stateIn, systemIn}
+use Rattle.steps.specs.InBytes.{Outlined, stateIn, systemIn}
 use Rattle.steps.specs.Answers.{heldAnswer, costAnswer, effectsAnswer, attemptAnswer, moveAnswer}
 use Rattle.steps.specs.Says.{HeldSays, CostSays, EffectsRead, EffectsSays, AttemptSay, TakenSays, TakenRead, TransitionRead, AttemptSays, Tried, MoveSays}
 use Rattle.steps.proofs.Items.{nth-of, none-beyond}
@@ -198,18 +198,18 @@ module _ (bytes words : List ℕ) (o : Outlined bytes words) (state : List ℕ) 
   unfolding systemOf move moveBy moveAnswer
   move-undeclared child h = let n = none-beyond (modelOf bytes .transitions) t h in record { answer = rw n; arrives = λ c u i. let z : _≡_ {A = ℕ} 0 1 = cc (rw n at i) in absurd (omega arith) }
 
-  module _ (h : t < length (modelOf bytes .transitions)) (at : ℕ) (place : at ≡ getD words (transitionsFrom + t) 0) where
+  module _ (h : t < length (modelOf bytes .transitions)) (at : ℕ) (stands : at ≡ getD words (transitionsFrom + t) 0) where
     pub transition-read : TransitionRead bytes at
     transition-read =
         let n = nth-of (modelOf bytes .transitions) t h in
         let i = o .outlines .transitions t (n .nth) (n .found) in
-        record { item = n .nth; used = i .used; reads = rw place (i .reads) }
+        record { item = n .nth; used = i .used; reads = rw stands (i .reads) }
 
     pub tried : (child : List ℕ) (q : AttemptAnswer) → AttemptSays bytes at state child q → Tried bytes state t child q
     tried child q says =
         let n = nth-of (modelOf bytes .transitions) t h in
         let i = o .outlines .transitions t (n .nth) (n .found) in
-        record { transition-of = n .nth; declared = n .found; says = says (n .nth) (i .used) (rw place (i .reads)) }
+        record { transition-of = n .nth; declared = n .found; says = says (n .nth) (i .used) (rw stands (i .reads)) }
 
 module _ (bytes state : List ℕ) (t : ℕ) (child : List ℕ) (q : AttemptAnswer) (a : Tried bytes state t child q) where
   the-move : systemIn bytes .move (stateIn bytes state) t ≡ moveOf rangeEnd (modelOf bytes) (attempt rangeEnd (modelOf bytes) (a .transition-of) (stateIn bytes state))

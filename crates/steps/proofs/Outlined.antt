@@ -8,7 +8,7 @@ use lib.Seq.{length-take-le, getD-take, getD-drop}
 use Rattle.model.specs.Steps.{target}
 use Rattle.words.specs.States.{valueOf}
 use Rattle.outline.specs.Outline.{modelOf}
-use Rattle.steps.specs.Held.{Outlined, Held, stateIn}
+use Rattle.steps.specs.InBytes.{Outlined, StateRoom, stateIn}
 use Rattle.laws.proofs.Lists.{found-below}
 use Rattle.steps.proofs.StateWords.{state-alike, state-started}
 
@@ -19,7 +19,7 @@ front-word ws us v h l =
 
 module _ (bytes words : List ℕ) (o : Outlined bytes words) where
   -- the first sixteen words are all of a state
-  pub copied-state : (ws us : List ℕ) → Held ws → stateIn bytes (take 16 ws ++ us) ≡ stateIn bytes ws
+  pub copied-state : (ws us : List ℕ) → StateRoom ws → stateIn bytes (take 16 ws ++ us) ≡ stateIn bytes ws
   copied-state ws us h = state-alike (modelOf bytes .variables) (take 16 ws ++ us) ws (λ v l. front-word ws us v h (omega (arith, o .outlines .few-variables)))
 
   pub start-state : (us : List ℕ) → stateIn bytes (take 16 (drop 48 words) ++ us) ≡ target (modelOf bytes)

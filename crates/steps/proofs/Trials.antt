@@ -12,18 +12,18 @@ use Rattle.model.specs.Values.{Value, value, trouble, _>>=_}
 use Rattle.model.specs.Meaning.{numberValue, conditionValue, allHold, someHolds}
 use Rattle.model.specs.Steps.{statusOf, status, raise, greatest, bound, systemOf}
 use Rattle.outline.specs.Outline.{modelOf, baseCasesFrom, constraintsFrom, boundsFrom}
-use Rattle.evaluator.specs.declared.answers.ConditionValue.{ConditionValue}
-use Rattle.evaluator.specs.declared.answers.ConditionValue.the-variants as C
-use Rattle.evaluator.specs.declared.answers.NumberValue.{NumberValue}
-use Rattle.evaluator.specs.declared.answers.NumberValue.the-variants as N
-use Rattle.evaluator.specs.Answers.{numberAnswer, conditionAnswer}
-use Rattle.evaluator.specs.Bounds.{NumberWithin}
-use Rattle.conjunctions.specs.Stopped.{stopped}
+use Rattle.eval_sets.specs.declared.answers.ConditionValue.{ConditionValue}
+use Rattle.eval_sets.specs.declared.answers.ConditionValue.the-variants as C
+use Rattle.eval_sets.specs.declared.answers.NumberValue.{NumberValue}
+use Rattle.eval_sets.specs.declared.answers.NumberValue.the-variants as N
+use Rattle.eval_sets.specs.Answers.{numberAnswer, conditionAnswer}
+use Rattle.eval_sets.specs.Bounds.{NumberWithin}
+use Rattle.eval_tests.specs.Stopped.{stopped}
 use Rattle.steps.specs.declared.answers.HeldAnswer.{HeldAnswer}
 use Rattle.steps.specs.declared.answers.HeldAnswer.the-variants as H
 use Rattle.steps.specs.declared.answers.StatusAnswer.the-variants as S
 use Rattle.steps.specs.declared.answers.BoundAnswer.the-variants as B
-use Rattle.steps.specs.Held.{Outlined, stateIn, systemIn}
+use Rattle.steps.specs.InBytes.{Outlined, stateIn, systemIn}
 use Rattle.steps.specs.Answers.{heldAnswer, statusAnswer, boundAnswer}
 use Rattle.steps.specs.Says.{ConditionSays, NumberSays, HeldSays}
 use Rattle.steps.proofs.Items.{Nth, nth-of}
@@ -74,10 +74,10 @@ module _ (bytes words : List ℕ) (o : Outlined bytes words) (state : List ℕ) 
     unfolding systemOf status statusOf statusAnswer someHolds
     seeking-last h = rw (passed, drop-of-length-le (modelOf bytes .baseCases) h)
 
-    module _ (h : k < length (modelOf bytes .baseCases)) (at : ℕ) (place : at ≡ getD words (baseCasesFrom + k) 0) (r : HeldAnswer) (says : HeldSays bytes at state r) where
+    module _ (h : k < length (modelOf bytes .baseCases)) (at : ℕ) (stands : at ≡ getD words (baseCasesFrom + k) 0) (r : HeldAnswer) (says : HeldSays bytes at state r) where
       case-at : (n : Nth (modelOf bytes .baseCases) k)
           → r ≡ heldAnswer (allHold rangeEnd (modelOf bytes .tables) (n .nth) (stateIn bytes state)) (at + o .outlines .base-cases k (n .nth) (n .found) .used)
-      case-at n = let i = o .outlines .base-cases k (n .nth) (n .found) in says (n .nth) (i .used) (rw place (i .reads))
+      case-at n = let i = o .outlines .base-cases k (n .nth) (n .found) in says (n .nth) (i .used) (rw stands (i .reads))
 
       pub seeking-more : r ≡ H.Fails → Seeking bytes state (k + 1)
       unfolding someHolds _>>=_
@@ -122,9 +122,9 @@ module _ (bytes words : List ℕ) (o : Outlined bytes words) (state : List ℕ) 
     unfolding heldAnswer allHold
     meeting-last h = rw (passed, drop-of-length-le (modelOf bytes .constraints) h)
 
-    module _ (h : k < length (modelOf bytes .constraints)) (at : ℕ) (place : at ≡ getD words (constraintsFrom + k) 0) (r : ConditionValue) (says : ConditionSays bytes at state r) where
+    module _ (h : k < length (modelOf bytes .constraints)) (at : ℕ) (stands : at ≡ getD words (constraintsFrom + k) 0) (r : ConditionValue) (says : ConditionSays bytes at state r) where
       constraint-at : (n : Nth (modelOf bytes .constraints) k) → stopped (conditionAnswer (conditionValue rangeEnd (modelOf bytes .tables) (n .nth) (stateIn bytes state)) (o .outlines .constraints k (n .nth) (n .found) .used)) ≡ r
-      constraint-at n = let i = o .outlines .constraints k (n .nth) (n .found) in sym (says (n .nth) (i .used) (rw place (i .reads)))
+      constraint-at n = let i = o .outlines .constraints k (n .nth) (n .found) in sym (says (n .nth) (i .used) (rw stands (i .reads)))
 
       pub meeting-more : {b : Bool} {i : ℕ} → r ≡ C.Holds b i → b ≡ true → Meeting bytes state (k + 1)
       unfolding allHold _>>=_
@@ -163,9 +163,9 @@ module _ (bytes words : List ℕ) (o : Outlined bytes words) (state : List ℕ) 
     unfolding boundAnswer greatest
     raising-last l = rw (passed, drop-of-length-le (modelOf bytes .bounds) l)
 
-    module _ (l : k < length (modelOf bytes .bounds)) (at : ℕ) (place : at ≡ getD words (boundsFrom + k) 0) (r : NumberValue) (says : NumberSays bytes at state r) where
+    module _ (l : k < length (modelOf bytes .bounds)) (at : ℕ) (stands : at ≡ getD words (boundsFrom + k) 0) (r : NumberValue) (says : NumberSays bytes at state r) where
       bound-at : (n : Nth (modelOf bytes .bounds) k) → numberAnswer (numberValue rangeEnd (modelOf bytes .tables) (n .nth) (stateIn bytes state)) (o .outlines .bounds k (n .nth) (n .found) .used) ≡ r
-      bound-at n = let i = o .outlines .bounds k (n .nth) (n .found) in sym (says (n .nth) (i .used) (rw place (i .reads)))
+      bound-at n = let i = o .outlines .bounds k (n .nth) (n .found) in sym (says (n .nth) (i .used) (rw stands (i .reads)))
 
       pub raising-more : {z : ℤ} {i : ℕ} → r ≡ N.Value z i → Raising bytes state (k + 1) (raise h z)
       unfolding greatest _>>=_

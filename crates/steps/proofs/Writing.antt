@@ -17,16 +17,16 @@ use Rattle.words.specs.States.{valueOf}
 use Rattle.words.specs.Signature.{Objects, kindByteOf, kindByte}
 use Rattle.words.proofs.Integers.{word-back}
 use Rattle.outline.specs.Outline.{modelOf, kindsFrom}
-use Rattle.evaluator.specs.declared.answers.NumberValue.{NumberValue}
-use Rattle.evaluator.specs.declared.answers.NumberValue.the-variants as N
-use Rattle.evaluator.specs.declared.answers.ElementValue.{ElementValue}
-use Rattle.evaluator.specs.declared.answers.SetValue.{SetValue}
+use Rattle.eval_sets.specs.declared.answers.NumberValue.{NumberValue}
+use Rattle.eval_sets.specs.declared.answers.NumberValue.the-variants as N
+use Rattle.eval_sets.specs.declared.answers.ElementValue.{ElementValue}
+use Rattle.eval_sets.specs.declared.answers.SetValue.{SetValue}
 use Rattle.steps.specs.declared.answers.CostAnswer.{CostAnswer}
 use Rattle.steps.specs.declared.answers.CostAnswer.the-variants as C
 use Rattle.steps.specs.declared.answers.WordAnswer.{WordAnswer}
 use Rattle.steps.specs.declared.answers.WordAnswer.the-variants as W
 use Rattle.steps.specs.declared.answers.EffectsAnswer.the-variants as E
-use Rattle.steps.specs.Held.{Outlined, stateIn}
+use Rattle.steps.specs.InBytes.{Outlined, stateIn}
 use Rattle.steps.specs.Answers.{costAnswer, effectsAnswer}
 use Rattle.steps.specs.Says.{effectList, NumberSays, ElementSays, SetSays, CostSays, CostWithin, WordIs, WordWithin, NumberWordSays, WordSays, EffectsRead, EffectsSays}
 use Rattle.laws.proofs.Lists.{found-below}
@@ -176,9 +176,9 @@ module _ (bytes state : List ℕ) where
             → WordIs (f .part .variable .kind) (expressionValue rangeEnd (modelOf bytes .tables) (f .first .result) (stateIn bytes state)) (f .part .used) r
         said f =
             let same-name : v ≡ f .first .target = named ∙ f .part .named in
-            let place : next + 1 + 1 ≡ next + 2 = omega arith in
+            let stands : next + 1 + 1 ≡ next + 2 = omega arith in
             says (f .part .variable) (f .first .result) (f .part .used) (ap (getElem? (modelOf bytes .variables)) same-name ∙ f .part .found-there)
-            (rw place at (f .part .reads))
+            (rw stands at (f .part .reads))
 
         one-more : {w k : ℕ} → v < length child → r ≡ W.Word w k → {l : List Effect} {end : ℕ} (t : Left l (stateIn bytes before) next end child) → First 0x0a PartAt bytes next (t .rest) end
             → Left l (stateIn bytes before) (next + 2 + k) end (set child v w)
@@ -187,13 +187,13 @@ module _ (bytes state : List ℕ) where
             let same-name : v ≡ f .first .target = named ∙ f .part .named in
             let x = f .part .variable in
             let p = word-is (x .kind) (expressionValue rangeEnd (modelOf bytes .tables) (f .first .result) (stateIn bytes state)) (f .part .used) (said f) e in
-            let place : f .next ≡ next + 2 + k = omega (arith, f .part .ends, p .1) in
+            let stands : f .next ≡ next + 2 + k = omega (arith, f .part .ends, p .1) in
             let declared : getElem? (modelOf bytes .variables) v ≡ some x = ap (getElem? (modelOf bytes .variables)) same-name ∙ f .part .found-there in
             let words : set (stateIn bytes child) (f .first .target) (valueOf (x .kind) w) ≡ stateIn bytes (set child v w) = rw (← same-name) (sym (state-set (modelOf bytes .variables) child v w declared inside)) in
             let turn : effectsIn (f .first ∷ f .others) (stateIn bytes child) ≡ effectsIn (f .others) (set (stateIn bytes child) (f .first .target) (valueOf (x .kind) w)) = rw (p .0) in
             record {
               rest = f .others;
-              listed = rw place at (f .behind);
+              listed = rw stands at (f .behind);
               same = t .same ∙ (ap (λ (i : List Effect). effectsIn i (stateIn bytes child)) (f .whole) ∙ (turn ∙ ap (effectsIn (f .others)) words));
             }
 

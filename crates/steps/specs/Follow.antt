@@ -9,10 +9,10 @@ use Rattle.model.specs.Meaning.{State}
 use Rattle.model.specs.Steps.{costsOf}
 use Rattle.model.specs.Check.{final, afterMove, follow, answerNumber, answerCost}
 use Rattle.outline.specs.Outline.{modelOf}
-use Rattle.steps.specs.declared.answers.TurnAnswer.{TurnAnswer}
-use Rattle.steps.specs.declared.answers.TurnAnswer.the-variants as T
+use Rattle.steps.specs.declared.answers.FollowAnswer.{FollowAnswer}
+use Rattle.steps.specs.declared.answers.FollowAnswer.the-variants as T
 use Rattle.steps.specs.declared.answers.Checked.{Checked}
-use Rattle.steps.specs.Held.{stateIn, systemIn}
+use Rattle.steps.specs.InBytes.{stateIn, systemIn}
 
 abbrev pub costsIn : (bytes : List ℕ) → Costs ℕ
 costsIn bytes = costsOf (modelOf bytes .rule)
@@ -22,17 +22,17 @@ abbrev pub followIn : (bytes plan : List ℕ) (s : State) (g : ℕ) → Value �
 followIn bytes plan s g = follow (costsIn bytes) (systemIn bytes) plan s g
 
 -- a transition's move, then the rest of the plan
-abbrev pub movedOn : (bytes : List ℕ) (s : State) (t g : ℕ) → List ℕ → Value ℕ
-movedOn bytes s t g plan = afterMove (costsIn bytes) (systemIn bytes) (systemIn bytes .move s t) (λ c u. followIn bytes plan u (costsIn bytes .combine g c))
+abbrev pub stepTried : (bytes : List ℕ) (s : State) (t g : ℕ) → List ℕ → Value ℕ
+stepTried bytes s t g plan = afterMove (costsIn bytes) (systemIn bytes) (systemIn bytes .move s t) (λ c u. followIn bytes plan u (costsIn bytes .combine g c))
 
 -- "last the final state"
 abbrev pub finished : (bytes : List ℕ) (s : State) (g : ℕ) → Value ℕ
 finished bytes s g = final (costsIn bytes) (systemIn bytes) (systemIn bytes .status s) g
 
 -- f plan, whatever plan is left: the check goes on from the child's state, or ends
-abbrev pub TurnIs : (bytes : List ℕ) (f : List ℕ → Value ℕ) (child : List ℕ) (g : ℕ) → TurnAnswer → Type 0
-TurnIs bytes f child g (T.On h) = ((plan : List ℕ) → f plan ≡ followIn bytes plan (stateIn bytes child) h) × (h ≤ g + rangeEnd)
-TurnIs bytes f child g (T.Ended t) = (plan : List ℕ) → f plan ≡ trouble t
+abbrev pub FollowsOn : (bytes : List ℕ) (f : List ℕ → Value ℕ) (child : List ℕ) (g : ℕ) → FollowAnswer → Type 0
+FollowsOn bytes f child g (T.On h) = ((plan : List ℕ) → f plan ≡ followIn bytes plan (stateIn bytes child) h) × (h ≤ g + rangeEnd)
+FollowsOn bytes f child g (T.Ended t) = (plan : List ℕ) → f plan ≡ trouble t
 
 -- the answer number and the cost of the check
 pub record CheckedIs (v : Value ℕ) (r : Checked) : Type 0 where

@@ -1,5 +1,5 @@
 -- What the contracts say: the system of the bytes, its answers in enums, and what is promised of a model's parts in its bytes.
-pub mod Held
+pub mod InBytes
 pub mod Order
 pub mod Answers
 pub mod Says

@@ -16,12 +16,12 @@ use Rattle.model.specs.Commands.{conditions, effectTarget, effectOn, expression
 use Rattle.model.specs.Meaning.{State, elementValue, setValue, numberValue, conditionValue, expressionValue, allHold}
 use Rattle.model.specs.Steps.{costOf, effects, Attempt, taken, attempt}
 use Rattle.words.specs.States.{valueOf}
-use Rattle.evaluator.specs.declared.answers.NumberValue.{NumberValue}
-use Rattle.evaluator.specs.declared.answers.ConditionValue.{ConditionValue}
-use Rattle.evaluator.specs.declared.answers.ElementValue.{ElementValue}
-use Rattle.evaluator.specs.declared.answers.SetValue.{SetValue}
-use Rattle.evaluator.specs.Answers.{numberAnswer, conditionAnswer}
-use Rattle.conjunctions.specs.Stopped.{stopped}
+use Rattle.eval_sets.specs.declared.answers.NumberValue.{NumberValue}
+use Rattle.eval_sets.specs.declared.answers.ConditionValue.{ConditionValue}
+use Rattle.eval_sets.specs.declared.answers.ElementValue.{ElementValue}
+use Rattle.eval_sets.specs.declared.answers.SetValue.{SetValue}
+use Rattle.eval_sets.specs.Answers.{numberAnswer, conditionAnswer}
+use Rattle.eval_tests.specs.Stopped.{stopped}
 use Rattle.outline.specs.Outline.{modelOf}
 use Rattle.steps.specs.declared.answers.HeldAnswer.{HeldAnswer}
 use Rattle.steps.specs.declared.answers.CostAnswer.{CostAnswer}
@@ -32,7 +32,7 @@ use Rattle.steps.specs.declared.answers.EffectsAnswer.{EffectsAnswer}
 use Rattle.steps.specs.declared.answers.AttemptAnswer.{AttemptAnswer}
 use Rattle.steps.specs.declared.answers.MoveAnswer.{MoveAnswer}
 use Rattle.steps.specs.Answers.{heldAnswer, costAnswer, effectsAnswer, attemptAnswer, moveAnswer}
-use Rattle.steps.specs.Held.{stateIn, systemIn}
+use Rattle.steps.specs.InBytes.{stateIn, systemIn}
 
 -- 0A from the first on, as a transition has them
 abbrev pub effectList : List Variable → List Table → Reader (List Effect)

@@ -3,11 +3,11 @@
 ghost use mathlib.Core.Path.{_≡_};
 ghost use Prim.Native.Nat.{_<_};
 ghost use Rattle.model.specs.Steps as steps;
-ghost use Rattle.steps.specs.Held.{Outlined, stateIn, systemIn};
+ghost use Rattle.steps.specs.InBytes.{Outlined, stateIn, systemIn};
 ghost use Rattle.steps.specs.Answers.{boundAnswer};
 use crate::answers::BoundAnswer;
 use crate::parts::number_at;
-use evaluator::answers::NumberValue;
+use eval_sets::answers::NumberValue;
 use outline::layout::BOUND_COUNT;
 use outline::layout::BOUNDS;
 use outline::word_at;

@@ -6,13 +6,13 @@ ghost use Prim.Native.Nat.{_+_, _≤_, _<_, _^_};
 ghost use lib.ListN.{length};
 ghost use Rattle.model.specs.Steps.{target};
 ghost use Rattle.outline.specs.Outline.{modelOf};
-ghost use Rattle.steps.specs.Held.{Outlined, Held, stateIn};
-ghost use Rattle.steps.specs.Follow.{costsIn, followIn, movedOn, finished, TurnIs, CheckedIs};
+ghost use Rattle.steps.specs.InBytes.{Outlined, StateRoom, stateIn};
+ghost use Rattle.steps.specs.Follow.{costsIn, followIn, stepTried, finished, FollowsOn, CheckedIs};
 use crate::answers::Checked;
+use crate::answers::FollowAnswer;
 use crate::answers::MoveAnswer;
 use crate::answers::NOT_A_PLAN;
 use crate::answers::StatusAnswer;
-use crate::answers::TurnAnswer;
 use crate::conditions::status;
 use crate::moves::step;
 use crate::states::start;
@@ -31,41 +31,41 @@ pub fn combine(model: &[u8], outline: &[u64], g: u64, c: u64) -> u64
 }
 
 // Tries one transition of a plan.
-fn move_on(
+fn tried_step(
     model: &[u8],
     outline: &[u64],
     state: &[u64],
     t: u8,
     g: u64,
     child: &mut [u64],
-) -> TurnAnswer
-    requires { ⌜ Outlined (now model) (now outline) × Held (now state) × Held (now child) × (g < 2 ^ 63) ⌝ }
-    ensures { λ r. ⌜ TurnIs (now (model .entry)) (movedOn (now (model .entry)) (stateIn (now (model .entry)) (now (state .entry))) t g) (now (child .exit)) g r ⌝ }
+) -> FollowAnswer
+    requires { ⌜ Outlined (now model) (now outline) × StateRoom (now state) × StateRoom (now child) × (g < 2 ^ 63) ⌝ }
+    ensures { λ r. ⌜ FollowsOn (now (model .entry)) (stepTried (now (model .entry)) (stateIn (now (model .entry)) (now (state .entry))) t g) (now (child .exit)) g r ⌝ }
 {
     match step(model, outline, state, t as usize, child) {
-        MoveAnswer::Blocked => TurnAnswer::Ended(NOT_A_PLAN),
-        MoveAnswer::Moved(c) => TurnAnswer::On(combine(model, outline, g, c)),
-        MoveAnswer::Before(n) => TurnAnswer::Ended(n),
-        MoveAnswer::After(_, n) => TurnAnswer::Ended(n),
+        MoveAnswer::Blocked => FollowAnswer::Ended(NOT_A_PLAN),
+        MoveAnswer::Moved(c) => FollowAnswer::On(combine(model, outline, g, c)),
+        MoveAnswer::Before(n) => FollowAnswer::Ended(n),
+        MoveAnswer::After(_, n) => FollowAnswer::Ended(n),
     }
 }
 
 // One step of a plan: no base state before the end, then the transition.
-fn turn(
+fn checked_step(
     model: &[u8],
     outline: &[u64],
     state: &[u64],
     t: u8,
     g: u64,
     child: &mut [u64],
-) -> TurnAnswer
-    requires { ⌜ Outlined (now model) (now outline) × Held (now state) × Held (now child) × (g < 2 ^ 63) ⌝ }
-    ensures { λ r. ⌜ TurnIs (now (model .entry)) (λ plan. followIn (now (model .entry)) (t ∷ plan) (stateIn (now (model .entry)) (now (state .entry))) g) (now (child .exit)) g r ⌝ }
+) -> FollowAnswer
+    requires { ⌜ Outlined (now model) (now outline) × StateRoom (now state) × StateRoom (now child) × (g < 2 ^ 63) ⌝ }
+    ensures { λ r. ⌜ FollowsOn (now (model .entry)) (λ plan. followIn (now (model .entry)) (t ∷ plan) (stateIn (now (model .entry)) (now (state .entry))) g) (now (child .exit)) g r ⌝ }
 {
     match status(model, outline, state) {
-        StatusAnswer::Base => TurnAnswer::Ended(NOT_A_PLAN),
-        StatusAnswer::Unfinished => move_on(model, outline, state, t, g, child),
-        StatusAnswer::Trouble(n) => TurnAnswer::Ended(n),
+        StatusAnswer::Base => FollowAnswer::Ended(NOT_A_PLAN),
+        StatusAnswer::Unfinished => tried_step(model, outline, state, t, g, child),
+        StatusAnswer::Trouble(n) => FollowAnswer::Ended(n),
     }
 }
 
@@ -95,13 +95,13 @@ pub fn follow(model: &[u8], outline: &[u64], plan: &[u8]) -> Checked
     let mut g: u64 = 0;
     let mut i: usize = 0;
     while i < plan.len() {
-        match turn(model, outline, &state, plan[i], g, &mut child) {
-            TurnAnswer::On(h) => {
+        match checked_step(model, outline, &state, plan[i], g, &mut child) {
+            FollowAnswer::On(h) => {
                 g = h;
                 state = child;
                 i += 1;
             }
-            TurnAnswer::Ended(n) => return Checked { answer: n, cost: 0 },
+            FollowAnswer::Ended(n) => return Checked { answer: n, cost: 0 },
         }
     }
     finish(model, outline, &state, g)

@@ -7,7 +7,7 @@ ghost use Rattle.model.specs.Numbers.{rangeEnd};
 ghost use Rattle.model.specs.Meaning.{allHold};
 ghost use Rattle.model.specs.Steps as steps;
 ghost use Rattle.outline.specs.Outline.{modelOf};
-ghost use Rattle.steps.specs.Held.{Outlined, Held, stateIn};
+ghost use Rattle.steps.specs.InBytes.{Outlined, StateRoom, stateIn};
 ghost use Rattle.steps.specs.Answers.{moveAnswer};
 ghost use Rattle.steps.specs.Says.{CostSays, CostWithin, NumberWordSays, WordSays, WordWithin, EffectsRead, EffectsSays, TakenRead, TakenSays, TransitionRead, AttemptSays, Tried, MoveSays};
 use crate::answers::AttemptAnswer;
@@ -23,7 +23,7 @@ use crate::parts::element_at;
 use crate::parts::number_at;
 use crate::parts::set_at;
 use crate::states::copy_state;
-use evaluator::answers::NumberValue;
+use eval_sets::answers::NumberValue;
 use laws::byte_at;
 use outline::layout::KINDS;
 use outline::layout::TRANSITION_COUNT;
@@ -83,7 +83,7 @@ fn effects(
     state: &[u64],
     child: &mut [u64],
 ) -> EffectsAnswer
-    requires { ⌜ Outlined (now model) (now outline) × EffectsRead (now model) at × Held (now child) ⌝ }
+    requires { ⌜ Outlined (now model) (now outline) × EffectsRead (now model) at × StateRoom (now child) ⌝ }
     ensures { λ r. ⌜ EffectsSays (now (model .entry)) at (now (state .entry)) (now (child .entry)) (now (child .exit)) r ⌝ }
 {
     let mut next = at;
@@ -102,7 +102,7 @@ fn effects(
 
 // Cost and effects of a step whose conditions hold.
 fn take(model: &[u8], at: usize, outline: &[u64], state: &[u64], child: &mut [u64]) -> AttemptAnswer
-    requires { ⌜ Outlined (now model) (now outline) × TakenRead (now model) at × Held (now state) × Held (now child) ⌝ }
+    requires { ⌜ Outlined (now model) (now outline) × TakenRead (now model) at × StateRoom (now state) × StateRoom (now child) ⌝ }
     ensures { λ r. ⌜ TakenSays (now (model .entry)) at (now (state .entry)) (now (child .exit)) r ⌝ }
 {
     match cost_at(model, at, outline, state) {
@@ -125,7 +125,7 @@ fn attempt(
     state: &[u64],
     child: &mut [u64],
 ) -> AttemptAnswer
-    requires { ⌜ Outlined (now model) (now outline) × TransitionRead (now model) at × Held (now state) × Held (now child) ⌝ }
+    requires { ⌜ Outlined (now model) (now outline) × TransitionRead (now model) at × StateRoom (now state) × StateRoom (now child) ⌝ }
     ensures { λ r. ⌜ AttemptSays (now (model .entry)) at (now (state .entry)) (now (child .exit)) r ⌝ }
 {
     match conditions_hold(model, at, outline, state) {
@@ -168,7 +168,7 @@ fn settle(
 
 // Tries transition t in a state, and writes the new state's words. A number that is not declared is blocked.
 pub fn step(model: &[u8], outline: &[u64], state: &[u64], t: usize, child: &mut [u64]) -> MoveAnswer
-    requires { ⌜ Outlined (now model) (now outline) × Held (now state) × Held (now child) ⌝ }
+    requires { ⌜ Outlined (now model) (now outline) × StateRoom (now state) × StateRoom (now child) ⌝ }
     ensures { λ r. ⌜ MoveSays (now (model .entry)) (now (state .entry)) t (now (child .exit)) r ⌝ }
 {
     if word_at(outline, TRANSITION_COUNT) as usize <= t {

@@ -2,17 +2,17 @@
 
 ghost use Prim.Native.Nat.{_≤_, _<_, _-_};
 ghost use lib.ListN.{length};
-ghost use Rattle.evaluator.specs.Bounds.{NumberWithin, ConditionWithin};
-ghost use Rattle.steps.specs.Held.{Outlined};
+ghost use Rattle.eval_sets.specs.Bounds.{NumberWithin, ConditionWithin};
+ghost use Rattle.steps.specs.InBytes.{Outlined};
 ghost use Rattle.steps.specs.Says.{ConditionSays, NumberSays, ElementSays, SetSays};
-use conjunctions::test;
-use evaluator::answers::ConditionValue;
-use evaluator::answers::ElementValue;
-use evaluator::answers::NumberValue;
-use evaluator::answers::SetValue;
-use evaluator::sets::element;
-use evaluator::sets::set;
-use numbers::number;
+use eval_numbers::number;
+use eval_sets::answers::ConditionValue;
+use eval_sets::answers::ElementValue;
+use eval_sets::answers::NumberValue;
+use eval_sets::answers::SetValue;
+use eval_sets::sets::element;
+use eval_sets::sets::set;
+use eval_tests::test;
 use outline::layout::FULL_SETS;
 use outline::layout::TABLES;
 

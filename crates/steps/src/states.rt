@@ -6,7 +6,7 @@ ghost use Prim.Native.Nat.{_<_};
 ghost use lib.ListN.{take, drop};
 ghost use Rattle.model.specs.Steps.{target};
 ghost use Rattle.outline.specs.Outline.{modelOf};
-ghost use Rattle.steps.specs.Held.{Outlined, Held, stateIn, systemIn};
+ghost use Rattle.steps.specs.InBytes.{Outlined, StateRoom, stateIn, systemIn};
 ghost use Rattle.steps.specs.Order.{comparedWord, noWorseBy, noWorseAt};
 use laws::copy_words;
 use outline::layout::KINDS;
@@ -18,7 +18,7 @@ use outline::word_at;
 
 // Copies the words of a state.
 pub fn copy_state(from: &[u64], to: &mut [u64])
-    requires { ⌜ Held (now from) × Held (now to) ⌝ }
+    requires { ⌜ StateRoom (now from) × StateRoom (now to) ⌝ }
     ensures { λ r. ⌜ now (to .exit) ≡ take 16 (now (from .entry)) ++ drop 16 (now (to .entry)) ⌝ }
 {
     copy_words(&from[..STATE_WORDS], &mut to[..STATE_WORDS]);
@@ -26,7 +26,7 @@ pub fn copy_state(from: &[u64], to: &mut [u64])
 
 // Writes the target's words.
 pub fn start(model: &[u8], outline: &[u64], state: &mut [u64])
-    requires { ⌜ Outlined (now model) (now outline) × Held (now state) ⌝ }
+    requires { ⌜ Outlined (now model) (now outline) × StateRoom (now state) ⌝ }
     ensures { λ r. ⌜ stateIn (now (model .entry)) (now (state .exit)) ≡ target (modelOf (now (model .entry))) ⌝ }
 {
     copy_state(&outline[STARTS..], state);

@@ -1,32 +1,42 @@
-//! Writes the vector modules, and what the programs `plan_checks` and `cases` are given and write, into the repository named by the
-//! first argument.
+//! Writes the stored cases into the repository named by the first argument: the modules of crates/test_definitions, and what the
+//! programs `test_plan_checks` and `test_searches` are given and write.
 
-use repgypsum_host::cases::text::{files, plan_checks, search_cases};
+use repgypsum_host::cases::text::{modules, plan_checks, search_cases};
+use std::fs;
+use std::io;
 use std::path::Path;
 
-fn main() -> std::io::Result<()> {
+/// Writes the files into a folder, which is made where it is missing.
+fn write(folder: &Path, files: &[(String, Vec<u8>)]) -> io::Result<()> {
+    fs::create_dir_all(folder)?;
+    for (name, bytes) in files {
+        fs::write(folder.join(name), bytes)?;
+    }
+    Ok(())
+}
+
+fn main() -> io::Result<()> {
     let Some(root) = std::env::args().nth(1) else {
         eprintln!("usage: vectors REPOSITORY");
         std::process::exit(2);
     };
     let crates = Path::new(&root).join("crates");
-    let modules = crates.join("vectors/specs");
-    std::fs::create_dir_all(&modules)?;
-    for (name, text) in files() {
-        std::fs::write(modules.join(name), text)?;
-    }
-    let program = crates.join("plan_checks");
-    std::fs::create_dir_all(&program)?;
+    let file = |name: &str, text: Vec<u8>| (name.to_string(), text);
+    let modules: Vec<_> = modules()
+        .into_iter()
+        .map(|(name, text)| (name, text.into_bytes()))
+        .collect();
+    write(&crates.join("test_definitions/specs"), &modules)?;
     let (input, output) = plan_checks();
-    std::fs::write(program.join("stdin"), input)?;
-    std::fs::write(program.join("stdout"), output)?;
-    let program = crates.join("cases");
-    let data = program.join("data");
-    std::fs::create_dir_all(&data)?;
+    let files = [file("stdin", input), file("stdout", output.into_bytes())];
+    write(&crates.join("test_plan_checks"), &files)?;
     let cases = search_cases();
-    for (name, bytes) in &cases.models {
-        std::fs::write(data.join(name), bytes)?;
-    }
-    std::fs::write(program.join("args"), cases.arguments)?;
-    std::fs::write(program.join("stdout"), cases.output)
+    let program = crates.join("test_searches");
+    write(&program.join("data"), &cases.models)?;
+    let arguments = cases.arguments.into_bytes();
+    let files = [
+        file("args", arguments),
+        file("stdout", cases.output.into_bytes()),
+    ];
+    write(&program, &files)
 }

@@ -4,11 +4,17 @@ use super::{Call, Cases};
 use crate::build::*;
 use crate::generate::{damaged, model, Random};
 use crate::models::three_designs;
-use crate::reference::{plan_check, refusal};
-use std::collections::HashMap;
+use crate::numbers::refusal;
 
-/// How many damaged random models are stored behind the chosen ones.
-const RANDOM_DAMAGE: usize = 70;
+/// The damaged random models that are stored behind the chosen ones, by their places in a sequence. None is longer than 120 bytes,
+/// and no answer has more than a quarter of them.
+#[rustfmt::skip]
+const STORED: [usize; 70] = [
+    4, 10, 12, 21, 27, 28, 29, 34, 36, 48, 65, 71, 72, 73, 78, 79, 89, 91, 99, 114, 115,
+    142, 146, 157, 160, 164, 165, 173, 196, 200, 208, 211, 214, 216, 224, 234, 235, 248,
+    252, 256, 264, 270, 291, 302, 323, 364, 396, 402, 540, 548, 596, 627, 640, 728, 739,
+    800, 814, 848, 882, 928, 972, 984, 1000, 1009, 1022, 1055, 1056, 1065, 1070, 1077,
+];
 
 /// The answer for a model that is read well and has no base state at the target.
 const READ: u8 = refusal::NOT_A_PLAN;
@@ -64,7 +70,7 @@ pub fn cases() -> Vec<super::Case> {
     operands(&mut cases);
     counts(&mut cases);
     nesting(&mut cases);
-    random_damage(&mut cases, RANDOM_DAMAGE);
+    random_damage(&mut cases);
     cases.0
 }
 
@@ -1088,30 +1094,12 @@ fn nesting(cases: &mut Cases) {
     );
 }
 
-/// Damaged random models, with no answer taking more than its share.
-fn random_damage(cases: &mut Cases, count: usize) {
+fn random_damage(cases: &mut Cases) {
     let mut random = Random::new(0xDA3A6E);
-    let mut shares: HashMap<u8, usize> = HashMap::new();
-    let mut kept = 0;
-    while kept < count {
+    cases.add_random(&STORED, || {
         let build = model(&mut random);
-        let bytes = damaged(&mut random, &build);
-        if bytes.len() > 120 {
-            continue;
-        }
-        let (answer, _) = plan_check(&bytes, &[]);
-        let share = shares.entry(answer).or_default();
-        let most = if answer == 0 || answer > 9 {
-            9
-        } else {
-            count / 4
-        };
-        if *share == most {
-            continue;
-        }
-        *share += 1;
-        kept += 1;
+        let model = damaged(&mut random, &build);
         let plan = Vec::new();
-        cases.add_random(Call::Check { model: bytes, plan });
-    }
+        Call::Check { model, plan }
+    });
 }

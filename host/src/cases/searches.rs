@@ -1,15 +1,22 @@
 //! Searches: settings, verdicts, marks, bounds, trouble and its path, by hand and at random.
 
-use super::{Call, Case, Cases, Outcome, Search, FILL};
+use super::{Call, Case, Cases, Search, FILL};
 use crate::build::*;
 use crate::generate::{graph as random_graph, model, settings, Random};
 use crate::models::{sop, three_designs, tsptw, Designs};
-use crate::reference::words_needed;
-use crate::slip::{Slip, ALL};
-use std::collections::HashMap;
+use crate::numbers::words_needed;
 
-/// How many random searches are stored behind the chosen ones.
-const RANDOM_SEARCHES: usize = 100;
+/// The stored random searches, by their places in the sequence that `random_search` gives. Most of them are changed by some slip
+/// of host/slips/reference, and no two have the same fields.
+#[rustfmt::skip]
+const STORED: [usize; 100] = [
+    2, 3, 4, 7, 12, 15, 16, 21, 23, 27, 29, 32, 33, 34, 36, 39, 40, 52, 54, 56, 61, 62, 66,
+    68, 70, 74, 90, 91, 94, 96, 100, 104, 110, 111, 116, 123, 132, 133, 146, 147, 148, 149,
+    162, 173, 178, 180, 181, 183, 188, 195, 206, 208, 216, 217, 221, 225, 233, 234, 239,
+    240, 244, 249, 272, 276, 279, 294, 299, 303, 310, 319, 322, 324, 342, 349, 356, 376,
+    420, 478, 495, 501, 502, 520, 523, 529, 575, 581, 616, 648, 727, 729, 737, 766, 791,
+    792, 810, 841, 860, 871, 914, 948,
+];
 
 const MAX: i32 = i32::MAX;
 
@@ -24,7 +31,7 @@ pub fn cases() -> Vec<Case> {
     plans_in_a_layer(&mut cases);
     bounds(&mut cases);
     troubles(&mut cases);
-    random(&mut cases, RANDOM_SEARCHES);
+    random(&mut cases);
     cases.0
 }
 
@@ -968,58 +975,20 @@ fn troubles(cases: &mut Cases) {
     );
 }
 
-/// Random searches: first those that catch a slip caught too seldom, then those with answers not yet abundant.
-fn random(cases: &mut Cases, count: usize) {
-    const CATCHES: usize = 6;
-    const MOST_EXPANSIONS: u64 = 60;
-    const LONGEST_MODEL: usize = 200;
+fn random_search(random: &mut Random) -> Call {
+    let build = if random.below(3) == 0 {
+        random_graph(random)
+    } else {
+        model(random)
+    };
+    let bytes = build.end();
+    let (width, length, budget) = settings(random);
+    let width = if random.chance(10) { 64 } else { width };
+    let length = if random.chance(10) { 12 } else { length };
+    Call::search(bytes, width, length, budget)
+}
+
+fn random(cases: &mut Cases) {
     let mut random = Random::new(0x5EA2C4);
-    let mut caught: HashMap<usize, usize> = HashMap::new();
-    let mut abundance: HashMap<Vec<u64>, usize> = HashMap::new();
-    let mut kinds: HashMap<Vec<u64>, usize> = HashMap::new();
-    let mut kept = 0;
-    for _ in 0..60_000 {
-        if kept == count {
-            break;
-        }
-        let family = random.below(3);
-        let build = if family == 0 {
-            random_graph(&mut random)
-        } else {
-            model(&mut random)
-        };
-        let bytes = build.end();
-        let (width, length, budget) = settings(&mut random);
-        let width = if random.chance(10) { 64 } else { width };
-        let length = if random.chance(10) { 12 } else { length };
-        let call = Call::search(bytes.clone(), width, length, budget);
-        let outcome = call.run(Slip::Nothing);
-        let fields = outcome.fields();
-        let Outcome::Search(answer, _) = &outcome else {
-            continue;
-        };
-        if answer.expansions > MOST_EXPANSIONS || bytes.len() > LONGEST_MODEL {
-            continue;
-        }
-        let catches: Vec<usize> = (0..ALL.len())
-            .filter(|place| call.run(ALL[*place].0) != outcome)
-            .collect();
-        let seldom = catches
-            .iter()
-            .any(|place| caught.get(place).copied().unwrap_or(0) < CATCHES);
-        // Refused or not, verdict, plan or not, and whether there was more than one round.
-        let kind = vec![fields[0], fields[1], fields[2], u64::from(fields[7] > 1)];
-        let many = kinds.get(&kind).copied().unwrap_or(0);
-        let known = abundance.get(&fields).copied().unwrap_or(0);
-        if known >= 1 || (!seldom && (many >= 8 || answer.expansions < 2)) {
-            continue;
-        }
-        for place in catches {
-            *caught.entry(place).or_default() += 1;
-        }
-        *abundance.entry(fields).or_default() += 1;
-        *kinds.entry(kind).or_default() += 1;
-        kept += 1;
-        cases.add_random(call);
-    }
+    cases.add_random(&STORED, || random_search(&mut random));
 }

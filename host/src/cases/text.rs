@@ -1,13 +1,14 @@
-//! The cases as source text of vector modules.
+//! The cases as stored: the modules of crates/test_definitions, and what the programs test_plan_checks and test_searches are
+//! given and write.
 
 use super::{groups, Call, Case, Outcome, Search};
 use crate::line::{answer_line, fields, LONGEST_MODEL};
-use crate::reference::{plan_check, refusal};
-use crate::slip::Slip;
+use crate::numbers::refusal;
+use crate::reference::plan_check;
 use std::fmt::Write;
 
-/// The most cases in one file.
-pub const CASES_PER_FILE: usize = 60;
+/// The most cases in one module.
+pub const CASES_PER_MODULE: usize = 60;
 
 /// Byte lists of zeros longer than this are written by their length.
 const LONGEST_HEX: usize = 8_192;
@@ -24,7 +25,7 @@ fn hex(bytes: &[u8]) -> String {
 }
 
 fn case_text(case: &Case) -> String {
-    match (&case.call, case.call.run(Slip::Nothing)) {
+    match (&case.call, case.call.run()) {
         (Call::Check { model, plan }, Outcome::Check(answer, cost)) => {
             format!("checked {} {} {answer} {cost}", hex(model), hex(plan))
         }
@@ -59,7 +60,7 @@ fn module(group: &str, part: usize, cases: &[Case]) -> String {
     .unwrap();
     text += "use Prim.Native.Nat.{ℕ}\n";
     text += "use mathlib.Core.List.{List, [], _∷_}\n";
-    text += "use Rattle.laws.specs.Hex.{hex, zeros}\nuse Rattle.vectors.specs.Case.{Case, searched, checked}\n\n";
+    text += "use Rattle.laws.specs.Hex.{hex, zeros}\nuse Rattle.test_definitions.specs.Case.{Case, searched, checked}\n\n";
     text += "abbrev pub cases : List Case\ncases =\n";
     for (place, case) in cases.iter().enumerate() {
         if let Some(note) = &case.note {
@@ -72,21 +73,21 @@ fn module(group: &str, part: usize, cases: &[Case]) -> String {
     text
 }
 
-/// The name and text of every vector module.
-pub fn files() -> Vec<(String, String)> {
-    let mut files = Vec::new();
+/// The file name and text of every module of cases.
+pub fn modules() -> Vec<(String, String)> {
+    let mut modules = Vec::new();
     for (group, cases) in groups() {
-        let parts = cases.len().div_ceil(CASES_PER_FILE);
+        let parts = cases.len().div_ceil(CASES_PER_MODULE);
         let size = cases.len().div_ceil(parts);
         for (place, part) in cases.chunks(size).enumerate() {
             let name = format!("{group}{}.antt", place + 1);
-            files.push((name, module(group, place + 1, part)));
+            modules.push((name, module(group, place + 1, part)));
         }
     }
-    files
+    modules
 }
 
-/// What the program `plan_checks` reads and writes: for each plan check of the cases the lengths of model and plan, two bytes each,
+/// What the program `test_plan_checks` reads and writes: for each plan check of the cases the lengths of model and plan, two bytes each,
 /// the model and the plan; and a line with the answer number and the cost of each, and of four more at the greatest lengths.
 pub fn plan_checks() -> (Vec<u8>, String) {
     let mut input = Vec::new();
@@ -99,7 +100,7 @@ pub fn plan_checks() -> (Vec<u8>, String) {
             if model.len() > LONGEST_HEX {
                 continue;
             }
-            let Outcome::Check(answer, cost) = case.call.run(Slip::Nothing) else {
+            let Outcome::Check(answer, cost) = case.call.run() else {
                 unreachable!("a check has a check's outcome")
             };
             for length in [model.len(), plan.len()] {
@@ -126,11 +127,11 @@ pub fn plan_checks() -> (Vec<u8>, String) {
     (input, output)
 }
 
-/// The most words and plan bytes that the program `cases` lends.
+/// The most words and plan bytes that the program `test_searches` lends.
 const MOST_WORDS: u64 = 300_000;
 const MOST_PLAN_BYTES: usize = 300;
 
-/// What the program `cases` is given and writes: its arguments, the model files, a line for each case, and one more with the path
+/// What the program `test_searches` is given and writes: its arguments, the model files, a line for each case, and one more with the path
 /// at a refusal by the state.
 #[derive(Default, PartialEq, Eq, Debug)]
 pub struct SearchCases {
@@ -164,7 +165,7 @@ impl SearchCases {
     }
 
     fn add(&mut self, name: &str, search: &Search) {
-        let (answer, after) = search.run(Slip::Nothing);
+        let (answer, after) = search.run();
         let file = self.file(name, &search.model);
         let plan_bytes = search.buffer.len().min(MOST_PLAN_BYTES);
         let words = search.words.min(MOST_WORDS);
@@ -177,14 +178,14 @@ impl SearchCases {
         }
         let line = answer_line(&answer, &after);
         writeln!(self.output, "{name}: {line}").unwrap();
-        if answer.refused && answer.number >= refusal::OUT_OF_RANGE {
+        if answer.refused && answer.verdict >= refusal::OUT_OF_RANGE {
             let fields = fields(&answer, &after);
-            writeln!(self.output, "  at {} {fields}", answer.number).unwrap();
+            writeln!(self.output, "  at {} {fields}", answer.verdict).unwrap();
         }
     }
 }
 
-/// The stored searches that were chosen by hand, as the program `cases` runs them.
+/// The stored searches that were chosen by hand, as the program `test_searches` runs them.
 pub fn search_cases() -> SearchCases {
     let mut all = SearchCases::default();
     for case in super::searches::cases() {
@@ -198,9 +199,7 @@ pub fn search_cases() -> SearchCases {
     }
     // the lengths at which 1 is told, which the program makes itself
     for (name, length) in [("the-longest", 65_536), ("too-long", 65_537)] {
-        let Outcome::Search(answer, after) =
-            Call::search(vec![0; length], 1, 1, 0).run(Slip::Nothing)
-        else {
+        let Outcome::Search(answer, after) = Call::search(vec![0; length], 1, 1, 0).run() else {
             unreachable!("a search has a search's outcome")
         };
         writeln!(all.output, "{name}: {}", answer_line(&answer, &after)).unwrap();

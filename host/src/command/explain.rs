@@ -13,8 +13,9 @@ use super::plan::status;
 use super::settings::{Run, Settings, OPTIONS};
 use super::words::{by_state, counted, grouped, refusal_name, verdict_name};
 use super::{Complaint, Done};
+use crate::numbers::limit;
 use crate::reference::syntax::CostRule;
-use crate::reference::{limit, read_model, Model};
+use crate::reference::{read_model, Model};
 use crate::text::{Listing, Names};
 use std::ffi::{OsStr, OsString};
 use std::io::Read;
@@ -93,7 +94,7 @@ pub fn run(arguments: &[OsString], input: &mut dyn Read) -> Result<Done, Complai
 }
 
 fn refused_by_input(run: &Run) -> bool {
-    run.answer.refused && !by_state(run.answer.number)
+    run.answer.refused && !by_state(run.answer.verdict)
 }
 
 /// The model, the settings and the answer, a line each.
@@ -107,12 +108,12 @@ fn head(source: &Source, settings: &Settings, run: &Run, known: Option<&Known>) 
     let ended = if answer.refused {
         format!(
             "Refused {}, {}.",
-            answer.number,
-            refusal_name(answer.number)
+            answer.verdict,
+            refusal_name(answer.verdict)
         )
     } else {
-        let name = verdict_name(answer.number);
-        format!("Verdict {}, {name}. {}", answer.number, given(run))
+        let name = verdict_name(answer.verdict);
+        format!("Verdict {}, {name}. {}", answer.verdict, given(run))
     };
     format!(
         "Model {}, {}{rule}.\nWidest beam {}, length limit {}, budget {}.\n{ended}\n",
@@ -136,7 +137,7 @@ fn size(model: &[u8]) -> String {
 /// The plan that an answer gives, in a sentence.
 fn given(run: &Run) -> String {
     let answer = &run.answer;
-    if answer.plan_flag {
+    if answer.flag {
         let steps = counted(answer.length, "step");
         format!(
             "A plan of {steps} is given, at cost {}.",
@@ -149,7 +150,7 @@ fn given(run: &Run) -> String {
 
 fn parts(source: &Source, settings: &Settings, run: &Run, known: Option<&Known>) -> Vec<Part> {
     if refused_by_input(run) {
-        return vec![refusals::by_input(source, settings, run.answer.number)];
+        return vec![refusals::by_input(source, settings, run.answer.verdict)];
     }
     let Some(known) = known else {
         return vec![disagreement()];
@@ -164,7 +165,7 @@ fn parts(source: &Source, settings: &Settings, run: &Run, known: Option<&Known>)
             parts.push(declarations::part(known));
         }
         parts.extend(verdicts::more(known, settings, run));
-        if run.answer.plan_flag {
+        if run.answer.flag {
             parts.push(walk::part("The plan, step by step", known, &run.steps));
             parts.push(verdicts::checked_again(source, run));
         }
@@ -201,7 +202,7 @@ fn write_chart(
     known: Option<&Known>,
 ) -> Result<Part, Complaint> {
     let mut part = Part::new("The chart");
-    let plan = run.answer.plan_flag.then_some(run.steps.as_slice());
+    let plan = run.answer.flag.then_some(run.steps.as_slice());
     let stages = known.zip(plan).and_then(|(known, plan)| {
         let stages = walk::follow(&known.model, plan)?;
         Some((known, stages))
@@ -211,7 +212,7 @@ fn write_chart(
         return Ok(part);
     };
     let model = Path::new(title).file_name().unwrap_or(OsStr::new(title));
-    let verdict = verdict_name(run.answer.number);
+    let verdict = verdict_name(run.answer.verdict);
     let heading = format!("{}: {verdict}", model.to_string_lossy());
     let chart = chart::svg(&heading, known, &stages);
     let name = out.to_string_lossy();

@@ -1,7 +1,7 @@
 //! Models from files and standard input.
 
 use super::Complaint;
-use crate::reference::limit;
+use crate::numbers::limit;
 use crate::text::{assemble_with_names, Error, Names, Place};
 use std::ffi::OsStr;
 use std::fs::File;

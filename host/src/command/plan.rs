@@ -37,7 +37,7 @@ pub fn status(run: &Run) -> u8 {
 /// Every field by name, one a line; last the plan, or the path to the state of a refusal.
 fn fields(run: &Run) -> String {
     let answer = &run.answer;
-    let number = answer.number;
+    let number = answer.verdict;
     let (what, name) = if answer.refused {
         ("refused", refusal_name(number))
     } else {
@@ -50,7 +50,7 @@ fn fields(run: &Run) -> String {
     };
     let lines = [
         (what, format!("{number} {name}")),
-        ("plan flag", u8::from(answer.plan_flag).to_string()),
+        ("plan flag", u8::from(answer.flag).to_string()),
         ("cost", answer.cost.to_string()),
         ("bound", answer.bound.to_string()),
         ("length", answer.length.to_string()),

@@ -2,9 +2,10 @@
 
 use super::arguments::Arguments;
 use super::Complaint;
+use crate::answer::Answer;
 use crate::line;
+use crate::numbers::{limit, words_needed};
 use crate::proved;
-use crate::reference::{limit, words_needed, Answer};
 
 /// The options that `Settings::read` understands.
 pub const OPTIONS: [&str; 5] = ["--width", "--length", "--budget", "--plan-bytes", "--words"];

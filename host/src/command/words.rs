@@ -1,6 +1,6 @@
 //! Words for document 01's numbers, and numbers and lists as a reader likes them.
 
-use crate::reference::{refusal, verdict};
+use crate::numbers::{refusal, verdict};
 
 /// A verdict's name.
 pub fn verdict_name(number: u8) -> &'static str {
@@ -18,17 +18,17 @@ pub fn verdict_name(number: u8) -> &'static str {
 /// A refusal's name.
 pub fn refusal_name(number: u8) -> &'static str {
     match number {
-        refusal::TOO_LONG => "model too long",
-        refusal::SETTING => "setting out of range",
-        refusal::LENT => "too little lent",
-        refusal::CUT => "bytes end early",
+        refusal::MODEL_TOO_LONG => "model too long",
+        refusal::BAD_SETTING => "setting out of range",
+        refusal::TOO_LITTLE_LENT => "too little lent",
+        refusal::ENDS_EARLY => "bytes end early",
         refusal::NOT_DUE => "a byte that begins nothing due here",
-        refusal::MISFIT => "wrong kind, undeclared name or counts that do not fit",
-        refusal::LIMIT => "outside its limits",
+        refusal::MISMATCH => "wrong kind, undeclared name or counts that do not fit",
+        refusal::OFF_LIMITS => "outside its limits",
         refusal::TOO_DEEP => "nested too deep",
-        refusal::AFTER_END => "bytes after the end command",
+        refusal::BYTES_AFTER_END => "bytes after the end command",
         refusal::OUT_OF_RANGE => "number out of range",
-        refusal::BY_ZERO => "quotient by zero",
+        refusal::DIVISOR_ZERO => "quotient by zero",
         refusal::NEGATIVE_COST => "negative cost",
         refusal::NOT_A_PLAN => "not a plan",
         _ => "unknown",

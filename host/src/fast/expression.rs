@@ -2,8 +2,8 @@
 //!
 //! The first trouble of an evaluation is noted in the view, and the evaluation goes on with a value that nobody uses.
 
-use crate::reference::limit::VARIABLES;
-use crate::reference::refusal::{BY_ZERO, OUT_OF_RANGE};
+use crate::numbers::limit::VARIABLES;
+use crate::numbers::refusal::{DIVISOR_ZERO, OUT_OF_RANGE};
 use std::cell::Cell;
 
 /// One word a variable: a set's members as bits, an element, or a number in two's complement.
@@ -128,7 +128,7 @@ impl<'a> View<'a> {
     /// The quotient rounded down. Neither operand passes 32 bits, so the division has a value.
     fn quotient(&self, dividend: i64, divisor: i64) -> i64 {
         if divisor == 0 {
-            return self.note(BY_ZERO);
+            return self.note(DIVISOR_ZERO);
         }
         let rest = dividend.rem_euclid(divisor);
         let rounded = (dividend - rest) / divisor;

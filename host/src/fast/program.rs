@@ -2,8 +2,8 @@
 
 use super::compile::{element, set, Tables};
 use super::expression::{ByteSums, Condition, Element, Number, Set, State, View};
-use crate::reference::limit::VARIABLES;
-use crate::reference::refusal::NEGATIVE_COST;
+use crate::numbers::limit::VARIABLES;
+use crate::numbers::refusal::NEGATIVE_COST;
 use crate::reference::syntax::{self, CostRule, Preference, Variable};
 
 enum Effect {

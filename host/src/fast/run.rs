@@ -3,7 +3,8 @@
 use super::layer::{Entry, Layer, Node};
 use super::program::{Program, Transition};
 use super::Counts;
-use crate::reference::{verdict, Answer};
+use crate::answer::Answer;
+use crate::numbers::verdict;
 
 /// The parent of a node and the step from it. The target is at 0.
 #[derive(Clone, Copy)]
@@ -97,7 +98,7 @@ impl<'a> Run<'a> {
             End::Trouble { number, path, cost } => {
                 let answer = Answer {
                     refused: true,
-                    number,
+                    verdict: number,
                     cost: cost as u64,
                     length: path.len() as u64,
                     ..tallied
@@ -106,7 +107,7 @@ impl<'a> Run<'a> {
             }
             End::Verdict(number) => {
                 let cost = self.plan.as_ref().map_or(0, |_| self.best as u64);
-                let plan_flag = self.plan.is_some();
+                let flag = self.plan.is_some();
                 let plan = self.plan.unwrap_or_default();
                 let bound = match number {
                     verdict::CHEAPEST => cost,
@@ -114,8 +115,8 @@ impl<'a> Run<'a> {
                     _ => tallied.bound,
                 };
                 let answer = Answer {
-                    number,
-                    plan_flag,
+                    verdict: number,
+                    flag,
                     cost,
                     bound,
                     length: plan.len() as u64,

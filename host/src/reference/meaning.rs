@@ -3,11 +3,10 @@
 //! A trouble is a refusal number, 11 to 13; the first one met ends the evaluation.
 
 use super::read::all_objects;
-use super::refusal::{BY_ZERO, NEGATIVE_COST, OUT_OF_RANGE};
 use super::syntax::{
     Condition, CostRule, Element, Expression, Model, Number, Preference, Set, Transition, Variable,
 };
-use crate::slip::Slip;
+use crate::numbers::refusal::{DIVISOR_ZERO, NEGATIVE_COST, OUT_OF_RANGE};
 
 #[derive(Clone, PartialEq, Eq, Hash, PartialOrd, Ord, Debug)]
 pub enum Value {
@@ -43,10 +42,6 @@ fn members(set: u64) -> impl Iterator<Item = u8> {
 }
 
 impl Model {
-    fn slip(&self, slip: Slip) -> bool {
-        self.slip == slip
-    }
-
     /// The state in which the variables have their start values.
     pub fn target(&self) -> State {
         self.variables
@@ -82,7 +77,10 @@ impl Model {
             }
             Number::Quotient(first, second) => {
                 let (first, second) = self.two_numbers(first, second, state)?;
-                self.quotient(first, second)
+                if second == 0 {
+                    return Err(DIVISOR_ZERO);
+                }
+                in_range(floor_quotient(first, second))
             }
             Number::Lesser(first, second) => {
                 let (first, second) = self.two_numbers(first, second, state)?;
@@ -117,22 +115,7 @@ impl Model {
         second: &Number,
         state: &State,
     ) -> Result<(i64, i64), u8> {
-        if self.slip(Slip::RightToLeft) {
-            let second = self.number(second, state)?;
-            return Ok((self.number(first, state)?, second));
-        }
         Ok((self.number(first, state)?, self.number(second, state)?))
-    }
-
-    fn quotient(&self, dividend: i64, divisor: i64) -> Result<i64, u8> {
-        if divisor == 0 {
-            return Err(BY_ZERO);
-        }
-        match self.slip {
-            Slip::QuotientToZero => in_range(dividend / divisor),
-            Slip::RangeNotTested => Ok(floor_quotient(dividend, divisor)),
-            _ => in_range(floor_quotient(dividend, divisor)),
-        }
     }
 
     fn table_entry(&self, table: usize, row: u8, column: u8) -> i64 {
@@ -141,16 +124,10 @@ impl Model {
     }
 
     /// The sum of the entries at the rows of the set; only the total must be in range.
-    fn entry_sum(&self, table: usize, mut set: u64, column: u8) -> Result<i64, u8> {
-        if self.slip(Slip::ComplementUnmasked) {
-            set &= all_objects(self.tables[table].rows);
-        }
+    fn entry_sum(&self, table: usize, set: u64, column: u8) -> Result<i64, u8> {
         let mut total = 0;
         for row in members(set) {
             total += self.table_entry(table, row, column);
-            if self.slip(Slip::PartialSumRefused) {
-                in_range(total)?;
-            }
         }
         in_range(total)
     }
@@ -179,7 +156,6 @@ impl Model {
             Set::Union(first, second) => self.set(first, state) | self.set(second, state),
             Set::Intersection(first, second) => self.set(first, state) & self.set(second, state),
             Set::Difference(first, second) => self.set(first, state) & !self.set(second, state),
-            Set::Complement(_, set) if self.slip(Slip::ComplementUnmasked) => !self.set(set, state),
             Set::Complement(count, set) => all_objects(*count) & !self.set(set, state),
         }
     }
@@ -207,25 +183,25 @@ impl Model {
             Condition::Empty(set) => Ok(self.set(set, state) == 0),
             Condition::Subset(first, second) => {
                 let (first, second) = (self.set(first, state), self.set(second, state));
-                if self.slip(Slip::SubsetReversed) {
-                    return Ok(second & !first == 0);
-                }
                 Ok(first & !second == 0)
             }
             Condition::Not(part) => Ok(!self.condition(part, state)?),
             Condition::And(first, second) => {
-                if self.slip(Slip::NoShortCircuit) {
-                    self.condition(second, state)?;
-                }
                 Ok(self.condition(first, state)? && self.condition(second, state)?)
             }
             Condition::Or(first, second) => {
-                if self.slip(Slip::NoShortCircuit) {
-                    self.condition(second, state)?;
-                }
                 Ok(self.condition(first, state)? || self.condition(second, state)?)
             }
         }
+    }
+
+    /// The value of an effect's expression.
+    fn value(&self, expression: &Expression, state: &State) -> Result<Value, u8> {
+        Ok(match expression {
+            Expression::Set(set) => Value::Set(self.set(set, state)),
+            Expression::Element(element) => Value::Element(self.element(element, state)),
+            Expression::Number(number) => Value::Number(self.number(number, state)?),
+        })
     }
 
     // Parts of a step.
@@ -253,16 +229,7 @@ impl Model {
     pub fn after(&self, transition: &Transition, state: &State) -> Result<State, u8> {
         let mut new = state.clone();
         for effect in &transition.effects {
-            let read = if self.slip(Slip::EffectReadsNewValue) {
-                new.clone()
-            } else {
-                state.clone()
-            };
-            new[effect.variable] = match &effect.value {
-                Expression::Set(value) => Value::Set(self.set(value, &read)),
-                Expression::Element(value) => Value::Element(self.element(value, &read)),
-                Expression::Number(value) => Value::Number(self.number(value, &read)?),
-            };
+            new[effect.variable] = self.value(&effect.value, state)?;
         }
         Ok(new)
     }
@@ -287,22 +254,18 @@ impl Model {
     /// A path cost joined with a step's cost or with h.
     pub fn join(&self, cost: i64, next: i64) -> i64 {
         match self.rule {
-            CostRule::Largest if !self.slip(Slip::LargestAsSum) => cost.max(next),
-            _ => cost + next,
+            CostRule::Sum => cost + next,
+            CostRule::Largest => cost.max(next),
         }
     }
 
     /// The greatest of 0 and the bounds.
     pub fn h(&self, state: &State) -> Result<i64, u8> {
-        let mut greatest = None;
+        let mut greatest = 0;
         for bound in &self.bounds {
-            greatest = greatest.max(Some(self.number(bound, state)?));
+            greatest = greatest.max(self.number(bound, state)?);
         }
-        match greatest {
-            Some(value) if self.slip(Slip::BoundsBelowZero) => Ok(value),
-            Some(value) => Ok(value.max(0)),
-            None => Ok(0),
-        }
+        Ok(greatest)
     }
 
     /// Whether `better` is no worse on every preferred variable and equal on the rest.
@@ -314,12 +277,8 @@ impl Model {
                 Variable::Number { preference, .. } => *preference,
             };
             let (better, worse) = (&better[place], &worse[place]);
-            let reversed = self.slip(Slip::PreferenceReversed);
             match preference {
-                _ if self.slip(Slip::DominanceIgnored) => better == worse,
                 Preference::None => better == worse,
-                Preference::Less if reversed => better >= worse,
-                Preference::More if reversed => better <= worse,
                 Preference::Less => better <= worse,
                 Preference::More => better >= worse,
             }

@@ -3,20 +3,17 @@
 //! One place is a byte with its fixed operands. The tests of a place come in the order
 //! 4, 8 (expressions), 5, 6 for kind, 4 for operands, 7, 6 for names; 6 for counts comes after the parts.
 
-use super::limit;
-use super::refusal::{AFTER_END, CUT, LIMIT, MISFIT, NOT_DUE, TOO_DEEP};
 use super::syntax::{
     Condition, CostRule, Effect, Element, Expression, Kind, Model, Number, Preference, Set, Table,
     Transition, Variable,
 };
-use crate::slip::Slip;
+use crate::numbers::limit;
+use crate::numbers::refusal::{
+    BYTES_AFTER_END, ENDS_EARLY, MISMATCH, NOT_DUE, OFF_LIMITS, TOO_DEEP,
+};
 
 /// The model that the bytes spell, or the refusal number. The length of the bytes is tested by the caller.
 pub fn read_model(bytes: &[u8]) -> Result<Model, u8> {
-    read_model_with(Slip::Nothing, bytes)
-}
-
-pub fn read_model_with(slip: Slip, bytes: &[u8]) -> Result<Model, u8> {
     let model = Model {
         rule: CostRule::Sum,
         variables: Vec::new(),
@@ -25,7 +22,6 @@ pub fn read_model_with(slip: Slip, bytes: &[u8]) -> Result<Model, u8> {
         base_cases: Vec::new(),
         constraints: Vec::new(),
         bounds: Vec::new(),
-        slip,
     };
     let mut reader = Reader {
         bytes,
@@ -65,7 +61,7 @@ fn preference(byte: u8) -> Result<Preference, u8> {
         0 => Ok(Preference::None),
         1 => Ok(Preference::Less),
         2 => Ok(Preference::More),
-        _ => Err(LIMIT),
+        _ => Err(OFF_LIMITS),
     }
 }
 
@@ -96,18 +92,14 @@ struct Reader<'a> {
 }
 
 impl Reader<'_> {
-    fn slip(&self, slip: Slip) -> bool {
-        self.model.slip == slip
-    }
-
     /// The byte due here, without passing it.
     fn peek(&self) -> Result<u8, u8> {
-        self.bytes.get(self.at).copied().ok_or(CUT)
+        self.bytes.get(self.at).copied().ok_or(ENDS_EARLY)
     }
 
     /// The next `count` operand bytes.
     fn operands(&mut self, count: usize) -> Result<Vec<u8>, u8> {
-        let taken = self.bytes.get(self.at..self.at + count).ok_or(CUT)?;
+        let taken = self.bytes.get(self.at..self.at + count).ok_or(ENDS_EARLY)?;
         self.at += count;
         Ok(taken.to_vec())
     }
@@ -120,7 +112,7 @@ impl Reader<'_> {
         self.model.rule = match self.operands(1)?[0] {
             0 => CostRule::Sum,
             1 => CostRule::Largest,
-            _ => return Err(LIMIT),
+            _ => return Err(OFF_LIMITS),
         };
         while (0x02..=0x04).contains(&self.peek()?) {
             self.variable()?;
@@ -133,51 +125,51 @@ impl Reader<'_> {
         }
         while self.peek()? == 0x0B {
             self.at += 1;
-            refuse_if(self.model.base_cases.len() == limit::BASE_CASES, LIMIT)?;
+            refuse_if(self.model.base_cases.len() == limit::BASE_CASES, OFF_LIMITS)?;
             let conditions = self.conditions()?;
             self.model.base_cases.push(conditions);
         }
         while self.peek()? == 0x0C {
             self.at += 1;
-            refuse_if(self.model.constraints.len() == limit::CONSTRAINTS, LIMIT)?;
+            refuse_if(
+                self.model.constraints.len() == limit::CONSTRAINTS,
+                OFF_LIMITS,
+            )?;
             let constraint = self.condition(1)?;
             self.model.constraints.push(constraint);
         }
         while self.peek()? == 0x0D {
             self.at += 1;
-            refuse_if(self.model.bounds.len() == limit::BOUNDS, LIMIT)?;
+            refuse_if(self.model.bounds.len() == limit::BOUNDS, OFF_LIMITS)?;
             let bound = self.number(1)?;
             self.model.bounds.push(bound);
         }
         refuse_if(self.peek()? != 0x0E, NOT_DUE)?;
         self.at += 1;
-        let more = self.at < self.bytes.len();
-        refuse_if(more && !self.slip(Slip::EndNotTested), AFTER_END)
+        refuse_if(self.at < self.bytes.len(), BYTES_AFTER_END)
     }
 
     fn variable(&mut self) -> Result<(), u8> {
         let command = self.peek()?;
         self.at += 1;
-        let one_too_many = self.model.variables.len() == limit::VARIABLES;
-        refuse_if(one_too_many && self.slip(Slip::SizeBeforeOperands), LIMIT)?;
         let operands = self.operands(match command {
             0x02 => 9,
             0x03 => 3,
             _ => 5,
         })?;
-        refuse_if(one_too_many, LIMIT)?;
+        refuse_if(self.model.variables.len() == limit::VARIABLES, OFF_LIMITS)?;
         let variable = match command {
             0x02 => {
                 let (count, start) = (operands[0], members_of(&operands[1..]));
-                refuse_if(!side_fits(count), LIMIT)?;
-                refuse_if(start & !all_objects(count) != 0, LIMIT)?;
+                refuse_if(!side_fits(count), OFF_LIMITS)?;
+                refuse_if(start & !all_objects(count) != 0, OFF_LIMITS)?;
                 Variable::Set { count, start }
             }
             0x03 => {
                 let (count, start) = (operands[0], operands[2]);
-                refuse_if(!side_fits(count), LIMIT)?;
+                refuse_if(!side_fits(count), OFF_LIMITS)?;
                 let preference = preference(operands[1])?;
-                refuse_if(start >= count, LIMIT)?;
+                refuse_if(start >= count, OFF_LIMITS)?;
                 Variable::Element {
                     count,
                     preference,
@@ -197,18 +189,14 @@ impl Reader<'_> {
         self.at += 1;
         let sides = self.operands(2)?;
         let (rows, columns) = (sides[0], sides[1]);
-        refuse_if(self.model.tables.len() == limit::TABLES, LIMIT)?;
-        refuse_if(!side_fits(rows) || !side_fits(columns), LIMIT)?;
+        refuse_if(self.model.tables.len() == limit::TABLES, OFF_LIMITS)?;
+        refuse_if(!side_fits(rows) || !side_fits(columns), OFF_LIMITS)?;
         let size = usize::from(rows) * usize::from(columns);
         let mut entries = Vec::new();
         while entries.len() < size {
             refuse_if(self.peek()? != 0x06, NOT_DUE)?;
             self.at += 1;
             entries.push(number_of(&self.operands(4)?));
-        }
-        while self.slip(Slip::EntriesNotCounted) && self.peek()? == 0x06 {
-            self.at += 1;
-            self.operands(4)?;
         }
         self.model.tables.push(Table {
             rows,
@@ -220,7 +208,10 @@ impl Reader<'_> {
 
     fn transition(&mut self) -> Result<(), u8> {
         self.at += 1;
-        refuse_if(self.model.transitions.len() == limit::TRANSITIONS, LIMIT)?;
+        refuse_if(
+            self.model.transitions.len() == limit::TRANSITIONS,
+            OFF_LIMITS,
+        )?;
         let conditions = self.conditions()?;
         refuse_if(self.peek()? != 0x09, NOT_DUE)?;
         self.at += 1;
@@ -230,7 +221,7 @@ impl Reader<'_> {
             self.at += 1;
             let variable = usize::from(self.operands(1)?[0]);
             let second = effects.iter().any(|effect| effect.variable == variable);
-            refuse_if(second && !self.slip(Slip::SecondEffectAccepted), LIMIT)?;
+            refuse_if(second, OFF_LIMITS)?;
             let value = self.effect_value(variable)?;
             effects.push(Effect { variable, value });
         }
@@ -247,12 +238,12 @@ impl Reader<'_> {
         match self.declared(variable)? {
             Variable::Set { count, .. } => {
                 let (value, value_count) = self.set(1)?;
-                refuse_if(value_count != count, MISFIT)?;
+                refuse_if(value_count != count, MISMATCH)?;
                 Ok(Expression::Set(value))
             }
             Variable::Element { count, .. } => {
                 let (value, value_count) = self.element(1)?;
-                refuse_if(value_count > count, MISFIT)?;
+                refuse_if(value_count > count, MISMATCH)?;
                 Ok(Expression::Element(value))
             }
             Variable::Number { .. } => Ok(Expression::Number(self.number(1)?)),
@@ -264,7 +255,7 @@ impl Reader<'_> {
         let mut conditions = Vec::new();
         while self.peek()? == 0x08 {
             self.at += 1;
-            refuse_if(conditions.len() == limit::CONDITIONS, LIMIT)?;
+            refuse_if(conditions.len() == limit::CONDITIONS, OFF_LIMITS)?;
             conditions.push(self.condition(1)?);
         }
         Ok(conditions)
@@ -273,20 +264,12 @@ impl Reader<'_> {
     // Names.
 
     fn declared(&self, variable: usize) -> Result<Variable, u8> {
-        let undeclared = if self.slip(Slip::UndeclaredIsLimit) {
-            LIMIT
-        } else {
-            MISFIT
-        };
-        self.model
-            .variables
-            .get(variable)
-            .cloned()
-            .ok_or(undeclared)
+        let declared = self.model.variables.get(variable);
+        declared.cloned().ok_or(MISMATCH)
     }
 
     fn table_sides(&self, table: usize) -> Result<(u8, u8), u8> {
-        let table = self.model.tables.get(table).ok_or(MISFIT)?;
+        let table = self.model.tables.get(table).ok_or(MISMATCH)?;
         Ok((table.rows, table.columns))
     }
 
@@ -294,31 +277,10 @@ impl Reader<'_> {
 
     /// Passes the byte of an expression of this kind and its operands, which are answered behind the byte.
     fn head(&mut self, kind: Kind, depth: u32) -> Result<Vec<u8>, u8> {
-        let nesting = match self.model.slip {
-            Slip::DepthThirtyThree => limit::NESTING + 1,
-            Slip::DepthThirtyOne => limit::NESTING - 1,
-            _ => limit::NESTING,
-        };
-        let too_deep = depth > nesting;
-        refuse_if(too_deep && self.slip(Slip::DepthBeforeEnd), TOO_DEEP)?;
         let byte = self.peek()?;
-        let garbage = expression_head(byte).is_none();
-        refuse_if(garbage && self.slip(Slip::GarbageBeforeDepth), NOT_DUE)?;
-        refuse_if(too_deep, TOO_DEEP)?;
+        refuse_if(depth > limit::NESTING, TOO_DEEP)?;
         let (its_kind, width) = expression_head(byte).ok_or(NOT_DUE)?;
-        let operands_here = self.bytes.get(self.at + 1..self.at + 1 + width);
-        if self.slip(Slip::OperandsBeforeKind) {
-            operands_here.ok_or(CUT)?;
-        }
-        if self.slip(Slip::LimitBeforeKind) {
-            let first = operands_here.and_then(|operands| operands.first());
-            refuse_if(byte == 0x30 && first.is_some_and(|k| *k >= 64), LIMIT)?;
-        }
-        refuse_if(its_kind != kind, MISFIT)?;
-        if self.slip(Slip::LimitBeforeOperands) && byte == 0x40 {
-            let count = self.bytes.get(self.at + 1);
-            refuse_if(count.is_some_and(|count| !side_fits(*count)), LIMIT)?;
-        }
+        refuse_if(its_kind != kind, MISMATCH)?;
         self.operands(1 + width)
     }
 
@@ -331,7 +293,7 @@ impl Reader<'_> {
                 let variable = usize::from(head[1]);
                 match self.declared(variable)? {
                     Variable::Number { .. } => Number::Variable(variable),
-                    _ => return Err(MISFIT),
+                    _ => return Err(MISMATCH),
                 }
             }
             0x22 => Number::Sum(self.boxed_number(inner)?, self.boxed_number(inner)?),
@@ -347,7 +309,7 @@ impl Reader<'_> {
                 let (rows, columns) = self.table_sides(table)?;
                 let (set, set_count) = self.set(inner)?;
                 let (column, column_count) = self.element(inner)?;
-                refuse_if(set_count > rows || column_count > columns, MISFIT)?;
+                refuse_if(set_count > rows || column_count > columns, MISMATCH)?;
                 Number::EntrySum(table, set, column)
             }
             _ => Number::Choice(
@@ -363,17 +325,10 @@ impl Reader<'_> {
     }
 
     fn entry(&mut self, table: usize, inner: u32) -> Result<Number, u8> {
-        let sides = self.table_sides(table);
-        if !self.slip(Slip::NamesAfterParts) {
-            sides?;
-        }
+        let (rows, columns) = self.table_sides(table)?;
         let (row, row_count) = self.element(inner)?;
-        if self.slip(Slip::CountsBeforeParts) {
-            refuse_if(row_count > sides?.0, MISFIT)?;
-        }
         let (column, column_count) = self.element(inner)?;
-        let (rows, columns) = sides?;
-        refuse_if(row_count > rows || column_count > columns, MISFIT)?;
+        refuse_if(row_count > rows || column_count > columns, MISMATCH)?;
         Ok(Number::Entry(table, row, column))
     }
 
@@ -382,14 +337,14 @@ impl Reader<'_> {
         let head = self.head(Kind::Element, depth)?;
         match head[0] {
             0x30 => {
-                refuse_if(head[1] >= limit::OBJECTS, LIMIT)?;
+                refuse_if(head[1] >= limit::OBJECTS, OFF_LIMITS)?;
                 Ok((Element::Literal(head[1]), head[1] + 1))
             }
             _ => {
                 let variable = usize::from(head[1]);
                 match self.declared(variable)? {
                     Variable::Element { count, .. } => Ok((Element::Variable(variable), count)),
-                    _ => Err(MISFIT),
+                    _ => Err(MISMATCH),
                 }
             }
         }
@@ -402,15 +357,15 @@ impl Reader<'_> {
         match head[0] {
             0x40 => {
                 let (count, members) = (head[1], members_of(&head[2..]));
-                refuse_if(!side_fits(count), LIMIT)?;
-                refuse_if(members & !all_objects(count) != 0, LIMIT)?;
+                refuse_if(!side_fits(count), OFF_LIMITS)?;
+                refuse_if(members & !all_objects(count) != 0, OFF_LIMITS)?;
                 Ok((Set::Literal(members), count))
             }
             0x41 => {
                 let variable = usize::from(head[1]);
                 match self.declared(variable)? {
                     Variable::Set { count, .. } => Ok((Set::Variable(variable), count)),
-                    _ => Err(MISFIT),
+                    _ => Err(MISMATCH),
                 }
             }
             0x42 => {
@@ -444,7 +399,7 @@ impl Reader<'_> {
     fn element_and_set(&mut self, depth: u32) -> Result<(Element, Set, u8), u8> {
         let (element, element_count) = self.element(depth)?;
         let (set, set_count) = self.set(depth)?;
-        refuse_if(element_count > set_count, MISFIT)?;
+        refuse_if(element_count > set_count, MISMATCH)?;
         Ok((element, set, set_count))
     }
 
@@ -452,7 +407,7 @@ impl Reader<'_> {
     fn two_sets(&mut self, depth: u32) -> Result<(Set, Set, u8), u8> {
         let (first, first_count) = self.set(depth)?;
         let (second, second_count) = self.set(depth)?;
-        refuse_if(first_count != second_count, MISFIT)?;
+        refuse_if(first_count != second_count, MISMATCH)?;
         Ok((first, second, first_count))
     }
 

@@ -1,31 +1,12 @@
 //! The search: complete anytime beam search by the rules of document 01.
 
-use super::limit;
 use super::meaning::State;
-use super::read::read_model_with;
-use super::refusal::{LENT, SETTING, TOO_LONG};
+use super::read::read_model;
 use super::syntax::{Model, Transition};
-use super::verdict;
-use crate::slip::Slip;
-
-/// All fields of an answer. `number` is the refusal when `refused`, else the verdict.
-#[derive(Clone, Copy, PartialEq, Eq, Debug, Default)]
-pub struct Answer {
-    pub refused: bool,
-    pub number: u8,
-    pub plan_flag: bool,
-    pub cost: u64,
-    pub bound: u64,
-    pub length: u64,
-    pub expansions: u64,
-    pub rounds: u64,
-    pub width: u64,
-}
-
-/// The working words of 64 bits that a search with these settings needs.
-pub fn words_needed(width: u64, length: u64) -> u64 {
-    64 * width + width * (length + 1)
-}
+use crate::answer::Answer;
+use crate::numbers::refusal::{BAD_SETTING, MODEL_TOO_LONG, TOO_LITTLE_LENT};
+use crate::numbers::{limit, verdict, words_needed};
+use std::cmp::Ordering;
 
 /// The answer of a search, with the plan or path at the start of `buffer`. `words` is the number of words lent.
 pub fn search(
@@ -36,36 +17,9 @@ pub fn search(
     buffer: &mut [u8],
     words: u64,
 ) -> Answer {
-    search_with(Slip::Nothing, model, width, length, budget, buffer, words)
-}
-
-pub fn search_with(
-    slip: Slip,
-    model: &[u8],
-    width: u64,
-    length: u64,
-    budget: u64,
-    buffer: &mut [u8],
-    words: u64,
-) -> Answer {
-    let refuse = |refusal| Answer {
-        refused: true,
-        number: refusal,
-        ..Answer::default()
-    };
-    if model.len() > limit::MODEL_BYTES {
-        return refuse(TOO_LONG);
-    }
-    let width_fits = (1..=limit::WIDTH).contains(&width) && width.is_power_of_two();
-    if !width_fits || !(1..=limit::LENGTH).contains(&length) {
-        return refuse(SETTING);
-    }
-    if (buffer.len() as u64) < length || words < words_needed(width, length) {
-        return refuse(LENT);
-    }
-    let model = match read_model_with(slip, model) {
+    let model = match admitted(model, width, length, buffer.len() as u64, words) {
         Ok(model) => model,
-        Err(refusal) => return refuse(refusal),
+        Err(refusal) => return Answer::refused_by_input(refusal),
     };
     let mut run = Run {
         model: &model,
@@ -82,11 +36,32 @@ pub fn search_with(
     run.answer(end, buffer)
 }
 
+/// The model, or the refusal by the input.
+fn admitted(
+    model: &[u8],
+    width: u64,
+    length: u64,
+    plan_bytes: u64,
+    words: u64,
+) -> Result<Model, u8> {
+    if model.len() > limit::MODEL_BYTES {
+        return Err(MODEL_TOO_LONG);
+    }
+    let width_fits = (1..=limit::WIDTH).contains(&width) && width.is_power_of_two();
+    if !width_fits || !(1..=limit::LENGTH).contains(&length) {
+        return Err(BAD_SETTING);
+    }
+    if plan_bytes < length || words < words_needed(width, length) {
+        return Err(TOO_LITTLE_LENT);
+    }
+    read_model(model)
+}
+
 /// How a run ends: with a verdict, or with trouble in a state reached by a path.
 enum End {
     Verdict(u8),
     Trouble {
-        number: u8,
+        refusal: u8,
         path: Vec<u8>,
         cost: i64,
     },
@@ -103,16 +78,22 @@ struct Node {
 }
 
 impl Node {
-    fn trouble(&self, number: u8) -> End {
+    fn trouble(&self, refusal: u8) -> End {
         End::Trouble {
-            number,
+            refusal,
             path: self.path.clone(),
             cost: self.g,
         }
     }
+
+    /// Whether this node goes before one that arrived earlier: by f, then h; at equal f and h it goes behind.
+    fn comes_before(&self, earlier: &Node) -> bool {
+        (self.f, self.h) < (earlier.f, earlier.h)
+    }
 }
 
 /// The nodes of the next layer by f, h and arrival, and what the round has met.
+#[derive(Default)]
 struct Round {
     kept: Vec<Node>,
     width_mark: bool,
@@ -133,10 +114,6 @@ struct Run<'a> {
 }
 
 impl Run<'_> {
-    fn slip(&self, slip: Slip) -> bool {
-        self.model.slip == slip
-    }
-
     /// Whether a cost is below the best; without a plan every cost is.
     fn below_best(&self, cost: i64) -> bool {
         match &self.best {
@@ -145,20 +122,20 @@ impl Run<'_> {
         }
     }
 
+    /// Whether the state of one node dominates that of another, with g no greater.
+    fn dominates(&self, first: &Node, second: &Node) -> bool {
+        first.g <= second.g && self.model.dominates(&first.state, &second.state)
+    }
+
     fn all_rounds(&mut self) -> End {
         let target = match self.target() {
             Ok(target) => target,
             Err(end) => return end,
         };
-        let mut width_mark = false;
         loop {
-            if self.slip(Slip::LowNotLasting) {
-                self.low = target.h;
-            }
-            let lasting = width_mark && self.slip(Slip::WidthMarkLasting);
-            match self.round(&target, lasting) {
-                Err(end) => return end,
-                Ok(mark) => width_mark = mark,
+            let mut round = Round::default();
+            if let Err(end) = self.round(&target, &mut round) {
+                return end;
             }
             self.rounds += 1;
             self.width = self.widest.min(2 * self.width);
@@ -177,46 +154,29 @@ impl Run<'_> {
         node.h = self.model.h(&node.state).map_err(|n| node.trouble(n))?;
         node.f = self.model.join(0, node.h);
         self.low = node.h;
-        if self.slip(Slip::ConstraintsOnTarget) {
-            let met = self.model.meets_constraints(&node.state);
-            if !met.map_err(|n| node.trouble(n))? {
-                return Err(End::Verdict(verdict::NO_PLAN));
-            }
-        }
         Ok(node)
     }
 
     /// Rules 2 to 7 for one round. No end means that another round begins.
-    fn round(&mut self, target: &Node, width_mark: bool) -> Result<bool, End> {
+    fn round(&mut self, target: &Node, round: &mut Round) -> Result<(), End> {
         let mut layer = vec![target.clone()];
-        let mut round = Round {
-            kept: Vec::new(),
-            width_mark,
-            length_mark: false,
-            found_plan: false,
-        };
         for steps in 0..=self.length {
             for node in &layer {
-                self.take(node, steps, &mut round)?;
+                self.take(node, steps, round)?;
             }
             layer = std::mem::take(&mut round.kept);
-            layer.retain(|node| self.below_best(node.f) || self.slip(Slip::EqualToBestKept));
-            self.raise_low(&layer, &round);
-            let found = round.found_plan && !self.slip(Slip::RoundGoesOn);
-            if layer.is_empty() || found {
+            layer.retain(|node| self.below_best(node.f));
+            self.raise_low(&layer, round);
+            if layer.is_empty() || round.found_plan {
                 break;
             }
         }
-        self.after_round(layer.is_empty(), &round)?;
-        Ok(round.width_mark)
+        self.after_round(layer.is_empty(), round)
     }
 
     /// Rule 6: low rises to the least f that remains, unless the round has cut.
     fn raise_low(&mut self, layer: &[Node], round: &Round) {
-        if round.found_plan && self.slip(Slip::LowFromBestRound) {
-            return;
-        }
-        if round.width_mark && !self.slip(Slip::LowRaisedAfterCut) {
+        if round.width_mark {
             return;
         }
         if let Some(least) = layer.iter().map(|node| node.f).min() {
@@ -226,22 +186,17 @@ impl Run<'_> {
 
     /// Rule 7.
     fn after_round(&self, none_remaining: bool, round: &Round) -> Result<(), End> {
-        let at_widest = self.width == self.widest;
-        let width_mark = round.width_mark && !self.slip(Slip::FinishedUnderWidthMark);
-        let finished = none_remaining || self.slip(Slip::FinishedWithRemaining);
-        if !width_mark && !round.length_mark && finished {
+        let marked = round.width_mark || round.length_mark;
+        if none_remaining && !marked {
             return Err(End::Verdict(match self.best {
                 Some(_) => verdict::CHEAPEST,
                 None => verdict::NO_PLAN,
             }));
         }
-        if round.found_plan && !(self.slip(Slip::StopsAtWidest) && at_widest) {
+        if round.found_plan {
             return Ok(());
         }
-        if round.length_mark && self.slip(Slip::LengthBeforeWidth) {
-            return Err(End::Verdict(verdict::LENGTH_STOP));
-        }
-        match (round.width_mark, at_widest) {
+        match (round.width_mark, self.width == self.widest) {
             (true, false) => Ok(()),
             (true, true) => Err(End::Verdict(verdict::WIDTH_STOP)),
             (false, _) => Err(End::Verdict(verdict::LENGTH_STOP)),
@@ -250,23 +205,15 @@ impl Run<'_> {
 
     /// Rules 2 and 3 for one state of a layer.
     fn take(&mut self, node: &Node, steps: u64, round: &mut Round) -> Result<(), End> {
-        let spent = self.expansions == self.budget + u64::from(self.slip(Slip::BudgetOneMore));
-        if self.slip(Slip::BudgetBeforeBaseTest) && spent && steps < self.length {
-            return Err(End::Verdict(verdict::BUDGET_SPENT));
-        }
         let base = self.model.is_base(&node.state);
         if base.map_err(|n| node.trouble(n))? {
             return self.take_base(node, round);
         }
         if steps == self.length {
-            let below = self.below_best(node.f);
-            round.length_mark |= below && !self.slip(Slip::LengthMarkForgotten);
+            round.length_mark |= self.below_best(node.f);
             return Ok(());
         }
-        if self.slip(Slip::DroppedWhenTaken) && !self.below_best(node.f) {
-            return Ok(());
-        }
-        if spent {
+        if self.expansions == self.budget {
             return Err(End::Verdict(verdict::BUDGET_SPENT));
         }
         self.expansions += 1;
@@ -280,24 +227,16 @@ impl Run<'_> {
 
     /// Rule 2 for a base state.
     fn take_base(&mut self, node: &Node, round: &mut Round) -> Result<(), End> {
-        let equal = self.best.as_ref().is_some_and(|(best, _)| *best == node.g);
-        let better = self.below_best(node.g) || equal && self.slip(Slip::EqualBecomesBest);
-        if !better {
+        if !self.below_best(node.g) {
             return Ok(());
         }
         self.best = Some((node.g, node.path.clone()));
         round.found_plan = true;
-        if node.g == self.low {
-            return Err(End::Verdict(verdict::CHEAPEST));
+        match node.g.cmp(&self.low) {
+            Ordering::Equal => Err(End::Verdict(verdict::CHEAPEST)),
+            Ordering::Less => Err(End::Verdict(verdict::CONTRADICTED)),
+            Ordering::Greater => Ok(()),
         }
-        if node.g < self.low {
-            return Err(End::Verdict(if self.slip(Slip::ContradictedAsCheapest) {
-                verdict::CHEAPEST
-            } else {
-                verdict::CONTRADICTED
-            }));
-        }
-        Ok(())
     }
 
     /// Rule 4 for one transition: the child, if the step is allowed and its f is below the best.
@@ -323,90 +262,33 @@ impl Run<'_> {
             f: 0,
             path: [&parent.path[..], &[number]].concat(),
         };
-        let in_child = |n| {
-            if self.slip(Slip::PathOfParent) {
-                parent.trouble(n)
-            } else {
-                child.trouble(n)
-            }
-        };
-        if self.slip(Slip::HBeforeConstraints) {
-            model.h(&child.state).map_err(in_child)?;
-        }
+        let in_child = |n| child.trouble(n);
         if !model.meets_constraints(&child.state).map_err(in_child)? {
-            return Ok(None);
-        }
-        if self.slip(Slip::DroppedBeforeH) && !self.below_best(child.g) {
             return Ok(None);
         }
         child.h = model.h(&child.state).map_err(in_child)?;
         child.f = model.join(child.g, child.h);
-        let equal = self.best.as_ref().is_some_and(|(best, _)| *best == child.f);
-        if self.below_best(child.f) || equal && self.slip(Slip::EqualToBestKept) {
-            Ok(Some(child))
-        } else {
-            Ok(None)
-        }
+        Ok(self.below_best(child.f).then_some(child))
     }
 
     /// Rule 5.
     fn keep(&self, child: Node, round: &mut Round) {
-        let model = self.model;
         let kept = &mut round.kept;
-        let width = self.width as usize;
-        let place = kept
-            .iter()
-            .position(|node| self.comes_before(&child, node))
-            .unwrap_or(kept.len());
-        if self.slip(Slip::FullLayerRefusesFirst) && kept.len() == width && place == width {
-            round.width_mark = true;
+        if kept.iter().any(|node| self.dominates(node, &child)) {
             return;
         }
-        let no_greater = |first: &Node, second: &Node| {
-            if self.slip(Slip::DominanceByF) {
-                first.f <= second.f
-            } else {
-                first.g <= second.g
-            }
-        };
-        let dominated = kept.iter().any(|node| {
-            model.dominates(&node.state, &child.state)
-                && (no_greater(node, &child) || self.slip(Slip::DropsCheaper))
-        });
-        if dominated {
-            return;
-        }
-        if self.slip(Slip::CutBeforeRemoval) && kept.len() == width {
-            kept.pop();
-            round.width_mark = true;
-        }
-        kept.retain(|node| {
-            !(model.dominates(&child.state, &node.state)
-                && (no_greater(&child, node) || self.slip(Slip::RemovesCheaper)))
-        });
-        let place = kept
-            .iter()
-            .position(|node| self.comes_before(&child, node))
-            .unwrap_or(kept.len());
+        kept.retain(|node| !self.dominates(&child, node));
+        let behind = kept.iter().position(|node| child.comes_before(node));
+        let place = behind.unwrap_or(kept.len());
         kept.insert(place, child);
-        if kept.len() > width {
+        if kept.len() > self.width as usize {
             kept.pop();
-            round.width_mark |= !(self.slip(Slip::CutChildUnmarked) && place == width);
-        }
-    }
-
-    /// Whether a new node goes before a kept one: by f, then h; at equal f and h it goes behind.
-    fn comes_before(&self, new: &Node, kept: &Node) -> bool {
-        match self.model.slip {
-            Slip::TiesByLatestArrival => (new.f, new.h) <= (kept.f, kept.h),
-            Slip::TiesIgnoreH => new.f < kept.f,
-            _ => (new.f, new.h) < (kept.f, kept.h),
+            round.width_mark = true;
         }
     }
 
     /// The answer's fields, and the plan or path into the buffer.
     fn answer(self, end: End, buffer: &mut [u8]) -> Answer {
-        let slip = self.model.slip;
         let answer = Answer {
             bound: self.low as u64,
             expansions: self.expansions,
@@ -415,33 +297,34 @@ impl Run<'_> {
             ..Answer::default()
         };
         match end {
-            End::Trouble { number, path, cost } => {
-                if slip != Slip::PathNotWritten {
-                    buffer[..path.len()].copy_from_slice(&path);
-                }
+            End::Trouble {
+                refusal,
+                path,
+                cost,
+            } => {
+                buffer[..path.len()].copy_from_slice(&path);
                 Answer {
                     refused: true,
-                    number,
-                    plan_flag: slip == Slip::PlanFlagAtTrouble && self.best.is_some(),
+                    verdict: refusal,
                     cost: cost as u64,
                     length: path.len() as u64,
                     ..answer
                 }
             }
             End::Verdict(number) => {
-                let plan_flag = self.best.is_some();
-                let (cost, plan) = self.best.unwrap_or((0, Vec::new()));
+                let flag = self.best.is_some();
+                let (cost, plan) = self.best.unwrap_or_default();
                 buffer[..plan.len()].copy_from_slice(&plan);
                 let bound = match number {
-                    verdict::CHEAPEST if slip != Slip::BoundAtCheapest => cost as u64,
-                    verdict::NO_PLAN if slip != Slip::BoundAtNoPlan => 0,
-                    _ => answer.bound,
+                    verdict::CHEAPEST => cost,
+                    verdict::NO_PLAN => 0,
+                    _ => self.low,
                 };
                 Answer {
-                    number,
-                    plan_flag,
+                    verdict: number,
+                    flag,
                     cost: cost as u64,
-                    bound,
+                    bound: bound as u64,
                     length: plan.len() as u64,
                     ..answer
                 }

@@ -1,7 +1,5 @@
 //! The abstract syntax of a model, cases in the order of the format's bytes.
 
-use crate::slip::Slip;
-
 #[derive(Clone, Copy, PartialEq, Eq, Debug)]
 pub enum CostRule {
     Sum,
@@ -126,6 +124,4 @@ pub struct Model {
     pub base_cases: Vec<Vec<Condition>>,
     pub constraints: Vec<Condition>,
     pub bounds: Vec<Number>,
-    /// The planted slip under which the model is read and run.
-    pub slip: Slip,
 }

@@ -5,7 +5,7 @@ use super::place::{refuse_if, Error, Place};
 use super::scope::{number_in_range, Meaning, Scope};
 use super::syntax::{Command, Form, Integer, Name, Node, Start, Table, Transition};
 use crate::build::Bytes;
-use crate::reference::limit;
+use crate::numbers::limit;
 use crate::reference::syntax::{CostRule, Kind, Preference};
 
 /// The bytes of the commands, 0E behind them, and the names.

@@ -2,14 +2,15 @@
 
 use super::names::Names;
 use super::spelling::{braces, Spelling};
-use crate::reference::refusal::TOO_LONG;
-use crate::reference::{limit, read_model, Model};
+use crate::numbers::limit;
+use crate::numbers::refusal::MODEL_TOO_LONG;
+use crate::reference::{read_model, Model};
 use std::fmt::Write;
 
 /// The text of a model that the reader accepts, which assembles to the same bytes; or the refusal number.
 pub fn disassemble(bytes: &[u8]) -> Result<String, u8> {
     if bytes.len() > limit::MODEL_BYTES {
-        return Err(TOO_LONG);
+        return Err(MODEL_TOO_LONG);
     }
     let model = read_model(bytes)?;
     let names = Names::by_number(&model);

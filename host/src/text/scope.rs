@@ -3,7 +3,7 @@
 use super::names::{kind_name, Group, Names, VariableName};
 use super::place::{refuse_if, Error, Place};
 use super::syntax::{Integer, Members, Name, Object, Reference, Side};
-use crate::reference::limit;
+use crate::numbers::limit;
 use crate::reference::syntax::Kind;
 use std::collections::{HashMap, HashSet};
 

@@ -1,7 +1,7 @@
 //! A text as commands and expressions with their places, before names and kinds are known.
 
 use super::place::{refuse_if, Error, Place};
-use crate::reference::limit;
+use crate::numbers::limit;
 use crate::reference::syntax::{CostRule, Kind, Preference};
 
 /// A name where it is written.

@@ -2,7 +2,6 @@
 
 use super::{example, run, run_with, EXAMPLES};
 use repgypsum_host::cases::{groups, Call, Outcome};
-use repgypsum_host::slip::Slip;
 
 #[test]
 fn plans_of_the_examples() {
@@ -66,7 +65,7 @@ fn stored_plan_checks() {
             let Call::Check { model, plan } = &case.call else {
                 continue;
             };
-            let Outcome::Check(answer, cost) = case.call.run(Slip::Nothing) else {
+            let Outcome::Check(answer, cost) = case.call.run() else {
                 unreachable!("a plan check has a plan check's outcome");
             };
             let digits: String = plan.iter().map(|step| format!("{step:02x}")).collect();

@@ -4,7 +4,6 @@ use super::{designs_with, example, file, run, run_with, EXAMPLES};
 use repgypsum_host::cases::{groups, Call};
 use repgypsum_host::line::answer_line;
 use repgypsum_host::models::three_designs;
-use repgypsum_host::slip::Slip;
 
 const P1: &str = "0 1 7 7 3 14 3 4 : 0 1 2\n";
 
@@ -132,7 +131,7 @@ fn stored_searches() {
             let Call::Search(search) = case.call else {
                 continue;
             };
-            let (answer, after) = search.run(Slip::Nothing);
+            let (answer, after) = search.run();
             let words = search.words.min(400_000).to_string();
             let numbers = [search.width, search.length, search.budget].map(|n| n.to_string());
             let arguments = [

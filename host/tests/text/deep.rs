@@ -3,7 +3,7 @@
 use super::round_trip;
 use repgypsum_host::build::*;
 use repgypsum_host::generate::Random;
-use repgypsum_host::reference::limit;
+use repgypsum_host::numbers::limit;
 
 /// Random expressions of every form, up to the deepest nesting and the largest counts.
 struct Deep<'a> {

@@ -6,7 +6,7 @@ use repgypsum_host::cases::groups;
 use repgypsum_host::generate::{damaged, model, Random};
 use repgypsum_host::line::line;
 use repgypsum_host::models::{sop, three_designs, tsptw, Designs};
-use repgypsum_host::reference::limit;
+use repgypsum_host::numbers::limit;
 use repgypsum_host::text::assemble;
 use std::path::Path;
 

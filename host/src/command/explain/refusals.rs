@@ -4,18 +4,19 @@ use super::Part;
 use crate::command::input::Source;
 use crate::command::settings::{due, length_fits, width_fits, Settings};
 use crate::command::words::{counted, grouped};
-use crate::reference::{limit, read_model, refusal};
+use crate::numbers::{limit, refusal};
+use crate::reference::read_model;
 
 /// What a refusal by the input means for this call.
 pub fn by_input(source: &Source, settings: &Settings, number: u8) -> Part {
     let mut part = Part::new("What it means");
     match number {
-        refusal::TOO_LONG => part.say(format!(
+        refusal::MODEL_TOO_LONG => part.say(format!(
             "The model has more than {}.",
             counted(limit::MODEL_BYTES as u64, "byte")
         )),
-        refusal::SETTING => out_of_range(settings, &mut part),
-        refusal::LENT => too_little_lent(settings, &mut part),
+        refusal::BAD_SETTING => out_of_range(settings, &mut part),
+        refusal::TOO_LITTLE_LENT => too_little_lent(settings, &mut part),
         _ => {
             part.say(meaning(number));
             unreadable(&source.model, number, &mut part);
@@ -28,18 +29,18 @@ pub fn by_input(source: &Source, settings: &Settings, number: u8) -> Part {
 /// What is wrong with the bytes of a model.
 fn meaning(number: u8) -> &'static str {
     match number {
-        refusal::CUT => "The bytes end where more are due: the model is cut off, or lacks its end command 0E.",
+        refusal::ENDS_EARLY => "The bytes end where more are due: the model is cut off, or lacks its end command 0E.",
         refusal::NOT_DUE => {
             "A byte begins no command that is due in its place, or no expression at all where one is due."
         }
-        refusal::MISFIT => {
+        refusal::MISMATCH => {
             "An expression or a variable has the wrong kind, a name is not declared, or object counts do not fit."
         }
-        refusal::LIMIT => {
+        refusal::OFF_LIMITS => {
             "An operand or a start value is outside its limits, there is one command too many, or a variable has a second effect."
         }
         refusal::TOO_DEEP => "An expression is nested deeper than 32.",
-        refusal::AFTER_END => "Bytes follow the end command 0E.",
+        refusal::BYTES_AFTER_END => "Bytes follow the end command 0E.",
         _ => "Document 01 has no such refusal of the input.",
     }
 }
@@ -77,7 +78,7 @@ fn too_little_lent(settings: &Settings, part: &mut Part) {
 
 /// Where the reader stops: the last byte of the shortest front part that is refused with this number.
 fn unreadable(model: &[u8], number: u8, part: &mut Part) {
-    if number == refusal::CUT {
+    if number == refusal::ENDS_EARLY {
         part.say(format!("It has {}.", counted(model.len() as u64, "byte")));
         return;
     }
@@ -85,7 +86,7 @@ fn unreadable(model: &[u8], number: u8, part: &mut Part) {
     while refused - ends_early > 1 {
         let middle = (ends_early + refused) / 2;
         match read_model(&model[..middle]) {
-            Err(refusal::CUT) | Ok(_) => ends_early = middle,
+            Err(refusal::ENDS_EARLY) | Ok(_) => ends_early = middle,
             Err(_) => refused = middle,
         }
     }

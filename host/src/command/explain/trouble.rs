@@ -4,7 +4,7 @@ use super::walk::{follow, last_state};
 use super::{Known, Part};
 use crate::command::settings::Run;
 use crate::command::words::{counted, grouped, refusal_name};
-use crate::reference::refusal::NEGATIVE_COST;
+use crate::numbers::refusal::NEGATIVE_COST;
 use crate::reference::syntax::{Condition, Expression, Transition};
 use crate::reference::{Model, State};
 
@@ -144,7 +144,7 @@ pub fn part(known: &Known, run: &Run) -> Part {
     let mut part = Part::new("What was met");
     part.say(format!(
         "The search met a {} and ended there. It gives no plan, and says nothing about plans.",
-        refusal_name(answer.number)
+        refusal_name(answer.verdict)
     ));
     part.say(format!(
         "The path to the state evaluated has {} and costs {}. The bound then stood at {}.",
@@ -159,7 +159,7 @@ pub fn part(known: &Known, run: &Run) -> Part {
     let state = last_state(model, &stages);
     part.say(format!("The state: {}.", known.state(&state)));
     match first_trouble(model, &state, run.steps.is_empty()) {
-        Some((place, number)) if number == answer.number => {
+        Some((place, number)) if number == answer.verdict => {
             part.say(format!("Met in {}.", known.place(place)));
             if let (Place::Cost(step), NEGATIVE_COST) = (place, number) {
                 let cost = model.number(&model.transitions[step].cost, &state);

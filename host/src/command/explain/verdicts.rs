@@ -5,8 +5,8 @@ use super::{Known, Part};
 use crate::command::input::Source;
 use crate::command::settings::{Run, Settings};
 use crate::command::words::{counted, grouped};
+use crate::numbers::{limit, verdict};
 use crate::proved;
-use crate::reference::{limit, verdict};
 
 /// The theorems of docs/AUDIT.md.
 const A_PLAN: &str = "a-plan-given-is-a-plan";
@@ -25,14 +25,14 @@ fn capital(sentence: &str) -> String {
 pub fn proved(known: &Known, run: &Run) -> Part {
     let mut part = Part::new("What is proved");
     let answer = &run.answer;
-    if answer.plan_flag {
+    if answer.flag {
         let cost = grouped(answer.cost);
         part.say(format!(
             "The plan is a plan of the model, at cost {cost}, whatever the model declares [{A_PLAN}]."
         ));
     }
     let bound = grouped(answer.bound);
-    let conditional = match answer.number {
+    let conditional = match answer.verdict {
         verdict::CHEAPEST => {
             format!("no plan of the model costs less, of whatever length [{CHEAPEST}]")
         }
@@ -61,7 +61,7 @@ pub fn proved(known: &Known, run: &Run) -> Part {
 
 /// The part that belongs to the verdict alone.
 pub fn more(known: &Known, settings: &Settings, run: &Run) -> Option<Part> {
-    match run.answer.number {
+    match run.answer.verdict {
         verdict::WIDTH_STOP | verdict::LENGTH_STOP | verdict::BUDGET_SPENT => {
             Some(stopped(known, settings, run))
         }
@@ -80,7 +80,7 @@ fn stopped(known: &Known, settings: &Settings, run: &Run) -> Part {
         ""
     };
     let bound = grouped(answer.bound);
-    if answer.plan_flag {
+    if answer.flag {
         let gap = grouped(answer.cost.saturating_sub(answer.bound));
         part.say(format!(
             "Cost {} and bound {bound} leave a gap of {gap}: the cheapest plan costs at most {gap} less{supposing}.",
@@ -91,7 +91,7 @@ fn stopped(known: &Known, settings: &Settings, run: &Run) -> Part {
             "No plan was found. There may be one, at cost {bound} or more{supposing}."
         ));
     }
-    match answer.number {
+    match answer.verdict {
         verdict::WIDTH_STOP => width_stop(settings, &mut part),
         verdict::LENGTH_STOP => length_stop(settings, &mut part),
         _ => budget_spent(settings, &mut part),

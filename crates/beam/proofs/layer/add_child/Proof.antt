@@ -4,57 +4,15 @@ use mathlib.Core.Path.{sym, ap, subst}
 use native.Mathlib.Omega.{arith}
 use borrow.Author.Needs.{needs}
 use lib.ListN.{length}
-use Rattle.links.specs.Links.{Falling}
+use Rattle.beam_index.specs.Links.{Falling}
 use Rattle.beam.proofs.Layers.{rising}
 use Rattle.beam.proofs.Whole.{put, holds, order-lent, slots-lent}
 use Rattle.beam.proofs.Moves.{slots-length, layer-of, slot-at, placed-in}
 use Rattle.beam.proofs.layer.add_child.Statement.{statement}
 use Rattle.beam.proofs.layer.add_child.Tie as tie
 
-mul-a : tie.Need-mul-a
-mul-a c = search needs
-
-mul-b : tie.Need-mul-b
-mul-b c = search needs
-
-mul-e : tie.Need-mul-e
-mul-e c = search needs
-
-shared-slice-read-f : tie.Need-shared-slice-read-f
-shared-slice-read-f c = search needs
-
-shared-slice-read-h : tie.Need-shared-slice-read-h
-shared-slice-read-h c = search needs
-
-place-in-requires : tie.Need-place-in-requires
-place-in-requires c κs = layer-of (c .before .before .before .before .before .before .pre .0)
-
-add-x : tie.Need-add-x
-add-x c = search needs
-
-mul-x : tie.Need-mul-x
-mul-x c = search needs
-
-slice-read-x : tie.Need-slice-read-x
-slice-read-x c = search needs
-
-mul-insert-at : tie.Need-mul-insert-at
-mul-insert-at c = search needs
-
-sub-insert-at : tie.Need-sub-insert-at
-sub-insert-at c = search needs
-
-part-insert-at-start : tie.Need-part-insert-at-start
-part-insert-at-start c = search needs
-
-part-insert-at-end : tie.Need-part-insert-at-end
-part-insert-at-end c = search needs
-
-insert-at-requires : tie.Need-insert-at-requires
-insert-at-requires c κs = search needs
-
-slice-relend-prefix-write-slot : tie.Need-slice-relend-prefix-write-slot
-slice-relend-prefix-write-slot c = search needs
+position-in-requires : tie.Need-position-in-requires
+position-in-requires c κs = layer-of (c .before .before .before .before .before .before .pre .0)
 
 slice-aggregate-write-slot : tie.Need-slice-aggregate-write-slot
 slice-aggregate-write-slot c =
@@ -75,18 +33,6 @@ write-slot-requires c κs =
       start .pre .1 .1 .1 .0,
     )
 
-mul-add : tie.Need-mul-add
-mul-add c = search needs
-
-sub-add : tie.Need-sub-add
-sub-add c = search needs
-
-part-add-start : tie.Need-part-add-start
-part-add-start c = search needs
-
-part-add-end : tie.Need-part-add-end
-part-add-end c = search needs
-
 add-requires : tie.Need-add-requires
 add-requires c κs =
     let start = c .before .before .before .before .before .before .before .before .before .before .before .before .before .before .before .before .before in
@@ -100,9 +46,6 @@ add-requires c κs =
       ),
     )
 
-same-length : tie.Need-same-length
-same-length c = search needs
-
 returns : tie.Need-returns
 returns c =
     let start = c .before .before .before .before .before .before .before .before .before .before .before .before .before .before .before .before .before .before .before .before in
@@ -110,34 +53,34 @@ returns c =
     let s = c .before .before .before .before .before .before .write-slot in
     let add = c .before .before .add in
     placed-in (start .pre .0) (start .pre .1 .0) (start .pre .1 .1 .1 .0) (start .pre .1 .1 .1 .1)
-    (c .before .before .before .before .before .before .before .before .before .before .before .before .before .place-in .ensures .1 (rising (start .pre .0 .parts) _ _))
+    (c .before .before .before .before .before .before .before .before .before .before .before .before .before .position-in .ensures .1 (rising (start .pre .0 .parts) _ _))
     (o .kept .0) (o .ensures) (s .kept .0) (s .ensures) (add .kept .0) (add .ensures)
 
 pub add-child-spec : {M : Type 1} → statement M
 add-child-spec =
     tie.close
     (tie.spec
-    mul-a
-    mul-b
-    mul-e
-    shared-slice-read-f
-    shared-slice-read-h
-    place-in-requires
-    add-x
-    mul-x
-    slice-read-x
-    mul-insert-at
-    sub-insert-at
-    part-insert-at-start
-    part-insert-at-end
-    insert-at-requires
-    slice-relend-prefix-write-slot
+    (λ c. search needs)
+    (λ c. search needs)
+    (λ c. search needs)
+    (λ c. search needs)
+    (λ c. search needs)
+    position-in-requires
+    (λ c. search needs)
+    (λ c. search needs)
+    (λ c. search needs)
+    (λ c. search needs)
+    (λ c. search needs)
+    (λ c. search needs)
+    (λ c. search needs)
+    (λ c κs. search needs)
+    (λ c. search needs)
     slice-aggregate-write-slot
     write-slot-requires
-    mul-add
-    sub-add
-    part-add-start
-    part-add-end
+    (λ c. search needs)
+    (λ c. search needs)
+    (λ c. search needs)
+    (λ c. search needs)
     add-requires
-    same-length
+    (λ c. search needs)
     returns)

@@ -10,10 +10,10 @@ use lib.ListN.{getD}
 use Rattle.laws.specs.Lists.{any}
 use Rattle.model.specs.Numbers.{mostVariables}
 use Rattle.outline.specs.Outline.{modelOf, variableCountAt}
-use Rattle.steps.specs.Held.{Outlined}
-use Rattle.order.specs.Order.{keptIn}
+use Rattle.steps.specs.InBytes.{Outlined}
+use Rattle.beam_order.specs.Order.{keptIn}
 use Rattle.beam.specs.Nodes.{beats}
-use Rattle.beam.specs.Held.{slotsOf, orderOf}
+use Rattle.beam.specs.Layers.{slotsOf, orderOf}
 use Rattle.beam.proofs.Removals.{beating-none, beating-one}
 use Rattle.beam.proofs.Moves.{layer-of, width-positive, beaten-held, full-held, dropped-in, roomed-in, last-cut-in, child-cut-in}
 use Rattle.beam.proofs.layer.insert.Statement.{statement}
@@ -35,19 +35,10 @@ slice-aggregate-bucket c =
     let start = c .before .before .before .before .before in
     sym (length-take-le 16 (start .args .child .now) (omega (arith, start .pre .1 .1)))
 
-mul-bucket : tie.Need-mul-bucket
-mul-bucket c = search needs
-
 bucket-requires : tie.Need-bucket-requires
 bucket-requires c κs =
     let start = c .before .before .before .before .before in
     (few-variables (start .pre .1 .0), (start .pre .0 .parts .some-bucket, start .pre .0 .parts .few-buckets))
-
-find-in-requires : tie.Need-find-in-requires
-find-in-requires c κs = search needs
-
-same-length : tie.Need-same-length
-same-length c = search needs
 
 returns : tie.Need-returns
 returns c =
@@ -75,12 +66,6 @@ add-child-requires c κs =
       (c .before .if2 .taken, (k .ensures .0, (start .pre .1 .1, sym (k .ensures .1)))),
     )
 
-add-t22 : tie.Need-add-t22
-add-t22 c = search needs
-
-same-length-2 : tie.Need-same-length-2
-same-length-2 c = search needs
-
 returns-2 : tie.Need-returns-2
 returns-2 c =
     let start = c .before .before .before .before .before .before .before .before .before .before .before .before .before .before .before .before .before .before in
@@ -89,12 +74,6 @@ returns-2 c =
     roomed-in (start .args .model .now) (rest .last .0) (start .args .child .now) (start .pre .0) (rest .kept .0) (rest .ensures .0)
     (rest .ensures .1) (free (c .before .before .before .before .before .before .before .before .before)) (add-child .last .0)
     (c .before .before .before .before .if2 .taken) (add-child .kept .0) (add-child .ensures)
-
-shared-slice-read-f : tie.Need-shared-slice-read-f
-shared-slice-read-f c = search needs
-
-shared-slice-read-h : tie.Need-shared-slice-read-h
-shared-slice-read-h c = search needs
 
 before-last-requires : tie.Need-before-last-requires
 before-last-requires c κs =
@@ -117,9 +96,6 @@ replace-last-requires c κs =
       (few-variables (start .pre .1 .0), (k .ensures .0, (start .pre .1 .1, sym (k .ensures .1)))),
     )
 
-same-length-3 : tie.Need-same-length-3
-same-length-3 c = search needs
-
 returns-3 : tie.Need-returns-3
 returns-3 c =
     let start = c .before .before .before .before .before .before .before .before .before .before .before .before .before .before .before .before .before .before .before .before .before .before .before in
@@ -130,9 +106,6 @@ returns-3 c =
     (replace-last .last .0) (c .before .before .before .before .before .before .before .before .before .if2 .left)
     (sym (c .before .before .before .before .before .before-last .ensures) ∙ c .before .before .before .before .if3 .taken) (replace-last .kept .0)
     (replace-last .ensures)
-
-same-length-4 : tie.Need-same-length-4
-same-length-4 c = search needs
 
 returns-4 : tie.Need-returns-4
 returns-4 c =
@@ -147,21 +120,21 @@ insert-spec =
     tie.close
     (tie.spec
     slice-aggregate-bucket
-    mul-bucket
+    (λ c. search needs)
     bucket-requires
-    find-in-requires
-    same-length
+    (λ c κs. search needs)
+    (λ c. search needs)
     returns
     remove-beaten-requires
     add-child-requires
-    add-t22
-    same-length-2
+    (λ c. search needs)
+    (λ c. search needs)
     returns-2
-    shared-slice-read-f
-    shared-slice-read-h
+    (λ c. search needs)
+    (λ c. search needs)
     before-last-requires
     replace-last-requires
-    same-length-3
+    (λ c. search needs)
     returns-3
-    same-length-4
+    (λ c. search needs)
     returns-4)

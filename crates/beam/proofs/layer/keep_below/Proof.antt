@@ -5,7 +5,7 @@ use native.Mathlib.Decide.{decLt}
 use native.Mathlib.Omega.{arith}
 use borrow.Author.Needs.{needs}
 use lib.ListN.{getD}
-use Rattle.order.specs.Slots.{slotWords, fAt}
+use Rattle.beam_order.specs.Slots.{slotWords, fAt}
 use Rattle.beam.proofs.Moves.{few-in, place-below, below-at, below-none}
 use Rattle.beam.proofs.layer.keep_below.Statement.{statement}
 use Rattle.beam.proofs.layer.keep_below.Tie as tie

@@ -7,11 +7,11 @@ use native.Mathlib.Omega.{arith}
 use lib.ListN.{length}
 use Rattle.laws.specs.Lists.{filter}
 use Rattle.outline.specs.Outline.{modelOf}
-use Rattle.order.specs.Order.{keptIn}
-use Rattle.links.specs.Links.{Found}
+use Rattle.beam_order.specs.Order.{keptIn}
+use Rattle.beam_index.specs.Links.{Found}
 use Rattle.beam.specs.Nodes.{beats}
 use Rattle.beam.specs.Parts.{sought}
-use Rattle.beam.specs.Held.{slotsOf, orderOf, linksOf, Held}
+use Rattle.beam.specs.Layers.{slotsOf, orderOf, linksOf, Indexed}
 use Rattle.beam.proofs.Removals.{beaten-one, some-used}
 use Rattle.beam.proofs.Moves.{rest-held, slot-gone, beaten-gone}
 use Rattle.beam.proofs.layer.remove_beaten.Statement.{statement}
@@ -22,7 +22,7 @@ record Removing (bytes outline : List ℕ) (w n k : ℕ) (words₀ child words :
   fewer : left ≤ n
   long-same : length words ≡ length words₀
   slots-same : slotsOf w words ≡ slotsOf w words₀
-  held : Held outline w left words
+  held : Indexed outline w left words
   found : Found (linksOf w words) w k (sought (modelOf bytes .variables) (slotsOf w words) child true) link
   same : filter (λ m. not (beats (modelOf bytes .variables) child m)) (keptIn (slotsOf w words) (orderOf w words) left) ≡ filter (λ m. not (beats (modelOf bytes .variables) child m)) (keptIn (slotsOf w words₀) (orderOf w words₀) n)
 

@@ -4,37 +4,16 @@ use mathlib.Core.Path.{sym, ap, _∙_}
 use native.Mathlib.Omega.{arith}
 use borrow.Author.Needs.{needs}
 use Rattle.beam.specs.Parts.{bucketIn}
-use Rattle.beam.specs.Held.{slotsOf}
+use Rattle.beam.specs.Layers.{slotsOf}
 use Rattle.beam.proofs.Layers.{slot-room}
 use Rattle.beam.proofs.Moves.{slots-length, order-at, rest-held, width-positive, slot-at, last-replaced-in}
 use Rattle.beam.proofs.layer.replace_last.Statement.{statement}
 use Rattle.beam.proofs.layer.replace_last.Tie as tie
 
-mul-a : tie.Need-mul-a
-mul-a c = search needs
-
-sub-p : tie.Need-sub-p
-sub-p c = search needs
-
-add-s : tie.Need-add-s
-add-s c = search needs
-
-mul-s : tie.Need-mul-s
-mul-s c = search needs
-
-slice-read-s : tie.Need-slice-read-s
-slice-read-s c = search needs
-
-slice-reshare-prefix-slot-bucket : tie.Need-slice-reshare-prefix-slot-bucket
-slice-reshare-prefix-slot-bucket c = search needs
-
 slice-aggregate-slot-bucket : tie.Need-slice-aggregate-slot-bucket
 slice-aggregate-slot-bucket c =
     let start = c .before .before .before .before .before in
     sym (slots-length (start .args .w) (start .args .layer .now) (start .pre .0 .long))
-
-mul-slot-bucket : tie.Need-mul-slot-bucket
-mul-slot-bucket c = search needs
 
 slot-bucket-requires : tie.Need-slot-bucket-requires
 slot-bucket-requires c κs =
@@ -46,8 +25,8 @@ slot-bucket-requires c κs =
       ),
     )
 
-remove-place-requires : tie.Need-remove-place-requires
-remove-place-requires c κs =
+remove-position-requires : tie.Need-remove-position-requires
+remove-position-requires c κs =
     let start = c .before .before .before .before .before .before .before in
     let k = c .before .slot-bucket in (
       start .pre .0,
@@ -65,35 +44,32 @@ remove-place-requires c κs =
 add-child-requires : tie.Need-add-child-requires
 add-child-requires c κs =
     let start = c .before .before .before .before .before .before .before .before .before .before .before in
-    let out = c .before .before .before .remove-place in (
+    let out = c .before .before .before .remove-position in (
       rest-held (start .args .layer .now) (out .last .0) (start .pre .0 .long) (out .kept .0) (out .ensures .0) (out .ensures .1 .held),
       (omega (arith, width-positive (start .pre .0)), (start .pre .1 .1 .0, (start .pre .1 .1 .1 .0, start .pre .1 .1 .1 .1))),
     )
 
-same-length : tie.Need-same-length
-same-length c = search needs
-
 returns : tie.Need-returns
 returns c =
-    let remove-place = c .before .before .before .before .before .before .remove-place in
-    last-replaced-in (remove-place .last .0)
+    let remove-position = c .before .before .before .before .before .before .remove-position in
+    last-replaced-in (remove-position .last .0)
     (c .before .before .before .before .before .before .before .before .before .before .before .before .before .before .pre .0)
-    (remove-place .ensures .0) (remove-place .ensures .1) (c .before .before .add-child .ensures)
+    (remove-position .ensures .0) (remove-position .ensures .1) (c .before .before .add-child .ensures)
 
 pub replace-last-spec : {M : Type 1} → statement M
 replace-last-spec =
     tie.close
     (tie.spec
-    mul-a
-    sub-p
-    add-s
-    mul-s
-    slice-read-s
-    slice-reshare-prefix-slot-bucket
+    (λ c. search needs)
+    (λ c. search needs)
+    (λ c. search needs)
+    (λ c. search needs)
+    (λ c. search needs)
+    (λ c. search needs)
     slice-aggregate-slot-bucket
-    mul-slot-bucket
+    (λ c. search needs)
     slot-bucket-requires
-    remove-place-requires
+    remove-position-requires
     add-child-requires
-    same-length
+    (λ c. search needs)
     returns)

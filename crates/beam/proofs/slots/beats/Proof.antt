@@ -8,12 +8,6 @@ use Rattle.beam.proofs.Mapped.{beats-by, beats-not}
 use Rattle.beam.proofs.slots.beats.Statement.{statement}
 use Rattle.beam.proofs.slots.beats.Tie as tie
 
-shared-slice-read-if1 : tie.Need-shared-slice-read-if1
-shared-slice-read-if1 c = search needs
-
-shared-slice-read-if1-2 : tie.Need-shared-slice-read-if1-2
-shared-slice-read-if1-2 c = search needs
-
 slice-aggregate-dominates : tie.Need-slice-aggregate-dominates
 slice-aggregate-dominates c =
     let start = c .before .before .before .before .before .before .before .before in
@@ -23,9 +17,6 @@ slice-aggregate-dominates-2 : tie.Need-slice-aggregate-dominates-2
 slice-aggregate-dominates-2 c =
     let start = c .before .before .before .before .before .before .before .before .before in
     sym (length-take-le 16 (start .args .b .now) (omega (arith, start .pre .1 .1)))
-
-dominates-requires : tie.Need-dominates-requires
-dominates-requires c κs = search needs
 
 returns : tie.Need-returns
 returns c =
@@ -41,10 +32,10 @@ pub beats-spec : {M : Type 1} → statement M
 beats-spec =
     tie.close
     (tie.spec
-    shared-slice-read-if1
-    shared-slice-read-if1-2
+    (λ c. search needs)
+    (λ c. search needs)
     slice-aggregate-dominates
     slice-aggregate-dominates-2
-    dominates-requires
+    (λ c κs. search needs)
     returns
     returns-2)

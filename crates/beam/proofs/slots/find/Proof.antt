@@ -5,8 +5,8 @@ use mathlib.Core.Bool.{Bool}
 use native.Mathlib.Omega.{arith}
 use borrow.Author.Needs.{needs}
 use Rattle.outline.specs.Outline.{modelOf}
-use Rattle.links.specs.Links.{Index, Walked, levelAt}
-use Rattle.links.proofs.Linked.{level-slot, level-head, walk-start, walk-next}
+use Rattle.beam_index.specs.Links.{Index, Walked, levelAt}
+use Rattle.beam_index.proofs.Linked.{level-slot, level-head, walk-start, walk-next}
 use Rattle.beam.specs.Parts.{sought}
 use Rattle.beam.proofs.slots.find.Statement.{statement}
 use Rattle.beam.proofs.slots.find.Tie as tie

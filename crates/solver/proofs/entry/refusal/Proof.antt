@@ -1,7 +1,7 @@
 -- `solver::entry::refusal` has the number, and 0 in every other field.
 use mathlib.Core.Path.{refl}
 use Rattle.search.specs.Run.{refusedByInput}
-use Rattle.reports.specs.Answers.{outcomeOf}
+use Rattle.search_report.specs.Answers.{outcomeOf}
 use Rattle.solver.proofs.entry.refusal.Statement.{statement}
 use Rattle.solver.proofs.entry.refusal.Tie as tie
 

@@ -1,7 +1,7 @@
 -- `solver::entry::refusal_at_start` is the refusal before any expansion.
 use mathlib.Core.Path.{refl}
 use Rattle.search.specs.Search.{answerOf, tallyOf}
-use Rattle.reports.specs.Answers.{outcomeOf}
+use Rattle.search_report.specs.Answers.{outcomeOf}
 use Rattle.solver.proofs.entry.refusal_at_start.Statement.{statement}
 use Rattle.solver.proofs.entry.refusal_at_start.Tie as tie
 

@@ -6,30 +6,6 @@ use borrow.Author.Needs.{needs}
 use Rattle.solver.proofs.entry.search_model.Statement.{statement}
 use Rattle.solver.proofs.entry.search_model.Tie as tie
 
-slice-aggregate-start : tie.Need-slice-aggregate-start
-slice-aggregate-start c = search needs
-
-start-requires : tie.Need-start-requires
-start-requires c κs = search needs
-
-slice-aggregate-bound : tie.Need-slice-aggregate-bound
-slice-aggregate-bound c = search needs
-
-bound-requires : tie.Need-bound-requires
-bound-requires c κs = search needs
-
-enum-known-h : tie.Need-enum-known-h
-enum-known-h c = search needs
-
-slice-aggregate-rounds : tie.Need-slice-aggregate-rounds
-slice-aggregate-rounds c = search needs
-
-rounds-requires : tie.Need-rounds-requires
-rounds-requires c κs = search needs
-
-slice-aggregate-report : tie.Need-slice-aggregate-report
-slice-aggregate-report c = search needs
-
 report-requires : tie.Need-report-requires
 report-requires c κs =
     let pre = c .before .before .before .before .before .before .before .before .before .before .before .before .before .before .before .before .before .before .before .before .before .pre in
@@ -43,18 +19,6 @@ report-requires c κs =
       narrow = omega arith;
       inside = runs .inside;
     }
-
-enum-known-t : tie.Need-enum-known-t
-enum-known-t c = search needs
-
-refusal-at-start-requires : tie.Need-refusal-at-start-requires
-refusal-at-start-requires c κs = search needs
-
-same-length : tie.Need-same-length
-same-length c = search needs
-
-same-length-2 : tie.Need-same-length-2
-same-length-2 c = search needs
 
 returns : tie.Need-returns
 returns c =
@@ -80,18 +44,18 @@ pub search-model-spec : {M : Type 1} → statement M
 search-model-spec =
     tie.close
     (tie.spec
-    slice-aggregate-start
-    start-requires
-    slice-aggregate-bound
-    bound-requires
-    enum-known-h
-    slice-aggregate-rounds
-    rounds-requires
-    slice-aggregate-report
+    (λ c. search needs)
+    (λ c κs. search needs)
+    (λ c. search needs)
+    (λ c κs. search needs)
+    (λ c. search needs)
+    (λ c. search needs)
+    (λ c κs. search needs)
+    (λ c. search needs)
     report-requires
-    enum-known-t
-    refusal-at-start-requires
-    same-length
-    same-length-2
+    (λ c. search needs)
+    (λ c κs. search needs)
+    (λ c. search needs)
+    (λ c. search needs)
     returns
     returns-2)

@@ -12,29 +12,14 @@ use borrow.Author.Needs.{needs}
 use Rattle.solver.proofs.entry.search_up_to.Statement.{statement}
 use Rattle.solver.proofs.entry.search_up_to.Tie as tie
 
-refusal-requires : tie.Need-refusal-requires
-refusal-requires c κs = search needs
-
 returns : tie.Need-returns
 returns c = let a = c .before .before .before .before .before .args in refused-says _ 1 _ _ _ (run-long (a .most) (a .model .now) (a .plan .now) (a .words .now) (a .width) (a .length) (a .budget) (c .before .if1 .taken)) (c .refusal .ensures)
-
-settings-fit-requires : tie.Need-settings-fit-requires
-settings-fit-requires c κs = search needs
 
 lent-fits-requires : tie.Need-lent-fits-requires
 lent-fits-requires c κs =
     let a = c .before .before .before .before .before .before .args in
     let fit : settingsFit (settings (a .width) (a .length) 0) ≡ true = sym (c .before .settings-fit .ensures) ∙ c .if2 .taken in
     (narrow (a .width) (width-fits (a .width) (a .length) 0 fit) .1, some-steps (a .width) (a .length) 0 fit)
-
-slice-aggregate-read-model : tie.Need-slice-aggregate-read-model
-slice-aggregate-read-model c = search needs
-
-read-model-requires : tie.Need-read-model-requires
-read-model-requires c κs = search needs
-
-slice-aggregate-search-model : tie.Need-slice-aggregate-search-model
-slice-aggregate-search-model c = search needs
 
 search-model-requires : tie.Need-search-model-requires
 search-model-requires c κs =
@@ -48,12 +33,6 @@ search-model-requires c κs =
       (record { some-width = narrow (a .width) two .0; narrow = narrow (a .width) two .1; few-steps = some-steps (a .width) (a .length) 0 fit; plan-room = both .0; words-room = both .1 }, (two, search needs)),
     )
 
-same-length : tie.Need-same-length
-same-length c = search needs
-
-same-length-2 : tie.Need-same-length-2
-same-length-2 c = search needs
-
 returns-2 : tie.Need-returns-2
 returns-2 c =
     let a = c .before .before .before .before .before .before .before .before .before .before .before .before .before .before .before .before .before .before .before .before .args in
@@ -63,9 +42,6 @@ returns-2 c =
     run-says (a .most) (a .model .now) (a .plan .now) (a .words .now) (a .width) (a .length) (a .budget)
     (c .before .before .before .before .before .before .before .before .before .before .before .before .before .before .before .before .if1 .left) fit
     enough none _ _ _ (c .before .before .before .before .search-model .ensures)
-
-refusal-requires-2 : tie.Need-refusal-requires-2
-refusal-requires-2 c κs = search needs
 
 returns-3 : tie.Need-returns-3
 returns-3 c =
@@ -78,9 +54,6 @@ returns-3 c =
     (c .before .before .before .read-model .ensures .0) (omega (arith, c .before .if4 .left))
     ) (c .refusal2 .ensures)
 
-refusal-requires-3 : tie.Need-refusal-requires-3
-refusal-requires-3 c κs = search needs
-
 returns-4 : tie.Need-returns-4
 returns-4 c =
     let a = c .before .before .before .before .before .before .before .before .before .args in
@@ -90,9 +63,6 @@ returns-4 c =
     (c .before .before .before .before .before .if1 .left) fit (sym (c .before .before .lent-fits .ensures) ∙ c .before .if3 .left)
     ) (c .refusal3 .ensures)
 
-refusal-requires-4 : tie.Need-refusal-requires-4
-refusal-requires-4 c κs = search needs
-
 returns-5 : tie.Need-returns-5
 returns-5 c = let a = c .before .before .before .before .before .before .before .args in refused-says _ 2 _ _ _ (run-unfit (a .most) (a .model .now) (a .plan .now) (a .words .now) (a .width) (a .length) (a .budget) (c .before .before .before .if1 .left) (sym (c .before .before .settings-fit .ensures) ∙ c .before .if2 .left)) (c .refusal4 .ensures)
 
@@ -100,20 +70,20 @@ pub search-up-to-spec : {M : Type 1} → statement M
 search-up-to-spec =
     tie.close
     (tie.spec
-    refusal-requires
+    (λ c κs. search needs)
     returns
-    settings-fit-requires
+    (λ c κs. search needs)
     lent-fits-requires
-    slice-aggregate-read-model
-    read-model-requires
-    slice-aggregate-search-model
+    (λ c. search needs)
+    (λ c κs. search needs)
+    (λ c. search needs)
     search-model-requires
-    same-length
-    same-length-2
+    (λ c. search needs)
+    (λ c. search needs)
     returns-2
-    refusal-requires-2
+    (λ c κs. search needs)
     returns-3
-    refusal-requires-3
+    (λ c κs. search needs)
     returns-4
-    refusal-requires-4
+    (λ c κs. search needs)
     returns-5)

@@ -25,17 +25,17 @@ loop-holds c =
     let l : length (c .before .start .last .1 .1 .0) ≡ 16 = search needs in
     followed-first _ _ _ _ l refl (c .before .start .ensures)
 
-slice-aggregate-turn : tie.Need-slice-aggregate-turn Inv-loop μ-loop
-slice-aggregate-turn c = sym (c .before .before .loop .inv .long)
+slice-aggregate-checked-step : tie.Need-slice-aggregate-checked-step Inv-loop μ-loop
+slice-aggregate-checked-step c = sym (c .before .before .loop .inv .long)
 
-shared-slice-read-turn : tie.Need-shared-slice-read-turn Inv-loop μ-loop
-shared-slice-read-turn c = search needs
+shared-slice-read-checked-step : tie.Need-shared-slice-read-checked-step Inv-loop μ-loop
+shared-slice-read-checked-step c = search needs
 
-slice-aggregate-turn-2 : tie.Need-slice-aggregate-turn-2 Inv-loop μ-loop
-slice-aggregate-turn-2 c = sym (c .before .before .before .before .loop .inv .child-long)
+slice-aggregate-checked-step-2 : tie.Need-slice-aggregate-checked-step-2 Inv-loop μ-loop
+slice-aggregate-checked-step-2 c = sym (c .before .before .before .before .loop .inv .child-long)
 
-turn-requires : tie.Need-turn-requires Inv-loop μ-loop
-turn-requires c κs =
+checked-step-requires : tie.Need-checked-step-requires Inv-loop μ-loop
+checked-step-requires c κs =
     let start = c .before .before .before .before .before .before .before .before .before .before .before in
     let turn = c .before .before .before .before .loop in
     (start .pre .0, omega (arith, turn .inv .long), omega (arith, turn .inv .child-long), cost-small _ _ _ _ _ _ (turn .inv) (start .pre .1))
@@ -51,9 +51,9 @@ loop-less c = search needs
 
 loop-again : tie.Need-loop-again Inv-loop μ-loop
 loop-again c =
-    let l : length (c .before .before .before .before .turn .last .1 .1 .1 .1 .1 .0) ≡ 16 = search needs in
+    let l : length (c .before .before .before .before .checked-step .last .1 .1 .1 .1 .1 .0) ≡ 16 = search needs in
     followed-more _ _ _ _ _ _ (c .before .before .before .before .before .before .before .before .before .loop .inv)
-    (c .before .before .before .before .before .before .before .before .loop-test .taken) _ _ (c .before .before .before .before .turn .ensures)
+    (c .before .before .before .before .before .before .before .before .loop-test .taken) _ _ (c .before .before .before .before .checked-step .ensures)
     (c .before .h .given .1) l
 
 enum-known-n : tie.Need-enum-known-n Inv-loop μ-loop
@@ -62,7 +62,7 @@ enum-known-n c = search needs
 returns : tie.Need-returns Inv-loop μ-loop
 returns c =
     followed-ended _ _ _ _ _ _ (c .before .before .before .before .before .before .before .before .before .loop .inv)
-    (c .before .before .before .before .before .before .before .before .loop-test .taken) _ _ (c .before .before .before .before .turn .ensures)
+    (c .before .before .before .before .before .before .before .before .loop-test .taken) _ _ (c .before .before .before .before .checked-step .ensures)
     (c .before .n .given .1)
 
 slice-aggregate-finish : tie.Need-slice-aggregate-finish Inv-loop μ-loop
@@ -83,10 +83,10 @@ follow-spec =
     slice-aggregate-start
     start-requires
     loop-holds
-    slice-aggregate-turn
-    shared-slice-read-turn
-    slice-aggregate-turn-2
-    turn-requires
+    slice-aggregate-checked-step
+    shared-slice-read-checked-step
+    slice-aggregate-checked-step-2
+    checked-step-requires
     enum-known-h
     add-i
     loop-less

@@ -5,12 +5,6 @@ use borrow.Author.Needs.{needs}
 use Rattle.steps.proofs.moves.attempt.Statement.{statement}
 use Rattle.steps.proofs.moves.attempt.Tie as tie
 
-conditions-hold-requires : tie.Need-conditions-hold-requires
-conditions-hold-requires c κs = search needs
-
-enum-known-next : tie.Need-enum-known-next
-enum-known-next c = search needs
-
 add-take : tie.Need-add-take
 add-take c =
     record
@@ -28,12 +22,6 @@ take-requires c κs =
 enum-told : tie.Need-enum-told
 enum-told c = search needs
 
-enum-known-t : tie.Need-enum-known-t
-enum-known-t c = search needs
-
-same-length : tie.Need-same-length
-same-length c = search needs
-
 returns : tie.Need-returns
 returns c =
     attempt-taken _ _ _ _ (c .before .before .before .before .before .before .before .conditions-hold .ensures)
@@ -49,13 +37,13 @@ pub attempt-spec : {M : Type 1} → statement M
 attempt-spec =
     tie.close
     (tie.spec
-    conditions-hold-requires
-    enum-known-next
+    (λ c κs. search needs)
+    (λ c. search needs)
     add-take
     take-requires
     enum-told
-    enum-known-t
-    same-length
+    (λ c. search needs)
+    (λ c. search needs)
     returns
     returns-2
     returns-3)

@@ -5,17 +5,8 @@ use borrow.Author.Needs.{needs}
 use Rattle.steps.proofs.moves.constrained.Statement.{statement}
 use Rattle.steps.proofs.moves.constrained.Tie as tie
 
-constraints-hold-requires : tie.Need-constraints-hold-requires
-constraints-hold-requires c κs = search needs
-
 enum-told : tie.Need-enum-told
 enum-told c = search needs
-
-enum-told-2 : tie.Need-enum-told-2
-enum-told-2 c = search needs
-
-enum-known-t : tie.Need-enum-known-t
-enum-known-t c = search needs
 
 returns : tie.Need-returns
 returns c = constraints-met _ _ _ _ _ (sym (c .enum-told .given .1) ∙ c .before .before .constraints-hold .ensures)
@@ -30,10 +21,10 @@ pub constrained-spec : {M : Type 1} → statement M
 constrained-spec =
     tie.close
     (tie.spec
-    constraints-hold-requires
+    (λ c κs. search needs)
     enum-told
-    enum-told-2
-    enum-known-t
+    (λ c. search needs)
+    (λ c. search needs)
     returns
     returns-2
     returns-3)

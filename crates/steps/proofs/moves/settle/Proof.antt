@@ -7,15 +7,6 @@ use Rattle.steps.proofs.moves.settle.Tie as tie
 enum-told : tie.Need-enum-told
 enum-told c = search needs
 
-enum-known-tried : tie.Need-enum-known-tried
-enum-known-tried c = search needs
-
-constrained-requires : tie.Need-constrained-requires
-constrained-requires c κs = search needs
-
-enum-known-tried-2 : tie.Need-enum-known-tried-2
-enum-known-tried-2 c = search needs
-
 returns : tie.Need-returns
 returns c = move-blocked _ _ _ _ _ (c .before .before .before .before .before .before .pre .1) (c .enum-told .given .1)
 
@@ -30,9 +21,9 @@ settle-spec =
     tie.close
     (tie.spec
     enum-told
-    enum-known-tried
-    constrained-requires
-    enum-known-tried-2
+    (λ c. search needs)
+    (λ c κs. search needs)
+    (λ c. search needs)
     returns
     returns-2
     returns-3)

@@ -5,9 +5,6 @@ use borrow.Author.Needs.{needs}
 use Rattle.steps.proofs.moves.step.Statement.{statement}
 use Rattle.steps.proofs.moves.step.Tie as tie
 
-word-at-requires : tie.Need-word-at-requires
-word-at-requires c κs = search needs
-
 returns : tie.Need-returns
 returns c =
     let start = c .before .before .before .before .before .before in
@@ -17,9 +14,6 @@ add-word-at : tie.Need-add-word-at
 add-word-at c =
     let start = c .before .before .before .before .before .before in
     record { fits = omega (arith, c .if1 .left, c .before .word-at .ensures, start .pre .0 .outlines .transition-count, start .pre .0 .outlines .few-transitions) }
-
-word-at-requires-2 : tie.Need-word-at-requires-2
-word-at-requires-2 c κs = search needs
 
 attempt-requires : tie.Need-attempt-requires
 attempt-requires c κs =
@@ -46,9 +40,6 @@ settle-requires c κs =
           ) _ (c .before .before .before .before .before .word-at2 .ensures) _ _ (c .before .before .before .attempt .ensures),
     )
 
-same-length : tie.Need-same-length
-same-length c = search needs
-
 returns-2 : tie.Need-returns-2
 returns-2 c = c .settle .ensures
 
@@ -56,11 +47,11 @@ pub step-spec : {M : Type 1} → statement M
 step-spec =
     tie.close
     (tie.spec
-    word-at-requires
+    (λ c κs. search needs)
     returns
     add-word-at
-    word-at-requires-2
+    (λ c κs. search needs)
     attempt-requires
     settle-requires
-    same-length
+    (λ c. search needs)
     returns-2)

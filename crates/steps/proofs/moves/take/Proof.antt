@@ -2,7 +2,7 @@
 use Rattle.steps.proofs.Moving.{take-stops, effects-begin, take-done, take-troubles}
 use Rattle.steps.proofs.Writing.{cost-within}
 use Rattle.steps.proofs.Outlined.{copied-state}
-use Rattle.steps.specs.Held.{stateIn}
+use Rattle.steps.specs.InBytes.{stateIn}
 use native.Mathlib.Omega.{arith}
 use mathlib.Core.Path.{ap, _∙_}
 use borrow.Author.Needs.{needs}
@@ -11,9 +11,6 @@ use Rattle.steps.proofs.moves.take.Tie as tie
 
 cost-at-requires : tie.Need-cost-at-requires
 cost-at-requires c κs = (c .before .before .before .before .pre .0, c .before .before .before .before .pre .1 .inside)
-
-enum-known-cost : tie.Need-enum-known-cost
-enum-known-cost c = search needs
 
 copy-state-requires : tie.Need-copy-state-requires
 copy-state-requires c κs = (c .before .before .before .before .before .before .before .before .before .pre .2, c .before .before .before .before .before .before .before .before .before .pre .3)
@@ -35,15 +32,6 @@ effects-requires c κs =
 enum-told : tie.Need-enum-told
 enum-told c = search needs
 
-enum-known-t : tie.Need-enum-known-t
-enum-known-t c = search needs
-
-enum-known-t-2 : tie.Need-enum-known-t-2
-enum-known-t-2 c = search needs
-
-same-length : tie.Need-same-length
-same-length c = search needs
-
 returns : tie.Need-returns
 returns c =
     let start = c .before .before .before .before .before .before .before .before .before .before .before .before .before .before .before .before .before .before in
@@ -52,9 +40,6 @@ returns c =
     (c .before .before .before .before .before .before .before .before .before .before .before .cost .given .1) _ _
     (ap (stateIn _) (c .before .before .before .before .before .before .before .before .copy-state .ensures) ∙ copied-state _ _ (start .pre .0) _ _ (start .pre .2))
     _ (c .before .before .before .before .effects .ensures) (c .enum-told .given .1)
-
-same-length-2 : tie.Need-same-length-2
-same-length-2 c = search needs
 
 returns-2 : tie.Need-returns-2
 returns-2 c =
@@ -73,15 +58,15 @@ take-spec =
     tie.close
     (tie.spec
     cost-at-requires
-    enum-known-cost
+    (λ c. search needs)
     copy-state-requires
     add-effects
     effects-requires
     enum-told
-    enum-known-t
-    enum-known-t-2
-    same-length
+    (λ c. search needs)
+    (λ c. search needs)
+    (λ c. search needs)
     returns
-    same-length-2
+    (λ c. search needs)
     returns-2
     returns-3)

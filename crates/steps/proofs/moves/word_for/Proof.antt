@@ -4,12 +4,6 @@ use borrow.Author.Needs.{needs}
 use Rattle.steps.proofs.moves.word_for.Statement.{statement}
 use Rattle.steps.proofs.moves.word_for.Tie as tie
 
-add-word-at : tie.Need-add-word-at
-add-word-at c = search needs
-
-word-at-requires : tie.Need-word-at-requires
-word-at-requires c κs = search needs
-
 number-word-requires : tie.Need-number-word-requires
 number-word-requires c κs = (c .before .before .before .before .before .pre .0, c .before .before .before .before .before .pre .1)
 
@@ -47,8 +41,8 @@ pub word-for-spec : {M : Type 1} → statement M
 word-for-spec =
     tie.close
     (tie.spec
-    add-word-at
-    word-at-requires
+    (λ c. search needs)
+    (λ c κs. search needs)
     number-word-requires
     returns
     element-at-requires

@@ -10,9 +10,6 @@ slice-aggregate-copy-words c =
     let start = c .before .before .before in
     sym (length-take-le 16 (start .args .from .now) (start .pre .0))
 
-slice-relend-prefix-copy-words : tie.Need-slice-relend-prefix-copy-words
-slice-relend-prefix-copy-words c = search needs
-
 slice-aggregate-copy-words-2 : tie.Need-slice-aggregate-copy-words-2
 slice-aggregate-copy-words-2 c =
     let start = c .before .before .before .before in
@@ -23,9 +20,6 @@ copy-words-requires c κs =
     let start = c .before .before .before .before in
     length-take-le 16 (start .args .from .now) (start .pre .0) ∙ sym (length-take-le 16 (start .args .to .now) (start .pre .1))
 
-same-length : tie.Need-same-length
-same-length c = search needs
-
 returns : tie.Need-returns
 returns c = rw (c .before .before .copy-words .ensures)
 
@@ -34,8 +28,8 @@ copy-state-spec =
     tie.close
     (tie.spec
     slice-aggregate-copy-words
-    slice-relend-prefix-copy-words
+    (λ c. search needs)
     slice-aggregate-copy-words-2
     copy-words-requires
-    same-length
+    (λ c. search needs)
     returns)

@@ -1,6 +1,6 @@
 -- `steps::states::start` meets its contract.
 use Rattle.steps.proofs.Outlined.{start-state}
-use Rattle.steps.specs.Held.{stateIn}
+use Rattle.steps.specs.InBytes.{stateIn}
 use Rattle.words.proofs.Literal.{suffix}
 use native.Mathlib.Omega.{arith}
 use lib.ListN.{length-take, length-drop}
@@ -9,20 +9,8 @@ use borrow.Author.Needs.{needs}
 use Rattle.steps.proofs.states.start.Statement.{statement}
 use Rattle.steps.proofs.states.start.Tie as tie
 
-sub-copy-state : tie.Need-sub-copy-state
-sub-copy-state c = search needs
-
-part-copy-state-start : tie.Need-part-copy-state-start
-part-copy-state-start c = search needs
-
-part-copy-state-end : tie.Need-part-copy-state-end
-part-copy-state-end c = search needs
-
 copy-state-requires : tie.Need-copy-state-requires
 copy-state-requires c κs = (simp (length-take, length-drop) (omega (arith, c .before .before .before .before .before .pre .0 .long)), c .before .before .before .before .before .pre .1)
-
-same-length : tie.Need-same-length
-same-length c = search needs
 
 returns : tie.Need-returns
 returns c =
@@ -33,9 +21,9 @@ pub start-spec : {M : Type 1} → statement M
 start-spec =
     tie.close
     (tie.spec
-    sub-copy-state
-    part-copy-state-start
-    part-copy-state-end
+    (λ c. search needs)
+    (λ c. search needs)
+    (λ c. search needs)
     copy-state-requires
-    same-length
+    (λ c. search needs)
     returns)

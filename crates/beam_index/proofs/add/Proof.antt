@@ -1,0 +1,26 @@
+-- `beam_index::add` meets its contract.
+use borrow.Author.Needs.{needs}
+use Rattle.beam_index.proofs.Linked.{added}
+use Rattle.beam_index.proofs.add.Statement.{statement}
+use Rattle.beam_index.proofs.add.Tie as tie
+
+returns : tie.Need-returns
+returns c =
+    let start = c .before .before .before .before in
+    added (start .args .links .now) (start .args .w) (start .args .b) (start .args .x) (c .before .low-link .result) (start .pre .0)
+    (start .pre .1 .0) (c .before .low-link .ensures) (start .pre .1 .1)
+
+pub add-spec : {M : Type 1} → statement M
+add-spec =
+    tie.close
+    (tie.spec
+    (λ c κs. search needs)
+    (λ c. search needs)
+    (λ c. search needs)
+    (λ c. search needs)
+    (λ c. search needs)
+    (λ c. search needs)
+    (λ c. search needs)
+    (λ c. search needs)
+    (λ c. search needs)
+    returns)

@@ -1,0 +1,58 @@
+-- `eval_sets::leaves::entry_number` meets its contract.
+use mathlib.Core.Path.{sym}
+use native.Mathlib.Omega.{arith}
+use mir.Val.{SFits}
+use mir.Syntax.{w64}
+use borrow.Author.Needs.{needs}
+use Rattle.eval_sets.specs.Runs.{entryOf}
+use Rattle.eval_sets.proofs.Within.{elements-small, elements-used}
+use Rattle.eval_sets.proofs.Opening.{entry-none, entry-some}
+use Rattle.words.proofs.Integers.{back}
+use Rattle.eval_sets.proofs.leaves.entry_number.Statement.{statement}
+use Rattle.eval_sets.proofs.leaves.entry_number.Tie as tie
+
+returns : tie.Need-returns
+returns c =
+    let start = c .before .before .before .before .before in
+    sym (entry-none (start .args .model .now) (start .args .state .now) (start .args .tables .now) (start .args .e .now) (c .if1 .taken))
+
+entry-requires : tie.Need-entry-requires
+entry-requires c κs = let h = rw (← (c .two-elements .ensures)) at (elements-small (c .before .before .before .before .before .before .before .before .before .args .state .now) (c .before .after .result .now)) in omega (arith, h .0, h .1)
+
+add-ranged : tie.Need-add-ranged
+add-ranged c =
+    omega (
+      arith,
+      rw (← (c .before .before .two-elements .ensures)) at (
+          elements-used (c .before .before .before .before .before .before .before .before .before .before .before .args .state .now)
+          (c .before .before .before .after .result .now)
+          ),
+    )
+
+returns-2 : tie.Need-returns-2
+unfolding entryOf
+returns-2 c = let f : SFits w64 (c .before .before .entry .result) = record { sfits = omega (arith, c .before .before .entry .ensures .1) } in
+    rw (rw (back f, c .before .before .entry .ensures .0, c .before .before .before .two-elements .ensures, c .before .before .before .before .after .ensures, c .before .before .before .before .before .word-at .ensures, c .before .before .before .before .before .before .name .ensures) at (c .ranged .ensures))
+    (
+    sym (
+    entry-some (c .before .before .before .before .before .before .before .before .before .before .before .before .args .model .now)
+    (c .before .before .before .before .before .before .before .before .before .before .before .before .args .state .now)
+    (c .before .before .before .before .before .before .before .before .before .before .before .before .args .tables .now)
+    (c .before .before .before .before .before .before .before .before .before .before .before .before .args .e .now)
+    (c .before .before .before .before .before .before .before .if1 .left)
+    )
+    )
+
+pub entry-number-spec : {M : Type 1} → statement M
+entry-number-spec =
+    tie.close
+    (tie.spec
+    returns
+    (λ c κs. search needs)
+    (λ c κs. search needs)
+    (λ c κs. search needs)
+    (λ c κs. search needs)
+    entry-requires
+    add-ranged
+    (λ c κs. search needs)
+    returns-2)

@@ -1,0 +1,15 @@
+-- `eval_sets::sets::complemented` meets its contract.
+use borrow.Author.Needs.{needs}
+use Rattle.eval_sets.specs.Runs.{complemented}
+use Rattle.eval_sets.proofs.sets.complemented.Statement.{statement}
+use Rattle.eval_sets.proofs.sets.complemented.Tie as tie
+
+complement-in-requires : tie.Need-complement-in-requires
+complement-in-requires c κs = search needs
+
+returns : tie.Need-returns
+unfolding complemented
+returns c = rw (c .complement-in .ensures)
+
+pub complemented-spec : {M : Type 1} → statement M
+complemented-spec = tie.close (tie.spec complement-in-requires returns)

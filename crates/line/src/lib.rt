@@ -1,0 +1,80 @@
+// The line that is written for an answer: its fields, a colon and the plan; or "refused" and the number.
+
+ghost use Rattle.line.specs.Line.{InLine};
+use io::print_decimal;
+use io::write_all;
+use libc::STDOUT_FILENO;
+use search_report::answers::Answer;
+use search_report::answers::Outcome;
+use search_report::figures::flag_number;
+use search_report::figures::outcome_number;
+use solver::buffers::plan_part;
+
+// The numbers of the line, in their order.
+fn numbers(answer: Answer) -> [u64; 8]
+    ensures { λ r. ⌜ InLine answer r ⌝ }
+{
+    let outcome = answer.outcome;
+    let verdict = outcome_number(outcome);
+    let flag = flag_number(answer.flag);
+    [
+        verdict as u64,
+        flag,
+        answer.cost,
+        answer.bound,
+        answer.length as u64,
+        answer.tally.expansions,
+        answer.tally.rounds,
+        answer.tally.width,
+    ]
+}
+
+// Writes the numbers, with one space before each but the first.
+fn write_numbers(numbers: &[u64]) {
+    let mut i: usize = 0;
+    while i < numbers.len() {
+        if 0 < i {
+            write_all(STDOUT_FILENO, b" ");
+        }
+        print_decimal(STDOUT_FILENO, numbers[i]);
+        i += 1;
+    }
+}
+
+// Writes the steps, with one space before each.
+fn write_steps(steps: &[u8]) {
+    let mut i: usize = 0;
+    while i < steps.len() {
+        write_all(STDOUT_FILENO, b" ");
+        print_decimal(STDOUT_FILENO, laws::wide(steps[i]));
+        i += 1;
+    }
+}
+
+// Writes all fields and the steps.
+pub fn write_fields(answer: Answer, plan: &mut [u8]) {
+    let line = numbers(answer);
+    write_numbers(&line);
+    write_all(STDOUT_FILENO, b" :");
+    let n = answer.length;
+    let steps = plan_part(plan, n);
+    write_steps(steps);
+    write_all(STDOUT_FILENO, b"\n");
+}
+
+// Writes the line of a refusal.
+fn write_refused(number: u8) {
+    write_all(STDOUT_FILENO, b"refused ");
+    print_decimal(STDOUT_FILENO, laws::wide(number));
+    write_all(STDOUT_FILENO, b"\n");
+}
+
+// Writes the line of an answer whose steps are at the front of the plan buffer.
+pub fn write_answer(answer: Answer, plan: &mut [u8]) {
+    let outcome = answer.outcome;
+    match outcome {
+        Outcome::Verdict(_) => write_fields(answer, plan),
+        Outcome::ByState(t) => write_refused(t),
+        Outcome::ByInput(t) => write_refused(t),
+    }
+}

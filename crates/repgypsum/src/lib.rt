@@ -1,0 +1,48 @@
+// What C calls, whole: the search and the plan check on the bytes of a model, with the contracts that a host may rely on. Nothing is required of
+// a caller: whatever is wrong with the bytes, the settings or the buffers is told by a refusal.
+
+ghost use mathlib.Core.Path.{_≡_};
+ghost use mathlib.Core.Logic.{_↔_};
+ghost use Rattle.model.specs.Check as plans;
+ghost use Rattle.model.specs.Check.{CheckedPlan, answerNumber, answerCost};
+ghost use Rattle.search_report.specs.Answers.{FieldsAre};
+ghost use Rattle.solver.specs.Searches.{BuffersAre, Guaranteed, runOf};
+use plan_check::check;
+use search_report::answers::Fields;
+use search_report::figures::fields;
+use solver::entry::search;
+
+// The search: its answer in numbers, with the plan at the front of the plan buffer.
+#[no_mangle]
+pub extern "C" fn repgypsum_search(
+    model: &[u8],
+    width: u32,
+    length: u32,
+    budget: u32,
+    plan: &mut [u8],
+    words: &mut [u64],
+) -> Fields
+    ensures answer { λ r. ⌜ FieldsAre (runOf 65536 (now (model .entry)) (now (plan .entry)) (now (words .entry)) width length budget) r ⌝ }
+    ensures buffers { λ r. ⌜ BuffersAre (runOf 65536 (now (model .entry)) (now (plan .entry)) (now (words .entry)) width length budget) (now (plan .entry)) (now (plan .exit)) (now (words .entry)) (now (words .exit)) ⌝ }
+    ensures guaranteed { λ r. ⌜ Guaranteed (now (model .entry)) width length (runOf 65536 (now (model .entry)) (now (plan .entry)) (now (words .entry)) width length budget) ⌝ }
+{
+    let answer = search(model, width, length, budget, plan, words);
+    fields(answer)
+}
+
+// The plan check's answer number: 0 exactly for a plan of the model.
+#[no_mangle]
+pub extern "C" fn repgypsum_check_answer(model: &[u8], plan: &[u8]) -> u8
+    ensures number { λ r. ⌜ r ≡ answerNumber (plans.check (now (model .entry)) (now (plan .entry))) ⌝ }
+    ensures exact { λ r. ⌜ (r ≡ 0) ↔ CheckedPlan (now (model .entry)) (now (plan .entry)) (answerCost (plans.check (now (model .entry)) (now (plan .entry)))) ⌝ }
+{
+    check(model, plan).answer
+}
+
+// The plan's cost, 0 where the answer number is not 0.
+#[no_mangle]
+pub extern "C" fn repgypsum_check_cost(model: &[u8], plan: &[u8]) -> u64
+    ensures { λ r. ⌜ r ≡ answerCost (plans.check (now (model .entry)) (now (plan .entry))) ⌝ }
+{
+    check(model, plan).cost
+}

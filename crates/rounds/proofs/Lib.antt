@@ -1,5 +1,0 @@
--- Laws of a layer's end, of a turn, and of a round.
-pub mod Costing
-pub mod Ending
-pub mod Turning
-pub mod Rounding

@@ -1,0 +1,108 @@
+-- The transitions of a node, one after the other: what is left of the expansion after the first t of them.
+use Prim.Native.Nat.{ℕ, suc, _+_, _-_, _≤_, _<_}
+use mathlib.Core.Path.{_≡_, refl, ap, subst, _∙_}
+use mathlib.Core.Bool.{Bool, false, _||_, or-assoc}
+use mathlib.Core.List.{List}
+use native.Mathlib.Omega.{arith}
+use native.Mathlib.Numerals.{add-one}
+use lib.ListN.{length, getD}
+use Rattle.model.specs.Meaning.{State}
+use Rattle.model.specs.Steps.{systemOf}
+use Rattle.outline.specs.Outline.{modelOf, transitionCountAt}
+use Rattle.search.specs.Search as definition
+use Rattle.search.specs.Search.{Node, Round, Result, andThen}
+use Rattle.steps.specs.InBytes.{Outlined, systemIn}
+use Rattle.steps.specs.Follow.{costsIn}
+use Rattle.beam.specs.Nodes.{nodeAt}
+use Rattle.beam.specs.Layers.{nodesOf, Indexed, roundWith}
+use Rattle.beam.proofs.Mapped.{round-same}
+use Rattle.search_expansion.specs.declared.trials.Trial.the-variants as T
+use Rattle.search_expansion.specs.declared.trials.Expanded.{Expanded}
+use Rattle.search_expansion.specs.Expansion.{BestIs, Numbered, trialResult, Grows}
+use Rattle.search_expansion.proofs.TrialSteps.{triedBy}
+
+-- a round with other nodes twice, and marked if one of the two was cut
+round-twice : (a b : List (Node State ℕ)) (c d : Bool) (r : Round State ℕ) → roundWith b d (roundWith a c r) ≡ roundWith b (c || d) r
+unfolding roundWith
+round-twice a b c d r = rw (or-assoc (r .widthMark) c d)
+
+-- how many transitions there are
+pub transitions-in : {bytes outline : List ℕ} → Outlined bytes outline → getD outline transitionCountAt 0 ≡ systemIn bytes .transitions
+unfolding systemOf
+transitions-in o = o .outlines .transition-count
+
+-- there are at most 256
+pub few-in : {bytes outline : List ℕ} → Outlined bytes outline → systemIn bytes .transitions ≤ 256
+unfolding systemOf
+few-in o = o .outlines .few-transitions
+
+module _ (bytes outline : List ℕ) (w n i : ℕ) (has : Bool) (best : ℕ) (node layer : List ℕ) where
+  -- the definition from transition t on
+  abbrev from : (t : ℕ) → Node State ℕ → Round State ℕ → Result (Round State ℕ) ℕ
+  from t m q = definition.expand (costsIn bytes) (systemIn bytes) w (systemIn bytes .transitions - t) t m q
+
+  -- the definition's rule for all of them
+  abbrev pub expandBy : Node State ℕ → Round State ℕ → Result (Round State ℕ) ℕ
+  expandBy m q = definition.expand (costsIn bytes) (systemIn bytes) w (systemIn bytes .transitions) 0 m q
+
+  -- the first t are tried
+  pub record Expanding (layer′ : List ℕ) (count : ℕ) (cut : Bool) (t : ℕ) : Type 0 where
+    pub long : length layer′ ≡ length layer
+    pub within : t ≤ systemIn bytes .transitions
+    pub held : Indexed outline w count layer′
+    pub left : (path : ℕ → List ℕ) (r : Round State ℕ) → r .kept ≡ nodesOf w layer (modelOf bytes .variables) path n → BestIs has best (r .progress .best)
+        → expandBy (nodeAt (modelOf bytes .variables) path i node) r
+        ≡ from t (nodeAt (modelOf bytes .variables) path i node) (roundWith (nodesOf w layer′ (modelOf bytes .variables) path count) cut r)
+
+  pub expanding-first : Indexed outline w n layer → Expanding layer n false 0
+  expanding-first h = record {
+    long = refl;
+    within = omega arith;
+    held = h;
+    left = λ path r k b.
+        let z : systemIn bytes .transitions - 0 ≡ systemIn bytes .transitions = omega arith in
+        rw z (ap (expandBy (nodeAt (modelOf bytes .variables) path i node)) (round-same bytes (modelOf bytes .rule) path r (nodesOf w layer (modelOf bytes .variables) path n) k));
+  }
+
+  module _ {layer′ : List ℕ} {count : ℕ} {cut : Bool} {t : ℕ} (so-far : Expanding layer′ count cut t) where
+    pub expanded-all : systemIn bytes .transitions ≤ t → Grows bytes outline w n i has best node layer layer′ (record { count = count; cut = cut; trial = T.On }) expandBy
+    unfolding trialResult definition.expand
+    expanded-all h = record {
+      held = so-far .held;
+      numbered = tt;
+      same = λ path r k b.
+          let z : systemIn bytes .transitions - t ≡ 0 = omega arith in
+          (rw z at (so-far .left path r k b));
+    }
+
+    module _ {layer″ : List ℕ} {x : Expanded} {marked : Bool} (h : t < systemIn bytes .transitions) (grown : Grows bytes outline w count i has best node layer′ layer″ x (triedBy bytes w t)) (joined : marked ≡ (cut || x .cut)) where
+      abbrev nodes′ : (ℕ → List ℕ) → List (Node State ℕ)
+      nodes′ path = nodesOf w layer′ (modelOf bytes .variables) path count
+
+      tried : (path : ℕ → List ℕ) (r : Round State ℕ) → BestIs has best (r .progress .best)
+          → triedBy bytes w t (nodeAt (modelOf bytes .variables) path i node) (roundWith (nodes′ path) cut r)
+          ≡ trialResult (x .trial) (nodeAt (modelOf bytes .variables) path i node) (roundWith (nodesOf w layer″ (modelOf bytes .variables) path (x .count)) (x .cut) (roundWith (nodes′ path) cut r))
+      unfolding roundWith
+      tried path r b = grown .same path (roundWith (nodes′ path) cut r) refl b
+
+      -- transition t, then those behind it
+      next : (path : ℕ → List ℕ) (r : Round State ℕ) → r .kept ≡ nodesOf w layer (modelOf bytes .variables) path n → BestIs has best (r .progress .best)
+          → expandBy (nodeAt (modelOf bytes .variables) path i node) r
+          ≡ andThen (trialResult (x .trial) (nodeAt (modelOf bytes .variables) path i node) (roundWith (nodesOf w layer″ (modelOf bytes .variables) path (x .count)) marked r)) (λ q. from (t + 1) (nodeAt (modelOf bytes .variables) path i node) q)
+      unfolding definition.expand
+      next path r k b =
+          let z : systemIn bytes .transitions - t ≡ suc (systemIn bytes .transitions - (t + 1)) = omega arith in
+          (rw z at (so-far .left path r k b))
+          ∙ rw (tried path r b, round-twice (nodes′ path) (nodesOf w layer″ (modelOf bytes .variables) path (x .count)) cut (x .cut) r, joined, add-one t)
+
+      pub expanding-more : length layer″ ≡ length layer′ → x .trial ≡ T.On → Expanding layer″ (x .count) marked (t + 1)
+      unfolding trialResult andThen
+      expanding-more l e = record { long = l ∙ so-far .long; within = omega arith; held = grown .held; left = λ path r k b. rw e at (next path r k b) }
+
+      pub expanded-before : {e : ℕ} → x .trial ≡ T.Before e → Grows bytes outline w n i has best node layer layer″ (record { count = x .count; cut = marked; trial = T.Before e }) expandBy
+      unfolding trialResult andThen
+      expanded-before e = record { held = grown .held; numbered = tt; same = λ path r k b. rw e at (next path r k b) }
+
+      pub expanded-at : {e c u : ℕ} → x .trial ≡ T.At e c u → Grows bytes outline w n i has best node layer layer″ (record { count = x .count; cut = marked; trial = T.At e c u }) expandBy
+      unfolding trialResult andThen
+      expanded-at e = record { held = grown .held; numbered = subst Numbered e (grown .numbered); same = λ path r k b. rw e at (next path r k b) }

@@ -1,0 +1,98 @@
+-- The layer's end by rule 6: what remains, and how low rises.
+use Prim.Native.Nat.{ℕ, _+_, _-_, _*_, _≤_, _<_}
+use mathlib.Core.Path.{_≡_, refl, sym, ap, subst, _∙_}
+use mathlib.Core.Bool.{Bool, true, false}
+use mathlib.Core.List.{List, []}
+use mathlib.Core.Option.{Option, some, none}
+use native.Mathlib.Omega.{arith}
+use borrow.Author.Tests.{le-leb, lt-leb}
+use lib.ListN.{length, getD, drop, length-take, length-drop}
+use Rattle.laws.specs.Lists.{filter}
+use Rattle.laws.proofs.Bools.{not-both}
+use Rattle.model.specs.System.{System}
+use Rattle.model.specs.Syntax.{Rule, Variable}
+use Rattle.model.specs.Meaning.{State}
+use Rattle.model.specs.Steps.{costsOf}
+use Rattle.search.specs.Search.{Node, Route, belowBest, raisedLow, layerEnd}
+use Rattle.outline.specs.Outline.{modelOf}
+use Rattle.beam_order.specs.Slots.{slotWords, fAt}
+use Rattle.steps.specs.InBytes.{systemIn}
+use Rattle.steps.specs.Follow.{costsIn}
+use Rattle.beam.specs.Layers.{nodesOf, Layer, Below}
+use Rattle.beam.proofs.Ends.{filter-no-best}
+use Rattle.beam.proofs.Moves.{place-below}
+use Rattle.beam.proofs.Nodes.{nodes-none, raised-low}
+use Rattle.search_expansion.specs.Expansion.{BestIs}
+use Rattle.search_paths.specs.Routes.{pathBy, nextOf}
+use Rattle.search_visits.specs.Work.{bestOf, progressOf, roundOf, roundIn}
+use Rattle.search_visits.proofs.Visiting.{best-is}
+use Rattle.search_rounds.specs.Rounds.{LayerEnds}
+use Rattle.search_rounds.specs.Ends.{Remains, Raises}
+use Rattle.search_visits.specs.declared.work.Round.{Round}
+
+-- ---- what remains
+
+module _ {layer : List ℕ} {w n : ℕ} where
+  pub remains-below : (has : Bool) (best count : ℕ) → has ≡ true → Below w n count best layer → Remains layer w has best n count
+  remains-below has best count found b = record { fewer = b .fewer; still = b .layer; left = by-best }
+    where
+      by-best : (rule : Rule) (M : System State ℕ) (vs : List Variable) (path : ℕ → List ℕ) (o : Option (Route ℕ)) → BestIs has best o → nodesOf w layer vs path count ≡ filter (λ m. belowBest (costsOf rule) M (m .f) o) (nodesOf w layer vs path n)
+      by-best rule M vs path none is = absurd (not-both found is)
+      by-best rule M vs path (some r) is = b .left rule M vs path r (is .1)
+
+  pub remains-all : (has : Bool) (best : ℕ) → has ≡ false → Layer w n layer → Remains layer w has best n n
+  remains-all has best missing la = record { fewer = omega arith; still = la; left = by-best }
+    where
+      by-best : (rule : Rule) (M : System State ℕ) (vs : List Variable) (path : ℕ → List ℕ) (o : Option (Route ℕ)) → BestIs has best o → nodesOf w layer vs path n ≡ filter (λ m. belowBest (costsOf rule) M (m .f) o) (nodesOf w layer vs path n)
+      by-best rule M vs path none is = sym (filter-no-best rule M (nodesOf w layer vs path n))
+      by-best rule M vs path (some r) is = absurd (not-both (is .0) missing)
+
+-- ---- low
+
+pub raises-marked : (layer : List ℕ) (w n low : ℕ) (marked : Bool) → marked ≡ true → Raises layer w marked n low low
+unfolding raisedLow
+raises-marked layer w n low marked stands = record { same = λ rule M vs path. rw stands }
+
+pub raises-none : (layer : List ℕ) (w n low : ℕ) (marked : Bool) → n ≡ 0 → Raises layer w marked n low low
+unfolding raisedLow
+raises-none layer w n low marked none-left = record { same = λ rule M vs path. rw none-left (rw (nodes-none w layer vs path) (by-mark rule M marked)) }
+  where
+    by-mark : (rule : Rule) (M : System State ℕ) (m : Bool) → raisedLow (costsOf rule) M m [] low ≡ low
+    by-mark rule M true = refl
+    by-mark rule M false = refl
+
+module _ {layer : List ℕ} {w n : ℕ} (la : Layer w n layer) (low : ℕ) (marked : Bool) (unmarked : marked ≡ false) (pos : 0 < n) where
+  -- f of the first
+  abbrev first : ℕ
+  first = getD layer (getD layer (20 * w) 0 * slotWords + fAt) 0
+
+  pub raises-first : low < first → Raises layer w marked n low first
+  raises-first h = record { same = λ rule M vs path. rw unmarked (raised-low vs path la rule M low pos ∙ rw (lt-leb first low h)) }
+
+  pub raises-not : first ≤ low → Raises layer w marked n low low
+  raises-not h = record { same = λ rule M vs path. rw unmarked (raised-low vs path la rule M low pos ∙ rw (le-leb first low h)) }
+
+-- ---- the layer's end
+
+pub layer-ends : (words : List ℕ) (w : ℕ) (x : Round) (count low : ℕ) → Remains (nextOf w words) w (x .progress .best .found) (x .progress .best .cost) (x .count) count
+    → Raises (nextOf w words) w (x .marks .width) count (x .progress .low) low
+    → LayerEnds words w x (record { count = count; marks = x .marks; improved = x .improved; progress = record { best = x .progress .best; low = low; tally = x .progress .tally } })
+layer-ends words w x count low remains raises = record { fewer = remains .fewer; layer = remains .still; best-same = refl; round-same = refl; same = ends }
+  where
+    ends : (bytes plan : List ℕ) (k : ℕ) → layerEnd (costsIn bytes) (systemIn bytes) (roundIn bytes words plan w k x) ≡ roundIn bytes words plan w k (record { count = count; marks = x .marks; improved = x .improved; progress = record { best = x .progress .best; low = low; tally = x .progress .tally } })
+    ends bytes plan k =
+        unfold layerEnd roundOf progressOf in
+        ap (λ (l : List (Node State ℕ)). record { kept = l; widthMark = x .marks .width; lengthMark = x .marks .length; improved = x .improved; progress = record { best = bestOf plan (x .progress .best); low = raisedLow (costsIn bytes) (systemIn bytes) (x .marks .width) l (x .progress .low); expansions = x .progress .tally .expansions } })
+        (sym (remains .left (modelOf bytes .rule) (systemIn bytes) (modelOf bytes .variables) (pathBy words w k) (bestOf plan (x .progress .best)) (best-is plan (x .progress .best))))
+        ∙ ap (λ (v : ℕ). record { kept = nodesOf w (nextOf w words) (modelOf bytes .variables) (pathBy words w k) count; widthMark = x .marks .width; lengthMark = x .marks .length; improved = x .improved; progress = record { best = bestOf plan (x .progress .best); low = v; expansions = x .progress .tally .expansions } })
+        (raises .same (modelOf bytes .rule) (systemIn bytes) (modelOf bytes .variables) (pathBy words w k))
+
+-- the slot of the first
+pub first-below : {layer : List ℕ} {w n : ℕ} → Layer w n layer → 0 < n → getD layer (20 * w) 0 < w
+first-below {layer} {w} la pos =
+    let z : 20 * w + 0 ≡ 20 * w = omega arith in
+    subst (λ (i : ℕ). getD layer i 0 < w) z (place-below la 0 pos)
+
+-- the words hold the layer in the making
+pub words-long : (w : ℕ) (words : List ℕ) → 26 * w ≤ length (nextOf w words) → 0 < w → 46 * w ≤ length words
+words-long w words h pos = omega (arith, length-take (46 * w - 20 * w) (drop (20 * w) words), length-drop (20 * w) words)

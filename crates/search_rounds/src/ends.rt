@@ -1,0 +1,153 @@
+// Rule 6: the end of a layer, and the layer behind it.
+
+ghost use mathlib.Core.Path.{_≡_};
+ghost use Prim.Native.Nat.{_+_, _*_, _≤_, _<_};
+ghost use lib.ListN.{length};
+ghost use Rattle.model.specs.Numbers.{mostSteps};
+ghost use Rattle.beam.specs.Layers.{Layer};
+ghost use Rattle.search_paths.specs.Routes.{nextOf};
+ghost use Rattle.search_visits.specs.Work.{Ready};
+ghost use Rattle.search_rounds.specs.Rounds.{LayerEnds, PassesLayer};
+ghost use Rattle.search_rounds.specs.Ends.{Remains, Raises, EntersNext};
+use beam::layer::ORDER_AT;
+use beam::layer::keep_below;
+use beam_order::F_AT;
+use beam_order::SLOT_WORDS;
+use search_paths::NEXT_AT;
+use search_paths::NEXT_END;
+use search_paths::current::next_layer;
+use search_visits::layers::layer;
+use search_visits::work::Next;
+use search_visits::work::Progress;
+use search_visits::work::Round;
+
+// A round after a layer: `more` tells that the layer behind it, of `nodes` nodes, is current; else the round is at its end, or the run
+// is over.
+pub struct Passed {
+    pub round: Round,
+    pub next: Next,
+    pub more: bool,
+    pub nodes: usize,
+}
+
+// How many of the first nodes of the layer are left, those with f below the best.
+fn remaining(layer: &[u64], w: usize, found: bool, best: u64, count: usize) -> usize
+    requires { ⌜ Layer w count (now layer) ⌝ }
+    ensures { λ r. ⌜ Remains (now (layer .entry)) w found best count r ⌝ }
+{
+    if found {
+        keep_below(layer, w, count, best)
+    } else {
+        count
+    }
+}
+
+// low, raised to the least f of the layer if that is greater, no width mark stands, and some nodes are left.
+fn raised(layer: &[u64], w: usize, marked: bool, count: usize, low: u64) -> u64
+    requires { ⌜ Layer w count (now layer) × (w ≤ 4096) ⌝ }
+    ensures { λ r. ⌜ Raises (now (layer .entry)) w marked count low r ⌝ }
+{
+    if marked {
+        return low;
+    }
+    if count == 0 {
+        return low;
+    }
+    let slot = layer[ORDER_AT * w] as usize;
+    let f = layer[slot * SLOT_WORDS + F_AT];
+    if low < f { f } else { low }
+}
+
+// Rule 6: nodes with f not below the best go, and low rises.
+fn layer_end(words: &[u64], w: usize, round: Round) -> Round
+    requires { ⌜ Layer w (round .count) (nextOf w (now words)) × ((0 < w) × (w ≤ 4096)) ⌝ }
+    ensures { λ r. ⌜ LayerEnds (now (words .entry)) w round r ⌝ }
+{
+    let a = NEXT_AT * w;
+    let e = NEXT_END * w;
+    let progress = round.progress;
+    let best = progress.best;
+    let tally = progress.tally;
+    let marks = round.marks;
+    let found = best.found;
+    let cost = best.cost;
+    let count = round.count;
+    let left = remaining(&words[a..e], w, found, cost, count);
+    let marked = marks.width;
+    let low = progress.low;
+    let higher = raised(&words[a..e], w, marked, left, low);
+    Round {
+        count: left,
+        marks: marks,
+        improved: round.improved,
+        progress: Progress {
+            best: best,
+            low: higher,
+            tally: tally,
+        },
+    }
+}
+
+// Behind the end of layer k: makes the layer behind it current, unless the round is at its end.
+fn enter_next(words: &mut [u64], w: usize, limit: usize, k: usize, round: Round) -> Passed
+    requires { ⌜ Layer w (round .count) (nextOf w (now words)) × ((0 < w) × ((w ≤ 4096) × ((k ≤ limit) × ((limit ≤ mostSteps) × (64 * w + w * (limit + 1) ≤ length (now words)))))) ⌝ }
+    ensures { λ r. ⌜ EntersNext (now (words .entry)) (now (words .exit)) w limit k round r ⌝ }
+{
+    let count = round.count;
+    let improved = round.improved;
+    if k == limit || count == 0 || improved {
+        return Passed {
+            round: round,
+            next: Next::On,
+            more: false,
+            nodes: 0,
+        };
+    }
+    next_layer(words, w, k, count);
+    let marks = round.marks;
+    let progress = round.progress;
+    Passed {
+        round: Round {
+            count: 0,
+            marks: marks,
+            improved: improved,
+            progress: progress,
+        },
+        next: Next::On,
+        more: true,
+        nodes: count,
+    }
+}
+
+// Takes the n nodes of layer k, ends the layer, and makes the layer behind it current where the round has one.
+pub fn pass_layer(
+    words: &mut [u64],
+    plan: &mut [u8],
+    model: &[u8],
+    outline: &[u64],
+    w: usize,
+    budget: u64,
+    limit: usize,
+    k: usize,
+    n: usize,
+    round: Round,
+) -> Passed
+    requires { ⌜ Ready (now model) (now outline) (now words) (now plan) w limit k n round × ((round .count ≡ 0) × (64 * w + w * (limit + 1) ≤ length (now words))) ⌝ }
+    ensures { λ r. ⌜ PassesLayer (now (model .entry)) (now (outline .entry)) (now (words .entry)) (now (words .exit)) (now (plan .entry)) (now (plan .exit)) w budget limit k n round r ⌝ }
+{
+    let x = layer(words, plan, model, outline, w, budget, limit, k, n, round);
+    let after = x.round;
+    let next = x.next;
+    match next {
+        Next::On => {
+            let end = layer_end(words, w, after);
+            enter_next(words, w, limit, k, end)
+        }
+        Next::Over(e) => Passed {
+            round: after,
+            next: Next::Over(e),
+            more: false,
+            nodes: 0,
+        },
+    }
+}

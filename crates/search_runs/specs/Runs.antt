@@ -1,0 +1,41 @@
+-- What is promised of a judgement and of a run in code: equations with the definition's rules 1 and 7.
+use Prim.Native.Nat.{ℕ, suc, _≤_, _<_}
+use mathlib.Core.Path.{_≡_}
+use mathlib.Core.Bool.{Bool}
+use mathlib.Core.List.{List}
+use mathlib.Core.Option.{none}
+use lib.ListN.{length}
+use Rattle.model.specs.System.{Costs, System}
+use Rattle.model.specs.Meaning.{State}
+use Rattle.model.specs.Steps.{originOf}
+use Rattle.search.specs.Search.{Node, After, again, ended, decided, root}
+use Rattle.search.specs.Search as S
+use Rattle.search.specs.Run.{widerUpTo}
+use Rattle.outline.specs.Outline.{modelOf}
+use Rattle.steps.specs.InBytes.{systemIn}
+use Rattle.steps.specs.Follow.{costsIn}
+use Rattle.search_paths.specs.Routes.{pathBy}
+use Rattle.search_visits.specs.declared.work.Round.{Round}
+use Rattle.search_visits.specs.Work.{verdictOf, progressOf, roundOf, endingOf, EndsInside}
+use Rattle.search_runs.specs.declared.judges.Judgement.{Judgement}
+use Rattle.search_runs.specs.declared.judges.Judgement.the-variants as J
+use Rattle.search_runs.specs.declared.Stop.{Stop}
+
+-- rule 7
+unfoldable pub judgementOf : (K : Costs ℕ) (M : System State ℕ) → Judgement → S.Progress ℕ → After K M
+judgementOf K M J.Again p = again p
+judgementOf K M (J.Ended v) p = ended (record { ending = decided (verdictOf v); progress = p })
+
+-- rule 7 of a round that ended, whatever it kept, as the number of nodes kept is all that counts
+pub record Judges (atWidest : Bool) (x : Round) (j : Judgement) : Type 0 where
+  pub same : (bytes plan : List ℕ) (kept : List (Node State ℕ)) → length kept ≡ x .count
+      → S.judge (costsIn bytes) (systemIn bytes) atWidest (roundOf kept plan x) ≡ judgementOf (costsIn bytes) (systemIn bytes) j (progressOf plan (x .progress))
+
+-- the rounds from the first on, h being the target's bound: the tally has their number and the last width
+pub record Runs (bytes words′ plan′ : List ℕ) (widest budget limit h : ℕ) (y : Stop) : Type 0 where
+  pub best-fits : y .progress .best .length ≤ limit
+  pub some-width : 0 < y .progress .tally .width
+  pub narrow : y .progress .tally .width ≤ widest
+  pub inside : EndsInside (y .progress .tally .width) limit (y .layer) (y .ending)
+  pub same : S.rounds (costsIn bytes) (systemIn bytes) (suc budget) budget limit 1 (widerUpTo widest) 1 (root (costsIn bytes) (systemIn bytes) (originOf (modelOf bytes)) h) (record { best = none; low = h; expansions = 0 })
+      ≡ S.answerOf (costsIn bytes) (systemIn bytes) (endingOf (pathBy words′ (y .progress .tally .width) (y .layer)) (y .ending)) (y .progress .tally .rounds) (y .progress .tally .width) (progressOf plan′ (y .progress))

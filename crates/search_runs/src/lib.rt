@@ -1,0 +1,179 @@
+// The rounds of a run, at widths 1, 2, 4 up to the widest, each judged by rule 7.
+
+pub mod judges;
+
+ghost use mathlib.Core.Path.{_≡_};
+ghost use mathlib.Core.Bool.{true};
+ghost use Prim.Native.Nat.{_+_, _≤_, _<_, _^_};
+ghost use Rattle.search.specs.Run.{isWidth};
+ghost use Rattle.steps.specs.InBytes.{Outlined};
+ghost use Rattle.search_rounds.specs.Rounds.{RoomFor};
+ghost use Rattle.search_runs.specs.Runs.{Runs};
+ghost use Rattle.search_runs.specs.Widths.{widthBehind, beginsAt, RoundJudged};
+use crate::judges::Judgement;
+use crate::judges::judge;
+use search_rounds::round;
+use search_tally::Tally;
+use search_tally::begun;
+use search_visits::work::Best;
+use search_visits::work::Ending;
+use search_visits::work::Next;
+use search_visits::work::Progress;
+use search_visits::work::Verdict;
+
+// A run that is over, in this layer.
+pub struct Stop {
+    pub ending: Ending,
+    pub progress: Progress,
+    pub layer: usize,
+}
+
+// What a round leaves, with rule 7 applied: On, another round follows; or the run is over, in this layer.
+pub struct Judged {
+    pub next: Next,
+    pub progress: Progress,
+    pub layer: usize,
+}
+
+// The next width: twice this one, the widest again at the widest.
+fn next_width(width: usize, widest: usize) -> usize
+    requires { ⌜ width ≤ 4096 ⌝ }
+    ensures { λ r. ⌜ r ≡ widthBehind widest width ⌝ }
+{
+    if width == widest { width } else { 2 * width }
+}
+
+// What lasts, once a round of this width has begun.
+fn begin(progress: Progress, width: usize) -> Progress
+    requires { ⌜ progress .tally .rounds + 1 < 2 ^ 64 ⌝ }
+    ensures { λ r. ⌜ r ≡ beginsAt width progress ⌝ }
+{
+    let best = progress.best;
+    let tally = progress.tally;
+    let more = begun(tally, width as u64);
+    Progress {
+        best: best,
+        low: progress.low,
+        tally: more,
+    }
+}
+
+// A round of this width, and what follows it.
+fn judged_round(
+    words: &mut [u64],
+    plan: &mut [u8],
+    model: &[u8],
+    outline: &[u64],
+    widest: usize,
+    budget: u64,
+    limit: usize,
+    h: u64,
+    width: usize,
+    progress: Progress,
+) -> Judged
+    requires { ⌜ Outlined (now model) (now outline) × (RoomFor (now words) (now plan) width limit × (progress .best .length ≤ limit)) ⌝ }
+    ensures { λ r. ⌜ RoundJudged (now (model .entry)) (now (words .exit)) (now (plan .entry)) (now (plan .exit)) widest budget limit h width progress r ⌝ }
+{
+    let x = round(
+        words,
+        plan,
+        model,
+        outline,
+        width,
+        budget,
+        limit,
+        h,
+        progress,
+    );
+    let ended = x.round;
+    let after = ended.progress;
+    let next = x.next;
+    let layer = x.layer;
+    match next {
+        Next::Over(e) => Judged {
+            next: Next::Over(e),
+            progress: after,
+            layer: layer,
+        },
+        Next::On => match judge(ended, width == widest) {
+            Judgement::Again => Judged {
+                next: Next::On,
+                progress: after,
+                layer: layer,
+            },
+            Judgement::Ended(v) => Judged {
+                next: Next::Over(Ending::Decided(v)),
+                progress: after,
+                layer: layer,
+            },
+        },
+    }
+}
+
+// The rounds from the target on, whose bound is h.
+pub fn rounds(
+    words: &mut [u64],
+    plan: &mut [u8],
+    model: &[u8],
+    outline: &[u64],
+    widest: usize,
+    budget: u64,
+    limit: usize,
+    h: u64,
+) -> Stop
+    requires { ⌜ Outlined (now model) (now outline) × (RoomFor (now words) (now plan) widest limit × ((isWidth widest ≡ true) × (budget < 2 ^ 32))) ⌝ }
+    ensures { λ r. ⌜ Runs (now (model .entry)) (now (words .exit)) (now (plan .exit)) widest budget limit h r ⌝ }
+{
+    let first = Progress {
+        best: Best {
+            found: false,
+            cost: 0,
+            length: 0,
+        },
+        low: h,
+        tally: Tally {
+            expansions: 0,
+            rounds: 0,
+            width: 0,
+        },
+    };
+    let mut progress = begin(first, 1);
+    let mut most = budget + 1;
+    while 0 < most {
+        let width = progress.tally.width as usize;
+        let x = judged_round(
+            words,
+            plan,
+            model,
+            outline,
+            widest,
+            budget,
+            limit,
+            h,
+            width,
+            progress,
+        );
+        let after = x.progress;
+        let next = x.next;
+        let layer = x.layer;
+        match next {
+            Next::On => {
+                progress = begin(after, next_width(width, widest));
+                most -= 1;
+            }
+            Next::Over(e) => {
+                return Stop {
+                    ending: e,
+                    progress: after,
+                    layer: layer,
+                };
+            }
+        }
+    }
+    // never reached: a round that is followed by another has expanded a state
+    Stop {
+        ending: Ending::Decided(Verdict::BudgetSpent),
+        progress: progress,
+        layer: 0,
+    }
+}

@@ -1,0 +1,316 @@
+-- One node of a layer: the parts of a visit on the records that stand for the definition's, and what they leave of the working words.
+use Prim.Native.Nat.{ℕ, zero, suc, _+_, _*_, _-_, _≤_, _<_, _^_}
+use mathlib.Core.Path.{_≡_, refl, sym, ap, _∙_, subst}
+use mathlib.Core.Bool.{Bool, true, false, cond, _||_}
+use mathlib.Core.List.{List, _++_, reverse, reverse-reverse}
+use mathlib.Core.Option.{none, some}
+use native.Mathlib.Decide.{decLt}
+use native.Mathlib.Omega.{arith}
+use native.Mathlib.Numerals.{add-one}
+use borrow.Author.Tests.{lt-ltb, le-ltb, le-leb, lt-leb}
+use lib.ListN.{length, take, drop, getD, length-reverse, length-drop, length-take}
+use lib.Seq.{length-take-le, take-at}
+use Rattle.laws.specs.Lists.{All}
+use Rattle.model.specs.Numbers.{rangeEnd}
+use Rattle.model.specs.System.{System}
+use Rattle.model.specs.Syntax.{Rule, Variable}
+use Rattle.model.specs.Meaning.{State}
+use Rattle.model.specs.Steps.{costsOf}
+use Rattle.search.specs.Search.{Node, Result, on, less, belowBest, expand, newBest, improvedBy, routeTo, reached, atLimit, counted, advance, refuse, visit}
+use Rattle.search.specs.Search as S
+use Rattle.beam_order.specs.Slots.{slotWords, gAt, fAt, wordsIn}
+use Rattle.outline.specs.Outline.{modelOf}
+use Rattle.steps.specs.declared.answers.StatusAnswer.the-variants as A
+use Rattle.steps.specs.Answers.{statusAnswer}
+use Rattle.steps.specs.InBytes.{systemIn, stateIn}
+use Rattle.steps.specs.Follow.{costsIn}
+use Rattle.steps.proofs.Following.{is-base, is-unfinished, no-status}
+use Rattle.beam.specs.Nodes.{nodeAt}
+use Rattle.beam.specs.Layers.{nodesOf, Indexed, roundWith}
+use Rattle.beam.proofs.Mapped.{not-at-most}
+use Rattle.beam.proofs.Whole.{put, put-in}
+use Rattle.beam.proofs.Moves.{width-positive}
+use Rattle.search_expansion.specs.Expansion.{BestIs, belowCost, trialResult, Grows}
+use Rattle.search_paths.specs.Routes.{pathBy, nextOf, nodesFrom}
+use Rattle.search_paths.proofs.Tracing.{path-length}
+use Rattle.search_tally.specs.Tally.{oneMore}
+use Rattle.search_paths.proofs.Gathering.{paths-kept, making-first, making-last}
+use Rattle.search_visits.specs.Work.{bestOf, progressOf, roundOf, roundBegun, endingOf, resultOf, verdictOf, roundIn, Within, Ready, Inside, Leaves}
+use Rattle.search_visits.specs.Visits.{NewBest, Reached, Limited, Counted, Told, Met, Keeps}
+use Rattle.search_expansion.specs.declared.trials.Trial.the-variants as T
+use Rattle.search_tally.specs.declared.Tally.{Tally}
+use Rattle.search_expansion.specs.declared.trials.Expanded.{Expanded}
+use Rattle.search_visits.specs.declared.work.Verdict.the-variants as W
+use Rattle.search_visits.specs.declared.work.Best.{Best}
+use Rattle.search_visits.specs.declared.work.Round.{Round}
+use Rattle.search_visits.specs.declared.work.Ending.the-variants as E
+use Rattle.search_visits.specs.declared.work.Next.the-variants as N
+use Rattle.search_visits.specs.declared.work.Visited.{Visited}
+
+-- ---- the best plan
+
+below-best-by : (rule : Rule) (M : System State ℕ) (found : Bool) (c f : ℕ) (p : List ℕ) → belowBest (costsOf rule) M f (cond found (some (record { cost = c; path = p })) none) ≡ belowCost found c f
+unfolding belowBest less costsOf belowCost
+below-best-by rule M true c f p = not-at-most f c
+below-best-by rule M false c f p = refl
+
+pub below-best-is : (rule : Rule) (M : System State ℕ) (plan : List ℕ) (b : Best) (f : ℕ) → belowBest (costsOf rule) M f (bestOf plan b) ≡ belowCost (b .found) (b .cost) f
+unfolding bestOf
+below-best-is rule M plan b f = below-best-by rule M (b .found) (b .cost) f (reverse (take (b .length) plan))
+
+best-by : (found : Bool) (c : ℕ) (p : List ℕ) → BestIs found c (cond found (some (record { cost = c; path = p })) none)
+best-by true c p = (refl, refl)
+best-by false c p = refl
+
+pub best-is : (plan : List ℕ) (b : Best) → BestIs (b .found) (b .cost) (bestOf plan b)
+unfolding bestOf
+best-is plan b = best-by (b .found) (b .cost) (reverse (take (b .length) plan))
+
+-- ---- rule 2: a new best
+
+-- the round with a plan of k steps and cost g for its best
+abbrev pub better : (k g : ℕ) → Round → Round
+better k g x = record { count = x .count; marks = x .marks; improved = true; progress = record { best = record { found = true; cost = g; length = k }; low = x .progress .low; tally = x .progress .tally } }
+
+module _ (k g : ℕ) (x : Round) where
+  pub best-cheapest : g ≤ x .progress .low → x .progress .low ≤ g → NewBest k g x (record { round = better k g x; next = N.Over (E.Decided W.Cheapest) })
+  unfolding newBest improvedBy routeTo roundOf progressOf bestOf resultOf endingOf verdictOf costsOf
+  best-cheapest a b = record { count = refl; steps = refl; round-same = refl; inside = λ w limit j. tt {0}; same = λ rule M kept plan plan′ path n e p. rw (e, p, le-leb g (x .progress .low) a, le-leb (x .progress .low) g b) }
+
+  pub best-contradicted : g ≤ x .progress .low → g < x .progress .low → NewBest k g x (record { round = better k g x; next = N.Over (E.Decided W.Contradicted) })
+  unfolding newBest improvedBy routeTo roundOf progressOf bestOf resultOf endingOf verdictOf costsOf
+  best-contradicted a b = record { count = refl; steps = refl; round-same = refl; inside = λ w limit j. tt {0}; same = λ rule M kept plan plan′ path n e p. rw (e, p, le-leb g (x .progress .low) a, lt-leb (x .progress .low) g b) }
+
+  pub best-on : x .progress .low < g → NewBest k g x (record { round = better k g x; next = N.On })
+  unfolding newBest improvedBy routeTo roundOf progressOf bestOf resultOf costsOf
+  best-on a = record { count = refl; steps = refl; round-same = refl; inside = λ w limit j. tt {0}; same = λ rule M kept plan plan′ path n e p. rw (e, p, lt-leb g (x .progress .low) a) }
+
+-- ---- rule 3: at the limit, counting, and the answer of an expansion
+
+pub limited : (f : ℕ) (x : Round) (t : Bool) → t ≡ (x .marks .length || belowCost (x .progress .best .found) (x .progress .best .cost) f)
+    → Limited f x (record { count = x .count; marks = record { width = x .marks .width; length = t }; improved = x .improved; progress = x .progress })
+unfolding atLimit roundOf progressOf
+limited f x t e = record { count = refl; steps = refl; round-same = refl; same = λ rule M kept plan n q. rw (e, q, below-best-is rule M plan (x .progress .best) f) }
+
+pub counted-one : (x : Round) (t : Tally) → t ≡ oneMore (x .progress .tally) → Counted x (record { count = x .count; marks = x .marks; improved = x .improved; progress = record { best = x .progress .best; low = x .progress .low; tally = t } })
+unfolding counted roundOf progressOf
+counted-one x t e = rw e (record { best = refl; round-same = refl; same = λ rule M kept plan. rw (add-one (x .progress .tally .expansions)) })
+
+module _ (g i : ℕ) (z : Expanded) (x : Round) (t : Bool) (m : t ≡ (x .marks .width || z .cut)) where
+  abbrev after : Round
+  after = record { count = z .count; marks = record { width = t; length = x .marks .length }; improved = x .improved; progress = x .progress }
+
+  pub told-on : z .trial ≡ T.On → Told g i z x (record { round = after; next = N.On })
+  unfolding trialResult roundWith roundOf resultOf
+  told-on e = record { count = refl; steps = refl; round-same = refl; inside = λ w limit k s d h. tt {0}; same = λ before kept plan path n p q. rw (e, m) }
+
+  pub told-before : {r : ℕ} → z .trial ≡ T.Before r → Told g i z x (record { round = after; next = N.Over (E.At r g i) })
+  unfolding trialResult roundWith roundOf resultOf endingOf
+  told-before e = record { count = refl; steps = refl; round-same = refl; inside = λ w limit k s d h. (s, omega arith); same = λ before kept plan path n p q. rw (e, p, q) }
+
+  pub told-at : {r c u : ℕ} → z .trial ≡ T.At r c u → Told g i z x (record { round = after; next = N.Over (E.Beyond r c i u) })
+  unfolding trialResult roundWith roundOf resultOf endingOf
+  told-at e = record { count = refl; steps = refl; round-same = refl; inside = λ w limit k s d h. (s, rw e at h, d); same = λ before kept plan path n p q. rw (e, q) }
+
+-- ---- rule 2: a base state
+
+module _ (words plan : List ℕ) (w k i g : ℕ) (x : Round) where
+  test : (rule : Rule) (M : System State ℕ) (n : Node State ℕ) → n .g ≡ g → {t : Bool} → t ≡ belowCost (x .progress .best .found) (x .progress .best .cost) g → belowBest (costsOf rule) M (n .g) (bestOf plan (x .progress .best)) ≡ t
+  test rule M n p b = below-best-is rule M plan (x .progress .best) (n .g) ∙ ap (belowCost (x .progress .best .found) (x .progress .best .cost)) p ∙ sym b
+
+  pub reached-best : (plan′ : List ℕ) (y : Visited) → true ≡ belowCost (x .progress .best .found) (x .progress .best .cost) g → take k plan′ ≡ reverse (pathBy words w k i) → NewBest k g x y → Reached words plan plan′ w k i g x y
+  unfolding reached roundOf progressOf
+  reached-best plan′ y b e h =
+      record {
+        count = h .count;
+        steps = λ limit a o. omega (arith, h .steps);
+        round-same = h .round-same;
+        inside = h .inside;
+        same = λ rule M kept n p q.
+            rw (test rule M n p b)
+            (h .same rule M kept plan plan′ (pathBy words w k) n p (q ∙ sym (ap reverse e ∙ reverse-reverse (pathBy words w k i))));
+      }
+
+  pub reached-worse : false ≡ belowCost (x .progress .best .found) (x .progress .best .cost) g → Reached words plan plan w k i g x (record { round = x; next = N.On })
+  unfolding reached roundOf progressOf resultOf
+  reached-worse b =
+      record {
+        count = refl;
+        steps = λ limit a o. o;
+        round-same = refl;
+        inside = λ v limit j. tt {0};
+        same = λ rule M kept n p q. rw (test rule M n p b);
+      }
+
+-- ---- the working words
+
+-- a held layer in the making has its room
+pub room : {outline : List ℕ} {w n : ℕ} (words : List ℕ) → Indexed outline w n (nextOf w words) → 46 * w ≤ length words
+room {outline} {w} {n} words h = omega (arith, h .long, width-positive h, length-take (46 * w - 20 * w) (drop (20 * w) words), length-drop (20 * w) words)
+
+-- ---- what is left of the working words and the round, by each way of a visit
+
+module _ (bytes outline words node : List ℕ) (w limit k i : ℕ) (x : Round) (m : Met bytes outline words node w limit k i x) where
+  abbrev here : Node State ℕ
+  here = nodeAt (modelOf bytes .variables) (pathBy words w k) i node
+
+  -- the words stay, and so many nodes are in the making
+  stays : (plan plan′ : List ℕ) (y : Visited) (rule : S.Round State ℕ → Result (S.Round State ℕ) ℕ) → y .round .count ≡ x .count → y .round .progress .best .length ≤ limit → roundBegun (y .round .progress) ≡ roundBegun (x .progress) → Inside w limit k (y .next)
+      → rule (roundIn bytes words plan w k x) ≡ resultOf (pathBy words w k) (y .next) (roundOf (nodesOf w (nextOf w words) (modelOf bytes .variables) (pathBy words w k) (x .count)) plan′ (y .round))
+      → Leaves bytes outline words words plan plan′ w limit k x y rule
+  unfolding roundOf
+  stays plan plan′ y rule n b o s e = record { held = rw n (m .held); best-fits = b; round-same = o; inside = s; current = refl; rows = refl; same = rw n e }
+
+  -- rule 3: at the limit
+  pub limit-leaves : (budget : ℕ) (x′ : Round) → k ≡ limit → Limited (getD node fAt 0) x x′ → Keeps bytes outline words words w limit k x (record { round = x′; next = N.On }) (advance (costsIn bytes) (systemIn bytes) budget w (limit - k) here)
+  unfolding advance resultOf nodeAt
+  limit-leaves budget x′ a h =
+      let z : limit - k ≡ 0 = omega arith in
+      record {
+        leaves = λ plan. stays plan plan (record { round = x′; next = N.On }) (advance (costsIn bytes) (systemIn bytes) budget w (limit - k) here) (h .count) (omega (arith, h .steps, m .best-fits)) (h .round-same) (tt {0})
+            (rw z (ap on (h .same (modelOf bytes .rule) (systemIn bytes) (nodesOf w (nextOf w words) (modelOf bytes .variables) (pathBy words w k) (x .count)) plan here refl)));
+      }
+
+  -- rule 3: the budget is used up
+  pub spent-leaves : (budget : ℕ) → k < limit → budget ≤ x .progress .tally .expansions → Keeps bytes outline words words w limit k x (record { round = x; next = N.Over (E.Decided W.BudgetSpent) }) (advance (costsIn bytes) (systemIn bytes) budget w (limit - k) here)
+  unfolding advance resultOf endingOf verdictOf roundOf progressOf
+  spent-leaves budget a b =
+      let z : limit - k ≡ suc (limit - k - 1) = omega arith in
+      record {
+        leaves = λ plan. stays plan plan (record { round = x; next = N.Over (E.Decided W.BudgetSpent) }) (advance (costsIn bytes) (systemIn bytes) budget w (limit - k) here) refl (m .best-fits) refl (tt {0})
+            (rw (z, le-ltb (x .progress .tally .expansions) budget b));
+      }
+
+  -- rule 3: one that is expanded
+  pub expanded-leaves : (budget : ℕ) (words′ : List ℕ) (y : Visited) → k < limit → x .progress .tally .expansions < budget
+      → Keeps bytes outline words words′ w limit k x y (λ q. expand (costsIn bytes) (systemIn bytes) w (systemIn bytes .transitions) 0 here (counted (costsIn bytes) (systemIn bytes) q))
+      → Keeps bytes outline words words′ w limit k x y (advance (costsIn bytes) (systemIn bytes) budget w (limit - k) here)
+  unfolding advance roundOf progressOf
+  expanded-leaves budget words′ y a b h =
+      let z : limit - k ≡ suc (limit - k - 1) = omega arith in
+      record { leaves = λ plan. let l = h .leaves plan in record { held = l .held; best-fits = l .best-fits; round-same = l .round-same; inside = l .inside; current = l .current; rows = l .rows; same = rw (z, lt-ltb (x .progress .tally .expansions) budget b) (l .same) } }
+
+  -- rule 4: what an expansion leaves
+  module _ (ys : List ℕ) (less : k < limit) (l : length ys ≡ length (nextOf w words)) (z : Expanded)
+      (grows : Grows bytes outline w (x .count) i (x .progress .best .found) (x .progress .best .cost) node (nextOf w words) ys z (λ n q. expand (costsIn bytes) (systemIn bytes) w (systemIn bytes .transitions) 0 n q))
+      (x′ : Round) (one : Counted x x′) (y : Visited) (told : Told (getD node gAt 0) i z x′ y)
+    where
+      abbrev words′ : List ℕ
+      words′ = put (20 * w) (46 * w) words ys
+
+      abbrev path : ℕ → List ℕ
+      path = pathBy words w k
+
+      abbrev kept : List (Node State ℕ)
+      kept = nodesOf w (nextOf w words) (modelOf bytes .variables) path (x .count)
+
+      abbrev kept′ : List (Node State ℕ)
+      kept′ = nodesOf w ys (modelOf bytes .variables) path (z .count)
+
+      inside-it : nextOf w words′ ≡ ys
+      inside-it = put-in (20 * w) (46 * w) words ys (omega arith) (room words (m .held)) l
+
+      current′ : take (20 * w) words′ ≡ take (20 * w) words
+      current′ = making-first words ys w (room words (m .held)) l
+
+      rows′ : drop (46 * w) words′ ≡ drop (46 * w) words
+      rows′ = making-last words ys w (room words (m .held)) l
+
+      grown : (plan : List ℕ) → expand (costsIn bytes) (systemIn bytes) w (systemIn bytes .transitions) 0 here (counted (costsIn bytes) (systemIn bytes) (roundOf kept plan x)) ≡ resultOf path (y .next) (roundOf kept′ plan (y .round))
+      unfolding counted roundOf progressOf nodeAt
+      grown plan =
+          grows .same path (counted (costsIn bytes) (systemIn bytes) (roundOf kept plan x)) refl (best-is plan (x .progress .best))
+          ∙ ap (λ (r : S.Round State ℕ). trialResult (z .trial) here (roundWith kept′ (z .cut) r)) (one .same (modelOf bytes .rule) (systemIn bytes) kept plan)
+          ∙ told .same kept kept′ plan path here refl refl
+
+      pub grown-leaves : Keeps bytes outline words words′ w limit k x y (λ q. expand (costsIn bytes) (systemIn bytes) w (systemIn bytes .transitions) 0 here (counted (costsIn bytes) (systemIn bytes) q))
+      unfolding roundOf
+      grown-leaves =
+          record {
+            leaves = λ plan.
+                record {
+                  held = rw (told .count, inside-it) (grows .held);
+                  best-fits = omega (arith, told .steps, ap (λ (b : Best). b .length) (one .best), m .best-fits);
+                  round-same = told .round-same ∙ one .round-same;
+                  inside = told .inside w limit k (m .slot) less (grows .numbered);
+                  current = current′;
+                  rows = rows′;
+                  same = rw (told .count, inside-it, paths-kept words words′ w (width-positive (m .held)) current′ rows′ k) (grown plan);
+                };
+          }
+
+  -- ---- the three answers of the status
+
+  abbrev rest : (budget : ℕ) → S.Round State ℕ → Result (S.Round State ℕ) ℕ
+  rest budget = visit (costsIn bytes) (systemIn bytes) budget w (limit - k) (systemIn bytes .status (here .state)) here
+
+  pub base-leaves : (budget : ℕ) (plan plan′ : List ℕ) (y : Visited) → A.Base ≡ statusAnswer (systemIn bytes .status (stateIn bytes (take 16 node))) → Reached words plan plan′ w k i (getD node gAt 0) x y → Leaves bytes outline words words plan plan′ w limit k x y (rest budget)
+  unfolding visit nodeAt
+  base-leaves budget plan plan′ y e h =
+      stays plan plan′ y (rest budget) (h .count) (h .steps limit (m .depth) (m .best-fits)) (h .round-same) (h .inside w limit k)
+      (rw (is-base _ (sym e)) (h .same (modelOf bytes .rule) (systemIn bytes) (nodesOf w (nextOf w words) (modelOf bytes .variables) (pathBy words w k) (x .count)) here refl refl))
+
+  pub advance-leaves : (budget : ℕ) (words′ plan : List ℕ) (y : Visited) → A.Unfinished ≡ statusAnswer (systemIn bytes .status (stateIn bytes (take 16 node)))
+      → Keeps bytes outline words words′ w limit k x y (advance (costsIn bytes) (systemIn bytes) budget w (limit - k) here) → Leaves bytes outline words words′ plan plan w limit k x y (rest budget)
+  unfolding visit nodeAt
+  advance-leaves budget words′ plan y e h =
+      let l = h .leaves plan in
+      record { held = l .held; best-fits = l .best-fits; round-same = l .round-same; inside = l .inside; current = l .current; rows = l .rows; same = rw (is-unfinished _ (sym e)) (l .same) }
+
+  pub trouble-leaves : (budget : ℕ) (plan : List ℕ) {t : ℕ} → A.Trouble t ≡ statusAnswer (systemIn bytes .status (stateIn bytes (take 16 node))) → Leaves bytes outline words words plan plan w limit k x (record { round = x; next = N.Over (E.At t (getD node gAt 0) i) }) (rest budget)
+  unfolding visit refuse routeTo nodeAt resultOf endingOf roundOf
+  trouble-leaves budget plan {t} e = stays plan plan (record { round = x; next = N.Over (E.At t (getD node gAt 0) i) }) (rest budget) refl (m .best-fits) refl (m .slot, m .depth) (rw (no-status _ (sym e)))
+
+-- ---- a path that was written
+
+pub traced : (words plan plan′ : List ℕ) (w k i : ℕ) → plan′ ≡ reverse (pathBy words w k i) ++ drop k plan → take k plan′ ≡ reverse (pathBy words w k i)
+traced words plan plan′ w k i e = ap (take k) e ∙ take-at (reverse (pathBy words w k i)) (drop k plan) k (length-reverse (pathBy words w k i) ∙ path-length words w k i)
+
+-- ---- the node in slot i
+
+module _ (vs : List Variable) (path : ℕ → List ℕ) (words : List ℕ) where
+  -- what holds of n nodes from slot j on
+  pub all-from : (P : Node State ℕ → Type 0) (n j i : ℕ) → j ≤ i → i < j + n → All P (nodesFrom vs path words n j) → P (nodeAt vs path i (wordsIn words i))
+  unfolding nodesFrom
+  all-from P zero j i lo hi a = absurd (omega arith)
+  all-from P (suc n) j i lo hi a = by-place (decLt j i) (λ h. all-from P n (suc j) i h (omega arith) (a .1))
+    where
+      by-place : Dec (j < i) → (j < i → P (nodeAt vs path i (wordsIn words i))) → P (nodeAt vs path i (wordsIn words i))
+      by-place (yes h) later = later h
+      by-place (no h) later =
+          let z : i ≡ j = omega arith in
+          rw z (a .0)
+
+module _ {bytes outline words plan : List ℕ} {w limit k n : ℕ} {x : Round} (r : Ready bytes outline words plan w limit k n x) (i : ℕ) (h : i < n) where
+  pub slot-room : i * slotWords + slotWords ≤ length words
+  slot-room = omega (arith, room words (r .held), r .few-nodes)
+
+  slot-long : length (wordsIn words i) ≡ slotWords
+  unfolding wordsIn
+  slot-long = length-take-le slotWords (drop (i * slotWords) words) (omega (arith, slot-room, length-drop (i * slotWords) words))
+
+  slot-small : getD (wordsIn words i) gAt 0 < 2 ^ 63
+  unfolding nodeAt
+  slot-small =
+      let s : getD (wordsIn words i) gAt 0 ≤ k * rangeEnd = all-from (modelOf bytes .variables) (pathBy words w k) words (Within k) n 0 i (omega arith) (omega arith) (r .costs) in
+      omega (arith, s, r .depth, r .few-steps)
+
+  pub met-at : (node : List ℕ) → node ≡ wordsIn words i → Met bytes outline words node w limit k i x
+  met-at node e =
+      record {
+        outlined = r .outlined;
+        held = r .held;
+        narrow = r .narrow;
+        depth = r .depth;
+        few-steps = r .few-steps;
+        best-fits = r .best-fits;
+        slot = omega (arith, r .few-nodes);
+        long = rw e slot-long;
+        small = rw e slot-small;
+      }
+
+pub visited-at : (bytes outline words words′ plan plan′ : List ℕ) (w budget limit k i : ℕ) (x : Round) (y : Visited) (node : List ℕ) → node ≡ wordsIn words i
+    → Leaves bytes outline words words′ plan plan′ w limit k x y (visit (costsIn bytes) (systemIn bytes) budget w (limit - k) (systemIn bytes .status (nodeAt (modelOf bytes .variables) (pathBy words w k) i node .state)) (nodeAt (modelOf bytes .variables) (pathBy words w k) i node))
+    → Leaves bytes outline words words′ plan plan′ w limit k x y (visit (costsIn bytes) (systemIn bytes) budget w (limit - k) (systemIn bytes .status (nodeAt (modelOf bytes .variables) (pathBy words w k) i (wordsIn words i) .state)) (nodeAt (modelOf bytes .variables) (pathBy words w k) i (wordsIn words i)))
+visited-at bytes outline words words′ plan plan′ w budget limit k i x y node e l =
+    subst (λ (s : List ℕ). Leaves bytes outline words words′ plan plan′ w limit k x y (visit (costsIn bytes) (systemIn bytes) budget w (limit - k) (systemIn bytes .status (nodeAt (modelOf bytes .variables) (pathBy words w k) i s .state)) (nodeAt (modelOf bytes .variables) (pathBy words w k) i s))) e l

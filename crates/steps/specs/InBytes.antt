@@ -1,0 +1,25 @@
+-- The model that stands in bytes as a system, and the states that words stand for in it.
+use Prim.Native.Nat.{ℕ, _≤_}
+use mathlib.Core.List.{List}
+use lib.ListN.{length}
+use Rattle.model.specs.Numbers.{rangeEnd, mostVariables}
+use Rattle.model.specs.System.{System}
+use Rattle.model.specs.Meaning.{State}
+use Rattle.model.specs.Steps.{systemOf}
+use Rattle.words.specs.States.{stateOf}
+use Rattle.outline.specs.Outline.{outlineWords, modelOf, Outlines}
+
+-- the words outline the model of the bytes
+pub record Outlined (bytes words : List ℕ) : Type 0 where
+  pub outlines : Outlines bytes words (modelOf bytes)
+  pub long : outlineWords ≤ length words
+
+abbrev pub systemIn : (bytes : List ℕ) → System State ℕ
+systemIn bytes = systemOf rangeEnd (modelOf bytes)
+
+-- a word for each variable that a model may have
+abbrev pub StateRoom : (words : List ℕ) → Type 0
+StateRoom words = mostVariables ≤ length words
+
+abbrev pub stateIn : (bytes words : List ℕ) → State
+stateIn bytes words = stateOf (modelOf bytes .variables) words

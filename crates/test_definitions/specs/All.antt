@@ -1,0 +1,20 @@
+-- All cases together.
+use mathlib.Core.List.{List, _++_}
+use Rattle.test_definitions.specs.Case.{Case}
+use Rattle.test_definitions.specs.Reading1 as Reading1
+use Rattle.test_definitions.specs.Reading2 as Reading2
+use Rattle.test_definitions.specs.Reading3 as Reading3
+use Rattle.test_definitions.specs.Reading4 as Reading4
+use Rattle.test_definitions.specs.Reading5 as Reading5
+use Rattle.test_definitions.specs.Reading6 as Reading6
+use Rattle.test_definitions.specs.Meaning1 as Meaning1
+use Rattle.test_definitions.specs.Meaning2 as Meaning2
+use Rattle.test_definitions.specs.Plans1 as Plans1
+use Rattle.test_definitions.specs.Plans2 as Plans2
+use Rattle.test_definitions.specs.Searches1 as Searches1
+use Rattle.test_definitions.specs.Searches2 as Searches2
+use Rattle.test_definitions.specs.Searches3 as Searches3
+use Rattle.test_definitions.specs.Searches4 as Searches4
+
+abbrev pub cases : List Case
+cases = Reading1.cases ++ Reading2.cases ++ Reading3.cases ++ Reading4.cases ++ Reading5.cases ++ Reading6.cases ++ Meaning1.cases ++ Meaning2.cases ++ Plans1.cases ++ Plans2.cases ++ Searches1.cases ++ Searches2.cases ++ Searches3.cases ++ Searches4.cases

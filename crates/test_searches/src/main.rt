@@ -1,0 +1,135 @@
+// Plans the models of data/ at the settings among the arguments, and writes a line for each: the case's name, then the answer's line.
+// A case is seven arguments: its name, the model's file, the widest beam, the length limit, the budget, and the plan bytes and words lent.
+
+ghost use Prim.Native.Nat.{_≤_, _<_, _^_};
+ghost use lib.ListN.{length};
+use libc::STDOUT_FILENO;
+use line::write_answer;
+use line::write_fields;
+use search_report::answers::Outcome;
+use solver::entry::search;
+
+const ARGUMENTS: usize = 7;
+
+// The lesser number.
+fn least(a: usize, b: usize) -> usize
+    ensures { λ r. ⌜ (r ≤ a) × (r ≤ b) ⌝ }
+{
+    if a < b { a } else { b }
+}
+
+// The number of these digits, as far as it is below 2^33.
+fn number(digits: &[u8]) -> u64 {
+    let mut n: u64 = 0;
+    let mut i: usize = 0;
+    while i < digits.len() {
+        if 429496729 < n {
+            return n;
+        }
+        n = 10 * n + laws::wide(digits[i]) % 16;
+        i += 1;
+    }
+    n
+}
+
+// The number that argument i says, at most 2^32 - 1.
+fn argument(i: usize) -> u32 {
+    let mut text = io::buffer();
+    let digits = os::arg(i, &mut text);
+    let n = number(&text[..digits]);
+    if n < 4294967296 { n as u32 } else { 4294967295 }
+}
+
+// Reads the file that argument i names; answers how many bytes it has.
+fn read_file(i: usize, model: &mut [u8]) -> usize
+    ensures { λ r. ⌜ r ≤ length (now (model .exit)) ⌝ }
+{
+    let mut path = io::buffer();
+    let n = os::arg(i, &mut path);
+    let fd = os::open_read(&path[..n]);
+    if fd < 0 {
+        os::fail(&path[..n]);
+        return 0;
+    }
+    let m = io::read_full(fd, model);
+    libc::close(fd);
+    m
+}
+
+// Writes the name that argument i says.
+fn write_name(i: usize) {
+    let mut name = io::buffer();
+    let n = os::arg(i, &mut name);
+    io::write_all(STDOUT_FILENO, &name[..n]);
+    io::write_all(STDOUT_FILENO, b": ");
+}
+
+// Plans a model with these buffers, and writes its line; a second one gives the fields and the path at a refusal by the state.
+fn write_search(
+    model: &[u8],
+    width: u32,
+    length: u32,
+    budget: u32,
+    plan: &mut [u8],
+    words: &mut [u64],
+) {
+    let answer = search(model, width, length, budget, plan, words);
+    write_answer(answer, plan);
+    let outcome = answer.outcome;
+    match outcome {
+        Outcome::ByState(_) => {
+            io::write_all(STDOUT_FILENO, b"  at ");
+            write_fields(answer, plan);
+        }
+        Outcome::Verdict(_) => {}
+        Outcome::ByInput(_) => {}
+    }
+}
+
+// Plans the case whose first argument is number i, with the buffers that it says.
+fn write_case(i: usize, model: &[u8], plan: &mut [u8], words: &mut [u64])
+    requires { ⌜ i < 2 ^ 32 ⌝ }
+{
+    let bytes = least(argument(i + 5) as usize, plan.len());
+    let lent = least(argument(i + 6) as usize, words.len());
+    write_search(
+        model,
+        argument(i + 2),
+        argument(i + 3),
+        argument(i + 4),
+        &mut plan[..bytes],
+        &mut words[..lent],
+    );
+}
+
+// Reads the model of the case whose first argument is number i, and plans it.
+fn run_case(i: usize, words: &mut [u64])
+    requires { ⌜ i < 2 ^ 32 ⌝ }
+{
+    let mut model = io::large_buffer();
+    let mut plan = [165u8; 300];
+    let n = read_file(i + 1, &mut model);
+    write_name(i);
+    write_case(i, &model[..n], &mut plan, words);
+}
+
+// The longest model and one too long, of bytes 0.
+fn write_longest(words: &mut [u64]) {
+    let model = [0u8; 65537];
+    let mut plan = [165u8; 300];
+    io::write_all(STDOUT_FILENO, b"the-longest: ");
+    write_search(&model[..65536], 1, 1, 0, &mut plan, words);
+    io::write_all(STDOUT_FILENO, b"too-long: ");
+    write_search(&model, 1, 1, 0, &mut plan, words);
+}
+
+fn main() {
+    let mut words = [0u64; 300000];
+    let count = least(os::arg_count(), 65536);
+    let mut i: usize = 1;
+    while i < count {
+        run_case(i, &mut words);
+        i += ARGUMENTS;
+    }
+    write_longest(&mut words);
+}
