@@ -6,10 +6,20 @@ mod chart;
 mod check;
 #[path = "command/damage.rs"]
 mod damage;
+#[path = "command/declarations.rs"]
+mod declarations;
 #[path = "command/explain.rs"]
 mod explain;
+#[path = "command/fuzz.rs"]
+mod fuzz;
+#[path = "command/long_runs.rs"]
+mod long_runs;
 #[path = "command/plan.rs"]
 mod plan;
+#[path = "command/quotation_texts.rs"]
+mod quotation_texts;
+#[path = "command/quotations.rs"]
+mod quotations;
 #[path = "command/refusals.rs"]
 mod refusals;
 #[path = "command/translate.rs"]
@@ -46,6 +56,34 @@ impl Left {
         assert!(self.errors.starts_with("repgypsum: "), "{}", self.errors);
         assert_eq!(self.errors.matches('\n').count(), 1, "{}", self.errors);
         assert!(self.errors.contains(words), "{words}: {}", self.errors);
+    }
+}
+
+impl Left {
+    /// An output, and nothing but notes on standard error.
+    fn gives(&self, status: i32, output: &str) {
+        assert_eq!((self.status, self.text().as_str()), (status, output));
+        self.only_notes();
+    }
+
+    /// Standard error has whole lines of notes, or nothing.
+    fn only_notes(&self) {
+        let note = |line: &str| line.starts_with("repgypsum: ");
+        assert!(self.errors.lines().all(note), "{}", self.errors);
+        assert!(self.errors.is_empty() || self.errors.ends_with('\n'));
+    }
+
+    /// No output, and errors of a text on standard error: the first is at this place, each with its line and a caret.
+    fn reports(&self, place: &str) {
+        assert_eq!(self.status, 2, "{}", self.errors);
+        assert!(self.output.is_empty(), "{}", self.text());
+        assert!(self.errors.starts_with(place), "{place}: {}", self.errors);
+        let lines: Vec<&str> = self.errors.lines().collect();
+        let told = lines.len() - lines.len() % 3;
+        assert!((3..=30).contains(&told), "{}", self.errors);
+        for error in lines[..told].chunks(3) {
+            assert_eq!(error[2].trim_start(), "^", "{}", self.errors);
+        }
     }
 }
 

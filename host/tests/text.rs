@@ -6,10 +6,16 @@ mod damage;
 mod deep;
 #[path = "text/errors.rs"]
 mod errors;
+#[path = "text/files.rs"]
+mod files;
 #[path = "text/forms.rs"]
 mod forms;
+#[path = "text/limits.rs"]
+mod limits;
 #[path = "text/listing.rs"]
 mod listing;
+#[path = "text/loops.rs"]
+mod loops;
 #[path = "text/names.rs"]
 mod names;
 #[path = "text/trips.rs"]

@@ -6,15 +6,15 @@ use mathlib.Core.List.{List, [], _∷_, map}
 use mathlib.Core.Option.{some, none}
 use native.Mathlib.Omega.{arith}
 use borrow.Author.Tests.{lt-ltb, le-ltb, le-leb}
-use lib.Dec.{ltb, leb}
+use lib.Dec.{ltb}
 use lib.ListN.{length, take, getD}
 use lib.Seq.{getD-take, take-take, length-take-le}
 use Rattle.laws.specs.Lists.{filter, All}
-use Rattle.model.specs.System.{System}
-use Rattle.model.specs.Syntax.{Rule, Variable}
 use Rattle.model.specs.Meaning.{State}
-use Rattle.model.specs.Steps.{costsOf}
 use Rattle.search.specs.Search.{Node, Route, less, belowBest, leastF}
+use Rattle.steps.specs.InBytes.{systemIn}
+use Rattle.steps.specs.Follow.{costsIn}
+use Rattle.steps.proofs.Promises.{cost-order}
 use Rattle.beam_order.specs.Slots.{slotWords, fAt, wordsIn, before, Sorted, more}
 use Rattle.beam_order.specs.Order.{keptIn}
 use Rattle.beam_order.proofs.Arrays.{word-in}
@@ -49,13 +49,6 @@ f-rises at (x ∷ k) zero (suc j) (more a s) l h = f-first (at x) at k j a (omeg
 f-rises at (x ∷ k) (suc i) zero (more a s) l h = absurd (omega arith)
 f-rises at (x ∷ k) (suc i) (suc j) (more a s) l h = f-rises at k i j s (omega arith) (omega arith)
 
--- rule 6 over two lists
-pub record Below (w n count best : ℕ) (slots order : List ℕ) : Type 0 where
-  pub fewer : count ≤ n
-  pub layer : LayerParts w count slots order
-  pub left : (rule : Rule) (M : System State ℕ) (vs : List Variable) (parentPath : ℕ → List ℕ) (b : Route ℕ) → b .cost ≡ best
-      → nodesIn vs parentPath slots order count ≡ filter (λ m. belowBest (costsOf rule) M (m .f) (some b)) (nodesIn vs parentPath slots order n)
-
 module _ {w n : ℕ} {slots order : List ℕ} (la : LayerParts w n slots order) where
   long : length (take n order) ≡ n
   long = length-take-le n order (la .inside .room)
@@ -69,61 +62,64 @@ module _ {w n : ℕ} {slots order : List ℕ} (la : LayerParts w n slots order) 
       let s : Sorted (map (wordsIn slots) (take n order)) = unfold keptIn in la .sorted in
       omega (arith, f-rises (wordsIn slots) (take n order) i j s l (omega (arith, long)), f-at i (omega arith), f-at j h)
 
-  -- the first r have an f below the best, the others have not
-  pub ends-at : (r best : ℕ) → r ≤ n → ((i : ℕ) → i < r → getD slots (getD order i 0 * slotWords + fAt) 0 < best) → ((i : ℕ) → r ≤ i → i < n → best ≤ getD slots (getD order i 0 * slotWords + fAt) 0) → Below w n r best slots order
-  ends-at r best h low high =
-      record {
-        fewer = h;
-        layer = record { slots-long = la .slots-long; inside = record { room = omega (arith, la .inside .room); each = λ i l. la .inside .each i (omega arith) }; sorted = shorter };
-        left = λ rule M vs path b e. sym (selected rule M vs path b e);
-      }
-    where
-      first : take r (take n order) ≡ take r order
-      first = take-take r n order h
+  -- the first r of the order
+  module _ (r : ℕ) (h : r ≤ n) where
+    first : take r (take n order) ≡ take r order
+    first = take-take r n order h
 
-      kept-first : keptIn slots order r ≡ take r (keptIn slots order n)
-      kept-first = unfold keptIn in ap (map (wordsIn slots)) (sym first) ∙ sym (take-map (wordsIn slots) r (take n order))
+    kept-first : keptIn slots order r ≡ take r (keptIn slots order n)
+    kept-first = unfold keptIn in ap (map (wordsIn slots)) (sym first) ∙ sym (take-map (wordsIn slots) r (take n order))
 
-      shorter : Sorted (keptIn slots order r)
-      shorter = rw kept-first (sorted-take r (keptIn slots order n) (la .sorted))
+    pub fewer-layer : LayerParts w r slots order
+    fewer-layer =
+        record {
+          slots-long = la .slots-long;
+          inside = record { room = omega (arith, la .inside .room); each = λ i l. la .inside .each i (omega arith) };
+          sorted = rw kept-first (sorted-take r (keptIn slots order n) (la .sorted));
+        }
 
-      below : List ℕ → Bool
-      below m = ltb (getD m fAt 0) best
+  -- where the first r have an f below the best and the others have not, they are what is left
+  module _ (r best : ℕ) (h : r ≤ n) (low : (i : ℕ) → i < r → getD slots (getD order i 0 * slotWords + fAt) 0 < best) (high : (i : ℕ) → r ≤ i → i < n → best ≤ getD slots (getD order i 0 * slotWords + fAt) 0) where
+    below : List ℕ → Bool
+    below m = ltb (getD m fAt 0) best
 
-      words-left : filter below (keptIn slots order n) ≡ keptIn slots order r
-      words-left =
-          unfold keptIn in
-          filter-first below (wordsIn slots) (take n order) r (omega (arith, long))
-          (λ i l. lt-ltb _ best (rw (f-at i (omega arith)) (low i l)))
-          (λ i a l. let z : i < n = omega (arith, long) in le-ltb _ best (rw (f-at i z) (high i a z)))
-          ∙ ap (map (wordsIn slots)) first
+    words-left : filter below (keptIn slots order n) ≡ keptIn slots order r
+    unfolding below
+    words-left =
+        unfold keptIn in
+        filter-first below (wordsIn slots) (take n order) r (omega (arith, long))
+        (λ i l. lt-ltb _ best (rw (f-at i (omega arith)) (low i l)))
+        (λ i a l. let z : i < n = omega (arith, long) in le-ltb _ best (rw (f-at i z) (high i a z)))
+        ∙ ap (map (wordsIn slots)) (first r h)
 
-      selected : (rule : Rule) (M : System State ℕ) (vs : List Variable) (path : ℕ → List ℕ) (b : Route ℕ) → b .cost ≡ best
-          → filter (λ m. belowBest (costsOf rule) M (m .f) (some b)) (nodesIn vs path slots order n) ≡ nodesIn vs path slots order r
-      selected rule M vs path b e =
-          unfold nodesIn in
-          filter-map (nodeOf vs path) (λ m. belowBest (costsOf rule) M (m .f) (some b)) (keptIn slots order n)
-          ∙ ap (map (nodeOf vs path)) (filter-same (λ m. belowBest (costsOf rule) M (nodeOf vs path m .f) (some b)) below (keptIn slots order n) (λ m. unfold belowBest less costsOf nodeOf in rw e (not-at-most (getD m fAt 0) best)) ∙ words-left)
+    pub left-below : (bytes : List ℕ) (path : ℕ → List ℕ) (b : Route ℕ) → b .cost ≡ best
+        → nodesIn bytes path slots order r ≡ filter (λ m. belowBest (costsIn bytes) (systemIn bytes) (m .f) (some b)) (nodesIn bytes path slots order n)
+    unfolding below
+    left-below bytes path b e =
+        unfold nodesIn in
+        sym
+        (filter-map (nodeOf bytes path) (λ m. belowBest (costsIn bytes) (systemIn bytes) (m .f) (some b)) (keptIn slots order n)
+        ∙ ap (map (nodeOf bytes path)) (filter-same (λ m. belowBest (costsIn bytes) (systemIn bytes) (nodeOf bytes path m .f) (some b)) below (keptIn slots order n) (λ m. unfold belowBest less nodeOf in rw (e, cost-order bytes best (getD m fAt 0)) (not-at-most (getD m fAt 0) best)) ∙ words-left))
 
   -- where the one before place r is below the best, all before it are
   pub low-before : (r best : ℕ) → 0 < r → r ≤ n → getD slots (getD order (r - 1) 0 * slotWords + fAt) 0 < best → (i : ℕ) → i < r → getD slots (getD order i 0 * slotWords + fAt) 0 < best
   low-before r best pos h l i k = omega (arith, f-up i (r - 1) (omega arith) (omega arith))
 
 -- without a best all are left
-pub filter-no-best : (rule : Rule) (M : System State ℕ) (l : List (Node State ℕ)) → filter (λ m. belowBest (costsOf rule) M (m .f) none) l ≡ l
+pub filter-no-best : (bytes : List ℕ) (l : List (Node State ℕ)) → filter (λ m. belowBest (costsIn bytes) (systemIn bytes) (m .f) none) l ≡ l
 unfolding filter belowBest
-filter-no-best rule M [] = refl
-filter-no-best rule M (x ∷ l) = ap (λ (m : List (Node State ℕ)). x ∷ m) (filter-no-best rule M l)
+filter-no-best bytes [] = refl
+filter-no-best bytes (x ∷ l) = ap (λ (m : List (Node State ℕ)). x ∷ m) (filter-no-best bytes l)
 
 -- ---- the least f
 
-least-of : (rule : Rule) (M : System State ℕ) (vs : List Variable) (path : ℕ → List ℕ) (m : List ℕ) (l : List (List ℕ)) → All (λ n. before n m ≡ false) l → leastF (costsOf rule) M (getD m fAt 0) (map (nodeOf vs path) l) ≡ getD m fAt 0
-unfolding leastF costsOf nodeOf
-least-of rule M vs path m [] a = refl
-least-of rule M vs path m (x ∷ l) a =
-    let e : cond (leb (getD m fAt 0) (getD x fAt 0)) (getD m fAt 0) (getD x fAt 0) ≡ getD m fAt 0 = rw (le-leb (getD m fAt 0) (getD x fAt 0) (f-order m x (a .0))) in
-    ap (λ (k : ℕ). leastF (costsOf rule) M k (map (nodeOf vs path) l)) e ∙ least-of rule M vs path m l (a .1)
+least-of : (bytes : List ℕ) (path : ℕ → List ℕ) (m : List ℕ) (l : List (List ℕ)) → All (λ n. before n m ≡ false) l → leastF (costsIn bytes) (systemIn bytes) (getD m fAt 0) (map (nodeOf bytes path) l) ≡ getD m fAt 0
+unfolding leastF nodeOf
+least-of bytes path m [] a = refl
+least-of bytes path m (x ∷ l) a =
+    let e : cond (costsIn bytes .atMost (getD m fAt 0) (getD x fAt 0)) (getD m fAt 0) (getD x fAt 0) ≡ getD m fAt 0 = rw (cost-order bytes (getD m fAt 0) (getD x fAt 0), le-leb (getD m fAt 0) (getD x fAt 0) (f-order m x (a .0))) in
+    ap (λ (k : ℕ). leastF (costsIn bytes) (systemIn bytes) k (map (nodeOf bytes path) l)) e ∙ least-of bytes path m l (a .1)
 
 -- of a layer in order the least f is that of the first
-pub least-first : (rule : Rule) (M : System State ℕ) (vs : List Variable) (path : ℕ → List ℕ) (m : List ℕ) (l : List (List ℕ)) → Sorted (m ∷ l) → leastF (costsOf rule) M (nodeOf vs path m .f) (map (nodeOf vs path) l) ≡ getD m fAt 0
-least-first rule M vs path m l (more a s) = unfold nodeOf in least-of rule M vs path m l a
+pub least-first : (bytes : List ℕ) (path : ℕ → List ℕ) (m : List ℕ) (l : List (List ℕ)) → Sorted (m ∷ l) → leastF (costsIn bytes) (systemIn bytes) (nodeOf bytes path m .f) (map (nodeOf bytes path) l) ≡ getD m fAt 0
+least-first bytes path m l (more a s) = unfold nodeOf in least-of bytes path m l a

@@ -16,13 +16,18 @@ use Rattle.beam_index.specs.Links as L
 use Rattle.beam_index.proofs.Linked.{cleared-falling, cleared-index}
 use Rattle.beam.specs.Nodes.{stateWords}
 use Rattle.beam.specs.Buckets.{bucketOf}
-use Rattle.beam.specs.Parts.{bucketIn, written, IndexedParts, Removed, Placed, LayerParts}
+use Rattle.beam.specs.Parts.{bucketIn, written, IndexedParts, LayerParts}
 use Rattle.beam.proofs.Written.{written-same, written-other}
 use Rattle.beam.proofs.Mapped.{map-append}
 
 kept-by : (slots order : List ℕ) (n : ℕ) (l : List (List ℕ)) → map (wordsIn slots) (take n order) ≡ l → keptIn slots order n ≡ l
 unfolding keptIn
 kept-by slots order n l e = e
+
+-- three lists hold n nodes that have these words, in order
+pub record KeepingParts (outline : List ℕ) (w size n : ℕ) (slots order links : List ℕ) (kept-words : List (List ℕ)) : Type 0 where
+  pub held : IndexedParts outline w size n slots order links
+  pub kept : keptIn slots order n ≡ kept-words
 
 module _ {outline : List ℕ} {w size n : ℕ} {slots order links : List ℕ} (hd : IndexedParts outline w size n slots order links) where
   pub order-room : n ≤ length order
@@ -78,7 +83,7 @@ module _ {outline : List ℕ} {w size n : ℕ} {slots order links : List ℕ} (h
   -- ---- taking a node out
 
   pub held-removed : {p b : ℕ} {order′ links′ : List ℕ} → p < n → bucketIn outline slots size (getD order p 0) ≡ b → length order′ ≡ length order → length links′ ≡ length links
-      → order′ ≡ removed order n p → L.Removed links links′ w b (getD order p 0) → Removed outline w size n p slots order order′ links′
+      → order′ ≡ removed order n p → L.Removed links links′ w b (getD order p 0) → KeepingParts outline w size (n - 1) slots order′ links′ (without p (keptIn slots order n))
   held-removed {p} {b} {order′} {links′} h key lo ll e rm =
       record {
         held =
@@ -126,11 +131,11 @@ module _ {outline : List ℕ} {w size n : ℕ} {slots order links : List ℕ} (h
 
   -- ---- taking a child into the first free slot
 
-  pub held-placed : {p b : ℕ} {slots′ order′ links′ c : List ℕ} → n < w → length c ≡ slotWords → bucketOf outline (stateWords c) size ≡ b
+  pub held-placed : {p b : ℕ} {slots′ order′ links′ : List ℕ} (c : List ℕ) → n < w → length c ≡ slotWords → bucketOf outline (stateWords c) size ≡ b
       → length slots′ ≡ length slots → length order′ ≡ length order → length links′ ≡ length links
       → Cutoff (earlierAt slots order (getD c fAt 0) (getD c hAt 0)) n p → order′ ≡ inserted order n p (getD order n 0) → slots′ ≡ written slots (getD order n 0) c → Added links links′ w b (getD order n 0)
-      → Placed outline w size n slots order slots′ order′ links′ c
-  held-placed {p} {b} {slots′} {order′} {links′} {c} hn full key ls lo ll cut eo es ad =
+      → KeepingParts outline w size (n + 1) slots′ order′ links′ (placed c (keptIn slots order n))
+  held-placed {p} {b} {slots′} {order′} {links′} c hn full key ls lo ll cut eo es ad =
       record {
         held =
             record {

@@ -1,5 +1,5 @@
 -- Laws of a layer in words: buckets, slots, the nodes that words stand for, what each operation leaves.
-pub mod Mixing
+pub mod Bucketing
 pub mod Written
 pub mod Mapped
 pub mod Layers

@@ -1,5 +1,5 @@
 -- Lists of words as lists of nodes: the definition's tests, placing, filtering and cutting on nodes are those on their words.
-use Prim.Native.Nat.{ℕ, zero, suc, _+_, _≤_, _<_}
+use Prim.Native.Nat.{ℕ, zero, suc, _≤_, _<_}
 use mathlib.Core.Path.{_≡_, refl, sym, ap, _∙_}
 use mathlib.Core.Bool.{Bool, true, false, cond, not, _&&_, _||_}
 use mathlib.Core.List.{List, [], _∷_, _++_, map, dropLast}
@@ -9,13 +9,10 @@ use lib.Dec.{ltb, leb}
 use lib.ListN.{length, getD, take, length-map}
 use Rattle.laws.specs.Lists.{any, filter}
 use Rattle.laws.proofs.Bools.{or-neither}
-use Rattle.model.specs.System.{Costs, System}
-use Rattle.model.specs.Syntax.{Rule, Variable}
 use Rattle.model.specs.Meaning.{State}
-use Rattle.model.specs.Steps.{noneWorse, systemOf, costsOf}
-use Rattle.words.specs.States.{stateOf}
-use Rattle.outline.specs.Outline.{modelOf}
 use Rattle.steps.specs.InBytes.{systemIn, stateIn}
+use Rattle.steps.specs.Follow.{costsIn}
+use Rattle.steps.proofs.Promises.{cost-order}
 use Rattle.search.specs.Search.{Node, Round, less, before as before·node, place, beats as beats·node, cut, insert}
 use Rattle.beam_order.specs.Slots.{gAt, hAt, fAt, earlier, before, placed}
 use Rattle.beam_order.specs.Order.{without}
@@ -93,12 +90,18 @@ not-at-most a b = by-test (ltb a b) refl
     by-test true e = rw (lt-leb b a (ltb-true a b e))
     by-test false e = rw (le-leb b a (ltb-false a b e))
 
-module _ (rule : Rule) (M : System State ℕ) (vs : List Variable) (parentPath : ℕ → List ℕ) where
-  abbrev K : Costs ℕ
-  K = costsOf rule
+-- a round that keeps its nodes, unmarked
+pub round-same : (r : Round State ℕ) (l : List (Node State ℕ)) → r .kept ≡ l → r ≡ roundWith l false r
+unfolding roundWith
+round-same r l e = rw (← e) (ap (λ (t : Bool). record { kept = r .kept; widthMark = t; lengthMark = r .lengthMark; improved = r .improved; progress = r .progress }) (unmarked (r .widthMark)))
+  where
+    unmarked : (t : Bool) → t ≡ (t || false)
+    unmarked true = refl
+    unmarked false = refl
 
+module _ (bytes : List ℕ) (parentPath : ℕ → List ℕ) where
   abbrev node : List ℕ → Node State ℕ
-  node = nodeOf vs parentPath
+  node = nodeOf bytes parentPath
 
   by-order : (f h f′ h′ : ℕ) → (not (leb f′ f) || (leb f f′ && not (leb h′ h))) ≡ cond (ltb f f′) true (cond (ltb f′ f) false (ltb h h′))
   by-order f h f′ h′ = rw (not-at-most f f′, not-at-most h h′) (by-tests (ltb f f′) (ltb f′ f) refl)
@@ -108,11 +111,13 @@ module _ (rule : Rule) (M : System State ℕ) (vs : List Variable) (parentPath :
       by-tests false true e = rw (lt-leb f f′ (ltb-true f′ f e))
       by-tests false false e = rw (le-leb f f′ (ltb-false f′ f e))
 
-  pub same-before : (a b : List ℕ) → before·node K M (node a) (node b) ≡ before a b
-  unfolding before·node less costsOf nodeOf earlier
-  same-before a b = by-order (getD a fAt 0) (getD a hAt 0) (getD b fAt 0) (getD b hAt 0)
+  pub same-before : (a b : List ℕ) → before·node (costsIn bytes) (systemIn bytes) (node a) (node b) ≡ before a b
+  unfolding before·node less nodeOf earlier
+  same-before a b =
+      rw (cost-order bytes (getD b fAt 0) (getD a fAt 0), cost-order bytes (getD a fAt 0) (getD b fAt 0), cost-order bytes (getD b hAt 0) (getD a hAt 0))
+      (by-order (getD a fAt 0) (getD a hAt 0) (getD b fAt 0) (getD b hAt 0))
 
-  pub same-place : (c : List ℕ) (l : List (List ℕ)) → place K M (node c) (map node l) ≡ map node (placed c l)
+  pub same-place : (c : List ℕ) (l : List (List ℕ)) → place (costsIn bytes) (systemIn bytes) (node c) (map node l) ≡ map node (placed c l)
   unfolding place placed
   same-place c [] = refl
   same-place c (m ∷ l) = rw (same-before c m, same-place c l) (by-test (before c m))
@@ -121,71 +126,56 @@ module _ (rule : Rule) (M : System State ℕ) (vs : List Variable) (parentPath :
       by-test true = refl
       by-test false = refl
 
-module _ (bytes : List ℕ) (rule : Rule) (parentPath : ℕ → List ℕ) where
-  abbrev variables : List Variable
-  variables = modelOf bytes .variables
-
-  abbrev at : List ℕ → Node State ℕ
-  at = nodeOf variables parentPath
-
-  pub same-beats : (a b : List ℕ) → beats·node (costsOf rule) (systemIn bytes) (at a) (at b) ≡ beats variables a b
-  unfolding beats·node costsOf systemOf nodeOf beats
-  same-beats a b = refl
+  pub same-beats : (a b : List ℕ) → beats·node (costsIn bytes) (systemIn bytes) (node a) (node b) ≡ beats bytes a b
+  unfolding beats·node nodeOf beats
+  same-beats a b = rw (cost-order bytes (getD a gAt 0) (getD b gAt 0))
 
   -- ---- rule 5 on words
 
   abbrev left : (c : List ℕ) (l : List (List ℕ)) → List (List ℕ)
-  left c l = placed c (filter (λ m. not (beats variables c m)) l)
+  left c l = placed c (filter (λ m. not (beats bytes c m)) l)
 
-  pub round-same : (r : Round State ℕ) (l : List (Node State ℕ)) → r .kept ≡ l → r ≡ roundWith l false r
-  unfolding roundWith
-  round-same r l e = rw (← e) (ap (λ (t : Bool). record { kept = r .kept; widthMark = t; lengthMark = r .lengthMark; improved = r .improved; progress = r .progress }) (unmarked (r .widthMark)))
-    where
-      unmarked : (t : Bool) → t ≡ (t || false)
-      unmarked true = refl
-      unmarked false = refl
+  module _ (w : ℕ) (c : List ℕ) (l : List (List ℕ)) (r : Round State ℕ) (is : r .kept ≡ map node l) where
+    tested : any (λ k. beats·node (costsIn bytes) (systemIn bytes) k (node c)) (r .kept) ≡ any (λ m. beats bytes m c) l
+    tested = ap (any (λ k. beats·node (costsIn bytes) (systemIn bytes) k (node c))) is ∙ any-map node (λ k. beats·node (costsIn bytes) (systemIn bytes) k (node c)) l ∙ any-same _ _ l (λ m. same-beats m c)
 
-  module _ (w : ℕ) (c : List ℕ) (l : List (List ℕ)) (r : Round State ℕ) (is : r .kept ≡ map at l) where
-    tested : any (λ k. beats·node (costsOf rule) (systemIn bytes) k (at c)) (r .kept) ≡ any (λ m. beats variables m c) l
-    tested = ap (any (λ k. beats·node (costsOf rule) (systemIn bytes) k (at c))) is ∙ any-map at (λ k. beats·node (costsOf rule) (systemIn bytes) k (at c)) l ∙ any-same _ _ l (λ m. same-beats m c)
-
-    placed-left : place (costsOf rule) (systemIn bytes) (at c) (filter (λ k. not (beats·node (costsOf rule) (systemIn bytes) (at c) k)) (r .kept)) ≡ map at (left c l)
+    placed-left : place (costsIn bytes) (systemIn bytes) (node c) (filter (λ k. not (beats·node (costsIn bytes) (systemIn bytes) (node c) k)) (r .kept)) ≡ map node (left c l)
     placed-left =
-        ap (λ (k : List (Node State ℕ)). place (costsOf rule) (systemIn bytes) (at c) (filter (λ x. not (beats·node (costsOf rule) (systemIn bytes) (at c) x)) k)) is
-        ∙ ap (place (costsOf rule) (systemIn bytes) (at c)) (filter-map at (λ x. not (beats·node (costsOf rule) (systemIn bytes) (at c) x)) l ∙ ap (map at) (filter-same _ _ l (λ m. ap not (same-beats c m))))
-        ∙ same-place rule (systemIn bytes) variables parentPath c (filter (λ m. not (beats variables c m)) l)
+        ap (λ (k : List (Node State ℕ)). place (costsIn bytes) (systemIn bytes) (node c) (filter (λ x. not (beats·node (costsIn bytes) (systemIn bytes) (node c) x)) k)) is
+        ∙ ap (place (costsIn bytes) (systemIn bytes) (node c)) (filter-map node (λ x. not (beats·node (costsIn bytes) (systemIn bytes) (node c) x)) l ∙ ap (map node) (filter-same _ _ l (λ m. ap not (same-beats c m))))
+        ∙ same-place c (filter (λ m. not (beats bytes c m)) l)
 
     -- a kept node beats·node the child
-    pub insert-dropped : any (λ m. beats variables m c) l ≡ true → insert (costsOf rule) (systemIn bytes) w (at c) r ≡ roundWith (map at l) false r
+    pub insert-dropped : any (λ m. beats bytes m c) l ≡ true → insert (costsIn bytes) (systemIn bytes) w (node c) r ≡ roundWith (map node l) false r
     unfolding insert
-    insert-dropped e = rw (tested, e) (round-same r (map at l) is)
+    insert-dropped e = rw (tested, e) (round-same r (map node l) is)
 
     -- none does: the child is placed among those that it does not beat, and the last is cut or none
-    pub insert-placed : (marked : Bool) (after : List (List ℕ)) → any (λ m. beats variables m c) l ≡ false → ltb w (length (left c l)) ≡ marked → after ≡ cond marked (dropLast (left c l)) (left c l)
-        → insert (costsOf rule) (systemIn bytes) w (at c) r ≡ roundWith (map at after) marked r
+    pub insert-placed : (marked : Bool) (after : List (List ℕ)) → any (λ m. beats bytes m c) l ≡ false → ltb w (length (left c l)) ≡ marked → after ≡ cond marked (dropLast (left c l)) (left c l)
+        → insert (costsIn bytes) (systemIn bytes) w (node c) r ≡ roundWith (map node after) marked r
     unfolding insert cut roundWith
     insert-placed marked after e m k =
-        let long : ltb w (length (map at (left c l))) ≡ marked = rw (length-map (left c l) at) m in
+        let long : ltb w (length (map node (left c l))) ≡ marked = rw (length-map (left c l) node) m in
         rw (tested, e, placed-left, long, k) (by-mark marked)
       where
-        by-mark : (t : Bool) → _≡_ {A = Round State ℕ} (record { kept = cond t (dropLast (map at (left c l))) (map at (left c l)); widthMark = r .widthMark || t; lengthMark = r .lengthMark; improved = r .improved; progress = r .progress })
-            (record { kept = map at (cond t (dropLast (left c l)) (left c l)); widthMark = r .widthMark || t; lengthMark = r .lengthMark; improved = r .improved; progress = r .progress })
-        by-mark true = rw (cut-map at (left c l))
+        by-mark : (t : Bool) → _≡_ {A = Round State ℕ} (record { kept = cond t (dropLast (map node (left c l))) (map node (left c l)); widthMark = r .widthMark || t; lengthMark = r .lengthMark; improved = r .improved; progress = r .progress })
+            (record { kept = map node (cond t (dropLast (left c l)) (left c l)); widthMark = r .widthMark || t; lengthMark = r .lengthMark; improved = r .improved; progress = r .progress })
+        by-mark true = rw (cut-map node (left c l))
         by-mark false = refl
 
 -- ---- the code's test
 
-pub beats-by : (bytes a b : List ℕ) (r : Bool) → getD a gAt 0 ≤ getD b gAt 0 → r ≡ systemIn bytes .dominates (stateIn bytes (stateWords a)) (stateIn bytes (stateWords b)) → r ≡ beats (modelOf bytes .variables) a b
-unfolding beats systemOf
+pub beats-by : (bytes a b : List ℕ) (r : Bool) → getD a gAt 0 ≤ getD b gAt 0 → r ≡ systemIn bytes .dominates (stateIn bytes (stateWords a)) (stateIn bytes (stateWords b)) → r ≡ beats bytes a b
+unfolding beats
 beats-by bytes a b r h e = e ∙ rw (le-leb (getD a gAt 0) (getD b gAt 0) h) (sym (both _))
   where
     both : (t : Bool) → (t && true) ≡ t
     both true = refl
     both false = refl
 
-pub beats-not : (vs : List Variable) (a b : List ℕ) → getD b gAt 0 < getD a gAt 0 → false ≡ beats vs a b
+pub beats-not : (bytes a b : List ℕ) → getD b gAt 0 < getD a gAt 0 → false ≡ beats bytes a b
 unfolding beats
-beats-not vs a b h = rw (lt-leb (getD a gAt 0) (getD b gAt 0) h) (sym (neither (noneWorse vs 0 (stateOf vs (stateWords a)) (stateOf vs (stateWords b)))))
+beats-not bytes a b h = rw (lt-leb (getD a gAt 0) (getD b gAt 0) h) (sym (neither (systemIn bytes .dominates (stateIn bytes (stateWords a)) (stateIn bytes (stateWords b)))))
   where
     neither : (t : Bool) → (t && false) ≡ false
     neither true = refl

@@ -1,27 +1,23 @@
 -- What each move leaves of a layer in one list: the laws of three lists, at its parts.
 use Prim.Native.Nat.{ℕ, _+_, _*_, _-_, _^_, _≤_, _<_}
-use mathlib.Core.Path.{_≡_, refl, sym, ap, subst, _∙_}
-use mathlib.Core.Bool.{Bool, true, false, not}
+use mathlib.Core.Path.{_≡_, sym, ap, subst, _∙_}
+use mathlib.Core.Bool.{true}
 use mathlib.Core.List.{List, _++_}
 use native.Mathlib.Omega.{arith}
 use lib.ListN.{length, drop, getD}
 use lib.Seq.{length-take-le, getD-take}
-use Rattle.laws.specs.Lists.{any, filter}
-use Rattle.outline.specs.Outline.{modelOf}
-use Rattle.steps.specs.InBytes.{Outlined}
-use Rattle.beam_order.specs.Slots.{slotWords, fAt, hAt, wordsIn}
-use Rattle.beam_order.specs.Order.{used, keptIn, inserted, removed, upFrom, earlierAt, Cutoff, FoundBelow}
-use Rattle.beam_index.specs.Links.{Added, Cleared, Found}
+use Rattle.beam_order.specs.Slots.{slotWords, fAt, hAt, placed}
+use Rattle.beam_order.specs.Order.{used, inserted, removed, without, upFrom, earlierAt, Cutoff, FoundBelow}
+use Rattle.beam_index.specs.Links.{Added, Cleared}
 use Rattle.beam_index.specs.Links as L
-use Rattle.beam.specs.Nodes.{stateWords, beats}
+use Rattle.beam.specs.Nodes.{stateWords}
 use Rattle.beam.specs.Buckets.{bucketOf}
-use Rattle.beam.specs.Parts.{bucketIn, written, sought, Removed, Placed, SlotRemoved, BeatenRemoved, LastReplaced}
+use Rattle.beam.specs.Parts.{bucketIn, written}
 use Rattle.beam.specs.Parts as P
-use Rattle.beam.specs.Layers.{slotsOf, orderOf, linksOf, Indexed, InsertedInto, Layer, Below, Emptied}
-use Rattle.beam.proofs.Layers.{slot-inside, layer, held-removed, held-placed, emptied}
-use Rattle.beam.proofs.Removals.{slot-found, beaten-none}
-use Rattle.beam.proofs.Cases as C
-use Rattle.beam.proofs.Ends as E
+use Rattle.beam.specs.Layers.{slotsOf, orderOf, linksOf, keptOf, Indexed, Keeping, Layer, Below, Emptied}
+use Rattle.beam.proofs.Layers.{KeepingParts, slot-inside, layer, held-removed, held-placed, emptied}
+use Rattle.beam.proofs.Removals.{slot-found}
+use Rattle.beam.proofs.Ends.{fewer-layer, left-below, low-before}
 use Rattle.beam.proofs.Whole.{put, part-length, part-at, Holds, holds, order-lent, links-lent, slots-lent}
 
 module _ (w : ℕ) (words : List ℕ) (long : 26 * w ≤ length words) where
@@ -42,9 +38,8 @@ order-at w words i h = part-at (20 * w) (21 * w) words i (omega arith)
 pub held-in : {outline : List ℕ} {w n : ℕ} {words slots order links : List ℕ} → Holds w words slots order links → P.IndexedParts outline w (4 * w) n slots order links → Indexed outline w n words
 held-in h p = record { long = h .long; parts = rw (h .slots-in, h .order-in, h .links-in) p }
 
-pub rest-held : {outline : List ℕ} {w n : ℕ} (words words′ : List ℕ) → 26 * w ≤ length words → length words′ ≡ length words → slotsOf w words′ ≡ slotsOf w words
-    → P.IndexedParts outline w (4 * w) n (slotsOf w words) (orderOf w words′) (linksOf w words′) → Indexed outline w n words′
-rest-held words words′ long l e p = held-in (record { long = omega arith; slots-in = e; order-in = refl; links-in = refl }) p
+pub keeping-in : {outline : List ℕ} {w n : ℕ} {words slots order links : List ℕ} {l : List (List ℕ)} → Holds w words slots order links → KeepingParts outline w (4 * w) n slots order links l → Keeping outline w n words l
+keeping-in h p = record { held = held-in h (p .held); kept = rw (h .slots-in, h .order-in) (p .kept) }
 
 pub layer-of : {outline : List ℕ} {w n : ℕ} {words : List ℕ} → Indexed outline w n words → Layer w n words
 layer-of h = record { long = h .long; parts = layer (h .parts) }
@@ -84,98 +79,32 @@ emptied-in w words os ls pos few long lo eo ll c =
 pub removed-in : {outline : List ℕ} {w n p k : ℕ} {words ls os : List ℕ} → Indexed outline w n words → p < n → bucketIn outline (slotsOf w words) (4 * w) (getD (orderOf w words) p 0) ≡ k
     → length ls ≡ length (linksOf w words) → L.Removed (linksOf w words) ls w k (getD words (20 * w + p) 0)
     → length os ≡ length (orderOf w (put (21 * w) (26 * w) words ls)) → os ≡ removed (orderOf w (put (21 * w) (26 * w) words ls)) n p
-    → (slotsOf w (put (20 * w) (21 * w) (put (21 * w) (26 * w) words ls) os) ≡ slotsOf w words)
-    × Removed outline w (4 * w) n p (slotsOf w words) (orderOf w words) (orderOf w (put (20 * w) (21 * w) (put (21 * w) (26 * w) words ls) os)) (linksOf w (put (20 * w) (21 * w) (put (21 * w) (26 * w) words ls) os))
+    → Keeping outline w (n - 1) (put (20 * w) (21 * w) (put (21 * w) (26 * w) words ls) os) (without p (keptOf w words n))
 removed-in {outline} {w} {n} {p} {k} {words} {ls} {os} h hp key ll rm lo eo =
     let one = links-lent (holds w words (h .long)) ls ll in
-    let two = order-lent one os lo in
     let lo₀ : length os ≡ length (orderOf w words) = lo ∙ ap length (one .order-in) in
     let eo₀ : os ≡ removed (orderOf w words) n p = eo ∙ ap (λ (l : List ℕ). removed l n p) (one .order-in) in
     let at : getD (orderOf w words) p 0 ≡ getD words (20 * w + p) 0 = order-at w words p (omega (arith, h .parts .few)) in
     let rm₀ : L.Removed (linksOf w words) ls w k (getD (orderOf w words) p 0) = subst (L.Removed (linksOf w words) ls w k) (sym at) rm in
-    let r : Removed outline w (4 * w) n p (slotsOf w words) (orderOf w words) os ls = held-removed (h .parts) hp key lo₀ ll eo₀ rm₀ in
-    (two .slots-in, rw (two .order-in, two .links-in) r)
-
-pub slot-gone : {outline : List ℕ} {w n s : ℕ} (words words′ : List ℕ) → slotsOf w words′ ≡ slotsOf w words → SlotRemoved outline w (4 * w) n s (slotsOf w words) (orderOf w words) (orderOf w words′) (linksOf w words′)
-    → (p : List ℕ → Bool) → p (wordsIn (slotsOf w words) s) ≡ false → filter p (keptIn (slotsOf w words′) (orderOf w words′) (n - 1)) ≡ filter p (keptIn (slotsOf w words) (orderOf w words) n)
-slot-gone {w = w} {n} words words′ e r p f = ap (λ (l : List ℕ). filter p (keptIn l (orderOf w words′) (n - 1))) e ∙ r .kept p f
-
--- all that the child beats are out
-pub beaten-gone : (bytes : List ℕ) {outline : List ℕ} {w n m k : ℕ} (words₀ words c : List ℕ) → Outlined bytes outline → bucketOf outline (stateWords c) (4 * w) ≡ k → slotsOf w words ≡ slotsOf w words₀ → Indexed outline w m words
-    → (q : ℕ) → Found (linksOf w words) w k (sought (modelOf bytes .variables) (slotsOf w words) c true) q → q ≡ 0
-    → filter (λ m. not (beats (modelOf bytes .variables) c m)) (keptIn (slotsOf w words) (orderOf w words) m) ≡ filter (λ m. not (beats (modelOf bytes .variables) c m)) (keptIn (slotsOf w words₀) (orderOf w words₀) n)
-    → BeatenRemoved (modelOf bytes .variables) outline w (4 * w) n m (slotsOf w words₀) (orderOf w words₀) (orderOf w words) (linksOf w words) c
-beaten-gone bytes {outline} {w} {n} {m} {k} words₀ words c o key e h q found z same =
-    record {
-      held = subst (λ (l : List ℕ). P.IndexedParts outline w (4 * w) m l (orderOf w words) (linksOf w words)) e (h .parts);
-      kept = ap (λ (l : List ℕ). keptIn l (orderOf w words) m) (sym e) ∙ sym (beaten-none bytes (h .parts) k c o key q found z) ∙ same;
-    }
+    keeping-in (order-lent one os lo) (held-removed (h .parts) hp key lo₀ ll eo₀ rm₀)
 
 -- ---- one in
 
-pub placed-in : {outline : List ℕ} {w n p k : ℕ} {words os ss ls c : List ℕ} → Indexed outline w n words → n < w → length c ≡ slotWords → bucketOf outline (stateWords c) (4 * w) ≡ k
+pub placed-in : {outline : List ℕ} {w n p k : ℕ} {words os ss ls : List ℕ} (c : List ℕ) → Indexed outline w n words → n < w → length c ≡ slotWords → bucketOf outline (stateWords c) (4 * w) ≡ k
     → Cutoff (earlierAt (slotsOf w words) (orderOf w words) (getD c fAt 0) (getD c hAt 0)) n p
     → length os ≡ length (orderOf w words) → os ≡ inserted (orderOf w words) n p (getD words (20 * w + n) 0)
     → length ss ≡ length (slotsOf w (put (20 * w) (21 * w) words os)) → ss ≡ written (slotsOf w (put (20 * w) (21 * w) words os)) (getD words (20 * w + n) 0) c
     → length ls ≡ length (linksOf w (ss ++ drop (20 * w) (put (20 * w) (21 * w) words os))) → Added (linksOf w (ss ++ drop (20 * w) (put (20 * w) (21 * w) words os))) ls w k (getD words (20 * w + n) 0)
-    → (let after = put (21 * w) (26 * w) (ss ++ drop (20 * w) (put (20 * w) (21 * w) words os)) ls in Placed outline w (4 * w) n (slotsOf w words) (orderOf w words) (slotsOf w after) (orderOf w after) (linksOf w after) c)
-placed-in {outline} {w} {n} {p} {k} {words} {os} {ss} {ls} {c} h hn full key cut lo eo lw ew ll ad =
+    → Keeping outline w (n + 1) (put (21 * w) (26 * w) (ss ++ drop (20 * w) (put (20 * w) (21 * w) words os)) ls) (placed c (keptOf w words n))
+placed-in {outline} {w} {n} {p} {k} {words} {os} {ss} {ls} c h hn full key cut lo eo lw ew ll ad =
     let one = order-lent (holds w words (h .long)) os lo in
     let two = slots-lent one ss lw in
-    let three = links-lent two ls ll in
     let at : getD (orderOf w words) n 0 ≡ getD words (20 * w + n) 0 = order-at w words n hn in
     let eo₀ : os ≡ inserted (orderOf w words) n p (getD (orderOf w words) n 0) = eo ∙ ap (inserted (orderOf w words) n p) (sym at) in
     let ew₀ : ss ≡ written (slotsOf w words) (getD (orderOf w words) n 0) c = ew ∙ ap (λ (l : List ℕ). written l (getD words (20 * w + n) 0) c) (one .slots-in) ∙ ap (λ (s : ℕ). written (slotsOf w words) s c) (sym at) in
     let ad₁ : Added (linksOf w words) ls w k (getD words (20 * w + n) 0) = subst (λ (l : List ℕ). Added l ls w k (getD words (20 * w + n) 0)) (two .links-in) ad in
     let ad₀ : Added (linksOf w words) ls w k (getD (orderOf w words) n 0) = subst (Added (linksOf w words) ls w k) (sym at) ad₁ in
-    let r : Placed outline w (4 * w) n (slotsOf w words) (orderOf w words) ss os ls c = held-placed (h .parts) hn full key (lw ∙ ap length (one .slots-in)) lo (ll ∙ ap length (two .links-in)) cut eo₀ ew₀ ad₀ in
-    rw (three .slots-in, three .order-in, three .links-in) r
-
--- ---- the last replaced
-
-pub last-replaced-in : {outline : List ℕ} {w : ℕ} {words : List ℕ} (words₁ : List ℕ) {slots′ order′ links′ c : List ℕ} → Indexed outline w w words → slotsOf w words₁ ≡ slotsOf w words
-    → Removed outline w (4 * w) w (w - 1) (slotsOf w words) (orderOf w words) (orderOf w words₁) (linksOf w words₁) → Placed outline w (4 * w) (w - 1) (slotsOf w words₁) (orderOf w words₁) slots′ order′ links′ c
-    → LastReplaced outline w (4 * w) (slotsOf w words) (orderOf w words) slots′ order′ links′ c
-last-replaced-in {outline} {w} {words} words₁ {slots′} {order′} {links′} {c} h e r p =
-    C.last-replaced (h .parts) (width-positive h) r (subst (λ (s : List ℕ). Placed outline w (4 * w) (w - 1) s (orderOf w words₁) slots′ order′ links′ c) e p)
-
--- ---- the four ways that an insertion ends
-
-inserted-in : {bytes outline : List ℕ} {w n count : ℕ} {cut : Bool} {words words′ c : List ℕ} → 26 * w ≤ length words → length words′ ≡ length words
-    → C.InsertedInto bytes outline w (4 * w) n count cut (slotsOf w words) (orderOf w words) (slotsOf w words′) (orderOf w words′) (linksOf w words′) c → InsertedInto bytes outline w n count cut words words′ c
-inserted-in long l i = record { held = record { long = omega arith; parts = i .held }; inserts = i .inserts }
-
-pub dropped-in : {bytes outline : List ℕ} {w n : ℕ} {words c : List ℕ} → Indexed outline w n words → any (λ m. beats (modelOf bytes .variables) m c) (keptIn (slotsOf w words) (orderOf w words) n) ≡ true
-    → InsertedInto bytes outline w n n false words words c
-dropped-in h e = inserted-in (h .long) refl (C.dropped (h .parts) e)
-
-module _ (bytes : List ℕ) {outline : List ℕ} {w n m : ℕ} {words : List ℕ} (words₁ c : List ℕ) (h : Indexed outline w n words)
-    (l₁ : length words₁ ≡ length words) (e : slotsOf w words₁ ≡ slotsOf w words)
-    (b : BeatenRemoved (modelOf bytes .variables) outline w (4 * w) n m (slotsOf w words) (orderOf w words) (orderOf w words₁) (linksOf w words₁) c) where
-  pub beaten-held : Indexed outline w m words₁
-  beaten-held = rest-held words words₁ (h .long) l₁ e (b .held)
-
-  pub full-held : w ≤ m → Indexed outline w w words₁
-  full-held hm = rest-held words words₁ (h .long) l₁ e (C.full-removed b hm .held)
-
-  module _ (free : any (λ m. beats (modelOf bytes .variables) m c) (keptIn (slotsOf w words) (orderOf w words) n) ≡ false) where
-    pub roomed-in : (words′ : List ℕ) → m < w → length words′ ≡ length words₁ → Placed outline w (4 * w) m (slotsOf w words₁) (orderOf w words₁) (slotsOf w words′) (orderOf w words′) (linksOf w words′) c
-        → InsertedInto bytes outline w n (m + 1) false words words′ c
-    roomed-in words′ hm l p =
-        inserted-in (h .long) (l ∙ l₁) (C.roomed free b hm (subst (λ (s : List ℕ). Placed outline w (4 * w) m s (orderOf w words₁) (slotsOf w words′) (orderOf w words′) (linksOf w words′) c) e p))
-
-    pub last-cut-in : (words′ : List ℕ) → w ≤ m → earlierAt (slotsOf w words₁) (orderOf w words₁) (getD c fAt 0) (getD c hAt 0) (w - 1) ≡ true → length words′ ≡ length words₁
-        → LastReplaced outline w (4 * w) (slotsOf w words₁) (orderOf w words₁) (slotsOf w words′) (orderOf w words′) (linksOf w words′) c → InsertedInto bytes outline w n w true words words′ c
-    last-cut-in words′ hm t l p =
-        inserted-in (h .long) (l ∙ l₁)
-        (C.last-cut free (C.full-removed b hm) (width-positive h) (subst (λ (s : List ℕ). earlierAt s (orderOf w words₁) (getD c fAt 0) (getD c hAt 0) (w - 1) ≡ true) e t)
-        (subst (λ (s : List ℕ). LastReplaced outline w (4 * w) s (orderOf w words₁) (slotsOf w words′) (orderOf w words′) (linksOf w words′) c) e p))
-
-    pub child-cut-in : w ≤ m → earlierAt (slotsOf w words₁) (orderOf w words₁) (getD c fAt 0) (getD c hAt 0) (w - 1) ≡ false → InsertedInto bytes outline w n w true words words₁ c
-    child-cut-in hm t =
-        inserted-in (h .long) l₁
-        (subst (λ (s : List ℕ). C.InsertedInto bytes outline w (4 * w) n w true (slotsOf w words) (orderOf w words) s (orderOf w words₁) (linksOf w words₁) c) (sym e)
-        (C.child-cut free (C.full-removed b hm) (width-positive h) (subst (λ (s : List ℕ). earlierAt s (orderOf w words₁) (getD c fAt 0) (getD c hAt 0) (w - 1) ≡ false) e t)))
+    keeping-in (links-lent two ls ll) (held-placed (h .parts) c hn full key (lw ∙ ap length (one .slots-in)) lo (ll ∙ ap length (two .links-in)) cut eo₀ ew₀ ad₀)
 
 -- ---- the layer's end
 
@@ -192,19 +121,20 @@ module _ {w n : ℕ} {words : List ℕ} (la : Layer w n words) where
       ap (λ (s : ℕ). getD (slotsOf w words) (s * slotWords + fAt) 0) (order-at w words i (omega (arith, few-in)))
       ∙ getD-take (20 * w) words (getD words (20 * w + i) 0 * slotWords + fAt) 0 (omega (arith, place-below i h))
 
-  below-in : {r best : ℕ} → E.Below w n r best (slotsOf w words) (orderOf w words) → Below w n r best words
-  below-in b = record { fewer = b .fewer; layer = record { long = la .long; parts = b .layer }; left = b .left }
-
   -- from place r on no f is below the best
   abbrev pub Rest : (r best : ℕ) → Type 0
   Rest r best = (i : ℕ) → r ≤ i → i < n → best ≤ getD words (getD words (20 * w + i) 0 * slotWords + fAt) 0
 
+  below-in : (r best : ℕ) → r ≤ n → ((i : ℕ) → i < r → getD (slotsOf w words) (getD (orderOf w words) i 0 * slotWords + fAt) 0 < best) → Rest r best → Below w n r best words
+  below-in r best h low rest =
+      record {
+        fewer = h;
+        layer = record { long = la .long; parts = fewer-layer (la .parts) r h };
+        left = left-below (la .parts) r best h low (λ i a b. omega (arith, f-in i b, rest i a b));
+      }
+
   pub below-at : (r best : ℕ) → 0 < r → r ≤ n → getD words (getD words (20 * w + (r - 1)) 0 * slotWords + fAt) 0 < best → Rest r best → Below w n r best words
-  below-at r best pos h low rest =
-      below-in
-      (E.ends-at (la .parts) r best h
-      (E.low-before (la .parts) r best pos h (omega (arith, f-in (r - 1) (omega arith))))
-      (λ i a b. omega (arith, f-in i b, rest i a b)))
+  below-at r best pos h low = below-in r best h (low-before (la .parts) r best pos h (omega (arith, f-in (r - 1) (omega arith))))
 
   pub below-none : (best : ℕ) → Rest 0 best → Below w n 0 best words
-  below-none best rest = below-in (E.ends-at (la .parts) 0 best (omega arith) (λ i l. absurd (omega arith)) (λ i a b. omega (arith, f-in i b, rest i a b)))
+  below-none best = below-in 0 best (omega arith) (λ i l. absurd (omega arith))

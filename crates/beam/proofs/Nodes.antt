@@ -8,11 +8,10 @@ use native.Mathlib.Numerals.{add-one}
 use lib.Dec.{leb}
 use lib.ListN.{length, take, drop, getD, length-map, length-drop, take-append-drop, List·getD-map}
 use lib.Seq.{drop-cons, getD-take, length-take-le, take-append-le, drop-append-le}
-use Rattle.model.specs.System.{System}
-use Rattle.model.specs.Syntax.{Rule, Variable}
-use Rattle.model.specs.Meaning.{State}
-use Rattle.model.specs.Steps.{costsOf}
 use Rattle.search.specs.Search.{raisedLow}
+use Rattle.steps.specs.InBytes.{systemIn}
+use Rattle.steps.specs.Follow.{costsIn}
+use Rattle.steps.proofs.Promises.{cost-order}
 use Rattle.beam_order.specs.Slots.{slotWords, fAt, wordsIn, Sorted}
 use Rattle.beam_order.specs.Order.{keptIn}
 use Rattle.beam_order.proofs.Arrays.{word-in}
@@ -21,9 +20,9 @@ use Rattle.beam.specs.Layers.{slotsOf, orderOf, nodesOf, Layer}
 use Rattle.beam.proofs.Ends.{least-first}
 use Rattle.beam.proofs.Moves.{slots-length, order-at, few-in, place-below, f-in}
 
-pub nodes-none : (w : ℕ) (words : List ℕ) (vs : List Variable) (path : ℕ → List ℕ) → nodesOf w words vs path 0 ≡ []
+pub nodes-none : (w : ℕ) (words : List ℕ) (bytes : List ℕ) (path : ℕ → List ℕ) → nodesOf w words bytes path 0 ≡ []
 unfolding nodesIn keptIn
-nodes-none w words vs path = refl
+nodes-none w words bytes path = refl
 
 -- a slot's words are those of the list
 pub words-in : (w : ℕ) (words : List ℕ) → 26 * w ≤ length words → (s : ℕ) → s < w → wordsIn (slotsOf w words) s ≡ wordsIn words s
@@ -35,7 +34,7 @@ words-in w words long s h =
     ∙ ap (take slotWords) (drop-append-le (s * slotWords) (take (20 * w) words) (drop (20 * w) words) (omega arith))
     ∙ take-append-le slotWords (drop (s * slotWords) (take (20 * w) words)) (drop (20 * w) words) (omega (arith, length-drop (s * slotWords) (take (20 * w) words))))
 
-module _ (vs : List Variable) (path : ℕ → List ℕ) {w n : ℕ} {words : List ℕ} (la : Layer w n words) where
+module _ (bytes : List ℕ) (path : ℕ → List ℕ) {w n : ℕ} {words : List ℕ} (la : Layer w n words) where
   abbrev slots : List ℕ
   slots = slotsOf w words
 
@@ -45,35 +44,35 @@ module _ (vs : List Variable) (path : ℕ → List ℕ) {w n : ℕ} {words : Lis
   first-length : length (take n order) ≡ n
   first-length = length-take-le n order (la .parts .inside .room)
 
-  pub nodes-length : length (nodesOf w words vs path n) ≡ n
+  pub nodes-length : length (nodesOf w words bytes path n) ≡ n
   unfolding nodesIn keptIn
-  nodes-length = length-map (map (wordsIn slots) (take n order)) (nodeOf vs path) ∙ length-map (take n order) (wordsIn slots) ∙ first-length
+  nodes-length = length-map (map (wordsIn slots) (take n order)) (nodeOf bytes path) ∙ length-map (take n order) (wordsIn slots) ∙ first-length
 
   -- the node at a place
-  node-at : (i : ℕ) → i < n → getD (nodesOf w words vs path n) i (nodeIn vs path slots 0) ≡ nodeIn vs path words (getD words (20 * w + i) 0)
+  node-at : (i : ℕ) → i < n → getD (nodesOf w words bytes path n) i (nodeIn bytes path slots 0) ≡ nodeIn bytes path words (getD words (20 * w + i) 0)
   unfolding nodesIn keptIn
   node-at i h =
-      List·getD-map (nodeOf vs path) (map (wordsIn slots) (take n order)) i (wordsIn slots 0)
-      ∙ ap (nodeOf vs path)
+      List·getD-map (nodeOf bytes path) (map (wordsIn slots) (take n order)) i (wordsIn slots 0)
+      ∙ ap (nodeOf bytes path)
       (List·getD-map (wordsIn slots) (take n order) i 0 ∙ ap (wordsIn slots) (getD-take n order i 0 h ∙ order-at w words i (omega (arith, few-in la)))
       ∙ words-in w words (la .long) (getD words (20 * w + i) 0) (place-below la i h))
 
   -- from place i on: the node in the slot there, and the rest
-  pub nodes-from : (i : ℕ) → i < n → drop i (nodesOf w words vs path n) ≡ nodeIn vs path words (getD words (20 * w + i) 0) ∷ drop (i + 1) (nodesOf w words vs path n)
+  pub nodes-from : (i : ℕ) → i < n → drop i (nodesOf w words bytes path n) ≡ nodeIn bytes path words (getD words (20 * w + i) 0) ∷ drop (i + 1) (nodesOf w words bytes path n)
   nodes-from i h =
-      drop-cons (nodesOf w words vs path n) i (nodeIn vs path slots 0) (omega (arith, nodes-length))
+      drop-cons (nodesOf w words bytes path n) i (nodeIn bytes path slots 0) (omega (arith, nodes-length))
       ∙ rw (node-at i h, add-one i)
 
   -- rule 6: low rises to the f of the first, if that is greater
-  pub raised-low : (rule : Rule) (M : System State ℕ) (low : ℕ) → 0 < n → raisedLow (costsOf rule) M false (nodesOf w words vs path n) low ≡ (let f = getD words (getD words (20 * w) 0 * slotWords + fAt) 0 in cond (leb f low) low f)
+  pub raised-low : (low : ℕ) → 0 < n → raisedLow (costsIn bytes) (systemIn bytes) false (nodesOf w words bytes path n) low ≡ (let f = getD words (getD words (20 * w) 0 * slotWords + fAt) 0 in cond (leb f low) low f)
   unfolding nodesIn keptIn
-  raised-low rule M low pos =
+  raised-low low pos =
       let z : 20 * w + 0 ≡ 20 * w = omega arith in
       by-list (take n order) (omega (arith, first-length)) (la .parts .sorted)
       ∙ ap (λ (f : ℕ). cond (leb f low) low f) (ap (λ (s : ℕ). getD (wordsIn slots s) fAt 0) (getD-take n order 0 0 pos) ∙ word-in slots (getD order 0 0) fAt (omega arith) ∙ f-in la 0 pos ∙ ap (λ (i : ℕ). getD words (getD words i 0 * slotWords + fAt) 0) z)
     where
-      by-list : (k : List ℕ) → 0 < length k → Sorted (map (wordsIn slots) k) → raisedLow (costsOf rule) M false (map (nodeOf vs path) (map (wordsIn slots) k)) low ≡ (let f = getD (wordsIn slots (getD k 0 0)) fAt 0 in cond (leb f low) low f)
+      by-list : (k : List ℕ) → 0 < length k → Sorted (map (wordsIn slots) k) → raisedLow (costsIn bytes) (systemIn bytes) false (map (nodeOf bytes path) (map (wordsIn slots) k)) low ≡ (let f = getD (wordsIn slots (getD k 0 0)) fAt 0 in cond (leb f low) low f)
       by-list [] h s = absurd (omega arith)
       by-list (y ∷ k) h s =
-          unfold raisedLow costsOf in
-          ap (λ (f : ℕ). cond (leb f low) low f) (least-first rule M vs path (wordsIn slots y) (map (wordsIn slots) k) s)
+          unfold raisedLow in
+          rw (cost-order bytes) (ap (λ (f : ℕ). cond (leb f low) low f) (least-first bytes path (wordsIn slots y) (map (wordsIn slots) k) s))

@@ -11,8 +11,6 @@ use lib.ListN.{length, take, getD}
 use lib.Seq.{getD-take}
 use Rattle.laws.specs.Lists.{any, filter}
 use Rattle.laws.proofs.Bools.{and-both, not-both}
-use Rattle.model.specs.Syntax.{Variable}
-use Rattle.outline.specs.Outline.{modelOf}
 use Rattle.steps.specs.InBytes.{Outlined}
 use Rattle.beam_order.specs.Slots.{slotWords, fAt, hAt, wordsIn}
 use Rattle.beam_order.specs.Order.{count, used, keptIn, without, earlierAt, Cutoff, FoundBelow}
@@ -23,8 +21,8 @@ use Rattle.beam_index.specs.Links.{Found}
 use Rattle.beam_index.proofs.Linked.{member-of, is-member}
 use Rattle.beam.specs.Nodes.{stateWords, beats}
 use Rattle.beam.specs.Buckets.{bucketOf}
-use Rattle.beam.specs.Parts.{bucketIn, sought, IndexedParts, Removed, SlotRemoved}
-use Rattle.beam.proofs.Mixing.{same-bucket}
+use Rattle.beam.specs.Parts.{bucketIn, sought, IndexedParts}
+use Rattle.beam.proofs.Bucketing.{same-bucket}
 use Rattle.beam.proofs.Mapped.{any-map, filter-all, filter-without}
 use Rattle.beam.proofs.Layers.{first-length}
 
@@ -76,9 +74,9 @@ module _ {outline : List ℕ} {w size n : ℕ} {slots order links : List ℕ} (h
 -- ---- dominance stays in a bucket
 
 module _ {bytes outline : List ℕ} (o : Outlined bytes outline) (size : ℕ) where
-  pub beats-bucket : (a c : List ℕ) → beats (modelOf bytes .variables) a c ≡ true → bucketOf outline (stateWords a) size ≡ bucketOf outline (stateWords c) size
+  pub beats-bucket : (a c : List ℕ) → beats bytes a c ≡ true → bucketOf outline (stateWords a) size ≡ bucketOf outline (stateWords c) size
   unfolding beats
-  beats-bucket a c e = same-bucket bytes outline o (stateWords a) (stateWords c) size (and-both _ _ e .0)
+  beats-bucket a c e = same-bucket o (stateWords a) (stateWords c) size (and-both _ _ e .0)
 
 -- ---- removing by slot
 
@@ -107,46 +105,45 @@ filter-kept : (q : List ℕ → Bool) (slots order : List ℕ) (n p : ℕ) → p
 unfolding keptIn
 filter-kept q slots order n p l g = filter-without q (wordsIn slots) p (take n order) l g
 
-pub removed-slot : {outline : List ℕ} {w size n : ℕ} {slots order links order′ links′ : List ℕ} → IndexedParts outline w size n slots order links → (s p : ℕ) → (p < n) × (getD order p 0 ≡ s)
-    → Removed outline w size n p slots order order′ links′ → SlotRemoved outline w size n s slots order order′ links′
-removed-slot {n = n} {slots = slots} {order = order} hd s p at r = record { held = r .held; kept = λ q f. ap (filter q) (r .kept) ∙ same q f }
-  where
-    same : (q : List ℕ → Bool) → q (wordsIn slots s) ≡ false → filter q (without p (keptIn slots order n)) ≡ filter q (keptIn slots order n)
-    same q f =
-        let z : getD (take n order) p 0 ≡ s = getD-take n order p 0 (at .0) ∙ at .1 in
-        let g : q (wordsIn slots (getD (take n order) p 0)) ≡ false = rw z f in
-        filter-kept q slots order n p (omega (arith, at .0, first-length hd)) g
+-- one that fails the test is missing
+pub filter-removed : {outline : List ℕ} {w size n : ℕ} {slots order links : List ℕ} → IndexedParts outline w size n slots order links → (s p : ℕ) → (p < n) × (getD order p 0 ≡ s)
+    → (q : List ℕ → Bool) → q (wordsIn slots s) ≡ false → filter q (without p (keptIn slots order n)) ≡ filter q (keptIn slots order n)
+filter-removed {n = n} {slots} {order} hd s p at q f =
+    let z : getD (take n order) p 0 ≡ s = getD-take n order p 0 (at .0) ∙ at .1 in
+    filter-kept q slots order n p (omega (arith, at .0, first-length hd)) (rw z f)
 
 -- ---- removing all that the child beats
 
-module _ (bytes : List ℕ) {outline : List ℕ} {w size n : ℕ} {slots order links : List ℕ} (hd : IndexedParts outline w size n slots order links) (b : ℕ) (c : List ℕ) where
-  abbrev vs : List Variable
-  vs = modelOf bytes .variables
+-- a slot in use, of bucket b, whose node the child beats
+pub record Beaten (bytes outline : List ℕ) (w size n : ℕ) (slots order : List ℕ) (b : ℕ) (c : List ℕ) (s : ℕ) : Type 0 where
+  pub in-use : used order n s ≡ true
+  pub in-bucket : bucketIn outline slots size s ≡ b
+  pub beaten : not (beats bytes c (wordsIn slots s)) ≡ false
 
+module _ (bytes : List ℕ) {outline : List ℕ} {w size n : ℕ} {slots order links : List ℕ} (hd : IndexedParts outline w size n slots order links) (b : ℕ) (c : List ℕ) where
   -- the slot that a search finds
-  pub beaten-one : (q : ℕ) → Found links w b (sought vs slots c true) q → 0 < q
-      → (used order n (q - 1) ≡ true) × ((bucketIn outline slots size (q - 1) ≡ b) × (not (beats vs c (wordsIn slots (q - 1))) ≡ false))
+  pub beaten-one : (q : ℕ) → Found links w b (sought bytes slots c true) q → 0 < q → Beaten bytes outline w size n slots order b c (q - 1)
   unfolding sought
   beaten-one q f pos =
       let r = f .one (used order n) (bucketIn outline slots size) (hd .index) pos in
       let m = member-of w (used order n) (bucketIn outline slots size) b (q - 1) (r .0) in
-      (m .0, (m .1, ap not (r .1)))
+      record { in-use = m .0; in-bucket = m .1; beaten = ap not (r .1) }
 
   module _ (o : Outlined bytes outline) (key : bucketOf outline (stateWords c) size ≡ b) where
     -- none found: none is to go
-    pub beaten-none : (q : ℕ) → Found links w b (sought vs slots c true) q → q ≡ 0 → filter (λ m. not (beats vs c m)) (keptIn slots order n) ≡ keptIn slots order n
+    pub beaten-none : (q : ℕ) → Found links w b (sought bytes slots c true) q → q ≡ 0 → filter (λ m. not (beats bytes c m)) (keptIn slots order n) ≡ keptIn slots order n
     beaten-none q f e =
-        filter-all (beats vs c) (keptIn slots order n)
-        (found-none hd b (beats vs c) (λ m t. sym (beats-bucket o size c m t) ∙ key) (sought vs slots c true) (λ s. unfold sought in refl) (rw e at f))
+        filter-all (beats bytes c) (keptIn slots order n)
+        (found-none hd b (beats bytes c) (λ m t. sym (beats-bucket o size c m t) ∙ key) (sought bytes slots c true) (λ s. unfold sought in refl) (rw e at f))
 
     -- whether some kept node beats the child
-    pub beating-none : (q : ℕ) → Found links w b (sought vs slots c false) q → q ≡ 0 → any (λ m. beats vs m c) (keptIn slots order n) ≡ false
+    pub beating-none : (q : ℕ) → Found links w b (sought bytes slots c false) q → q ≡ 0 → any (λ m. beats bytes m c) (keptIn slots order n) ≡ false
     beating-none q f e =
-        found-none hd b (λ m. beats vs m c) (λ m t. beats-bucket o size m c t ∙ key) (sought vs slots c false) (λ s. unfold sought in refl) (rw e at f)
+        found-none hd b (λ m. beats bytes m c) (λ m t. beats-bucket o size m c t ∙ key) (sought bytes slots c false) (λ s. unfold sought in refl) (rw e at f)
 
-    pub beating-one : (q : ℕ) → Found links w b (sought vs slots c false) q → 0 < q → any (λ m. beats vs m c) (keptIn slots order n) ≡ true
+    pub beating-one : (q : ℕ) → Found links w b (sought bytes slots c false) q → 0 < q → any (λ m. beats bytes m c) (keptIn slots order n) ≡ true
     beating-one q f pos =
-        found-some hd b (λ m. beats vs m c) (λ m t. beats-bucket o size m c t ∙ key) (sought vs slots c false) (λ s. unfold sought in refl) q f pos
+        found-some hd b (λ m. beats bytes m c) (λ m t. beats-bucket o size m c t ∙ key) (sought bytes slots c false) (λ s. unfold sought in refl) q f pos
 
 pub some-used : (order : List ℕ) (n s : ℕ) → used order n s ≡ true → 0 < n
 some-used order zero s u = absurd (not-both u (used-no order 0 s (unfold count in omega arith)))

@@ -2,18 +2,17 @@
 
 ghost use mathlib.Core.Path.{_≡_};
 ghost use mathlib.Core.Bool.{true};
-ghost use Prim.Native.Nat.{_-_, _*_, _^_, _≤_, _<_};
+ghost use mathlib.Core.List.{dropLast};
+ghost use Prim.Native.Nat.{_+_, _-_, _*_, _^_, _≤_, _<_};
 ghost use lib.ListN.{length, getD};
-ghost use Rattle.model.specs.Numbers.{mostVariables};
-ghost use Rattle.outline.specs.Outline.{modelOf, variableCountAt};
 ghost use Rattle.steps.specs.InBytes.{Outlined};
-ghost use Rattle.beam_order.specs.Slots.{slotWords};
-ghost use Rattle.beam_order.specs.Order.{used, earlierAt, Rising, Cutoff};
+ghost use Rattle.beam_order.specs.Slots.{slotWords, placed};
+ghost use Rattle.beam_order.specs.Order.{used, without, earlierAt, Rising, Cutoff};
 ghost use Rattle.beam_index.specs.Links.{Falling, Found};
 ghost use Rattle.beam.specs.Nodes.{stateWords};
 ghost use Rattle.beam.specs.Buckets.{bucketOf};
-ghost use Rattle.beam.specs.Parts.{bucketIn, sought, Removed, Placed, SlotRemoved, BeatenRemoved, LastReplaced};
-ghost use Rattle.beam.specs.Layers.{slotsOf, orderOf, linksOf, Indexed, InsertedInto, Layer, Below, Emptied};
+ghost use Rattle.beam.specs.Parts.{bucketIn, sought};
+ghost use Rattle.beam.specs.Layers.{slotsOf, orderOf, linksOf, keptOf, Indexed, Keeping, SlotRemoved, unbeaten, InsertedInto, Layer, Below, Emptied};
 use crate::buckets::bucket;
 use crate::buckets::slot_bucket;
 use crate::slots::find;
@@ -50,7 +49,7 @@ pub fn empty(layer: &mut [u64], w: usize)
 // Takes the node at place p, which is in bucket k, out.
 fn remove_position(layer: &mut [u64], outline: &[u64], w: usize, n: usize, k: usize, p: usize)
     requires { ⌜ Indexed (now outline) w n (now layer) × ((p < n) × ((k < 4 * w) × (bucketIn (now outline) (slotsOf w (now layer)) (4 * w) (getD (orderOf w (now layer)) p 0) ≡ k))) ⌝ }
-    ensures { λ _. ⌜ (slotsOf w (now (layer .exit)) ≡ slotsOf w (now (layer .entry))) × Removed (now (outline .entry)) w (4 * w) n p (slotsOf w (now (layer .entry))) (orderOf w (now (layer .entry))) (orderOf w (now (layer .exit))) (linksOf w (now (layer .exit))) ⌝ }
+    ensures { λ _. ⌜ Keeping (now (outline .entry)) w (n - 1) (now (layer .exit)) (without p (keptOf w (now (layer .entry)) n)) ⌝ }
 {
     let a = ORDER_AT * w;
     let b = LINKS_AT * w;
@@ -91,7 +90,7 @@ fn find_in(
     beaten: bool,
 ) -> usize
     requires { ⌜ Outlined (now model) (now outline) × ((26 * w ≤ length (now layer)) × ((k < 4 * w) × (Falling w (linksOf w (now layer)) × (length (now child) ≡ slotWords)))) ⌝ }
-    ensures { λ r. ⌜ Found (linksOf w (now (layer .entry))) w k (sought (modelOf (now (model .entry)) .variables) (slotsOf w (now (layer .entry))) (now (child .entry)) beaten) r ⌝ }
+    ensures { λ r. ⌜ Found (linksOf w (now (layer .entry))) w k (sought (now (model .entry)) (slotsOf w (now (layer .entry))) (now (child .entry)) beaten) r ⌝ }
 {
     let a = ORDER_AT * w;
     let b = LINKS_AT * w;
@@ -111,7 +110,7 @@ fn find_in(
 // Takes the child, whose bucket is k, in.
 fn add_child(layer: &mut [u64], outline: &[u64], w: usize, n: usize, k: usize, child: &[u64])
     requires { ⌜ Indexed (now outline) w n (now layer) × ((n < w) × ((k < 4 * w) × ((length (now child) ≡ slotWords) × (bucketOf (now outline) (stateWords (now child)) (4 * w) ≡ k)))) ⌝ }
-    ensures { λ _. ⌜ Placed (now (outline .entry)) w (4 * w) n (slotsOf w (now (layer .entry))) (orderOf w (now (layer .entry))) (slotsOf w (now (layer .exit))) (orderOf w (now (layer .exit))) (linksOf w (now (layer .exit))) (now (child .entry)) ⌝ }
+    ensures { λ _. ⌜ Keeping (now (outline .entry)) w (n + 1) (now (layer .exit)) (placed (now (child .entry)) (keptOf w (now (layer .entry)) n)) ⌝ }
 {
     let a = ORDER_AT * w;
     let b = LINKS_AT * w;
@@ -129,7 +128,7 @@ fn add_child(layer: &mut [u64], outline: &[u64], w: usize, n: usize, k: usize, c
 // Takes the node in slot s, which is in bucket k, out.
 fn remove_slot(layer: &mut [u64], outline: &[u64], w: usize, n: usize, k: usize, s: usize)
     requires { ⌜ Indexed (now outline) w n (now layer) × ((s < w) × ((used (orderOf w (now layer)) n s ≡ true) × ((k < 4 * w) × (bucketIn (now outline) (slotsOf w (now layer)) (4 * w) s ≡ k)))) ⌝ }
-    ensures { λ _. ⌜ (slotsOf w (now (layer .exit)) ≡ slotsOf w (now (layer .entry))) × SlotRemoved (now (outline .entry)) w (4 * w) n s (slotsOf w (now (layer .entry))) (orderOf w (now (layer .entry))) (orderOf w (now (layer .exit))) (linksOf w (now (layer .exit))) ⌝ }
+    ensures { λ _. ⌜ SlotRemoved (now (outline .entry)) w n s (now (layer .entry)) (now (layer .exit)) ⌝ }
 {
     let a = ORDER_AT * w;
     let b = LINKS_AT * w;
@@ -152,7 +151,7 @@ fn remove_beaten(
     child: &[u64],
 ) -> usize
     requires { ⌜ Indexed (now outline) w n (now layer) × (Outlined (now model) (now outline) × ((k < 4 * w) × ((length (now child) ≡ slotWords) × (bucketOf (now outline) (stateWords (now child)) (4 * w) ≡ k)))) ⌝ }
-    ensures { λ r. ⌜ (slotsOf w (now (layer .exit)) ≡ slotsOf w (now (layer .entry))) × BeatenRemoved (modelOf (now (model .entry)) .variables) (now (outline .entry)) w (4 * w) n r (slotsOf w (now (layer .entry))) (orderOf w (now (layer .entry))) (orderOf w (now (layer .exit))) (linksOf w (now (layer .exit))) (now (child .entry)) ⌝ }
+    ensures { λ r. ⌜ Keeping (now (outline .entry)) w r (now (layer .exit)) (unbeaten (now (model .entry)) (now (child .entry)) (keptOf w (now (layer .entry)) n)) ⌝ }
 {
     let mut left = n;
     let mut link = find_in(layer, model, outline, w, k, child, true);
@@ -165,14 +164,14 @@ fn remove_beaten(
 }
 
 // The child, whose bucket is k, takes the place of the last node of a full layer.
-fn replace_last(layer: &mut [u64], outline: &[u64], w: usize, k: usize, child: &[u64])
-    requires { ⌜ Indexed (now outline) w w (now layer) × ((getD (now outline) variableCountAt 0 ≤ mostVariables) × ((k < 4 * w) × ((length (now child) ≡ slotWords) × (bucketOf (now outline) (stateWords (now child)) (4 * w) ≡ k)))) ⌝ }
-    ensures { λ _. ⌜ LastReplaced (now (outline .entry)) w (4 * w) (slotsOf w (now (layer .entry))) (orderOf w (now (layer .entry))) (slotsOf w (now (layer .exit))) (orderOf w (now (layer .exit))) (linksOf w (now (layer .exit))) (now (child .entry)) ⌝ }
+fn replace_last(layer: &mut [u64], model: &[u8], outline: &[u64], w: usize, k: usize, child: &[u64])
+    requires { ⌜ Indexed (now outline) w w (now layer) × (Outlined (now model) (now outline) × ((k < 4 * w) × ((length (now child) ≡ slotWords) × (bucketOf (now outline) (stateWords (now child)) (4 * w) ≡ k)))) ⌝ }
+    ensures { λ _. ⌜ Keeping (now (outline .entry)) w w (now (layer .exit)) (placed (now (child .entry)) (dropLast (keptOf w (now (layer .entry)) w))) ⌝ }
 {
     let a = ORDER_AT * w;
     let p = w - 1;
     let s = layer[a + p] as usize;
-    let other = slot_bucket(outline, &layer[..a], s, 4 * w);
+    let other = slot_bucket(model, outline, &layer[..a], s, 4 * w);
     remove_position(layer, outline, w, w, other, p);
     add_child(layer, outline, w, p, k, child);
 }
@@ -189,7 +188,7 @@ pub fn insert(
     requires { ⌜ Indexed (now outline) width n (now layer) × (Outlined (now model) (now outline) × (length (now child) ≡ slotWords)) ⌝ }
     ensures { λ r. ⌜ InsertedInto (now (model .entry)) (now (outline .entry)) width n (r .count) (r .cut) (now (layer .entry)) (now (layer .exit)) (now (child .entry)) ⌝ }
 {
-    let k = bucket(outline, &child[..16], 4 * width);
+    let k = bucket(model, outline, &child[..16], 4 * width);
     if 0 < find_in(layer, model, outline, width, k, child, false) {
         return Inserted {
             count: n,
@@ -207,7 +206,7 @@ pub fn insert(
     let f = child[F_AT];
     let h = child[H_AT];
     if before_last(layer, width, f, h) {
-        replace_last(layer, outline, width, k, child);
+        replace_last(layer, model, outline, width, k, child);
         return Inserted {
             count: width,
             cut: true,

@@ -3,7 +3,6 @@
 ghost use mathlib.Core.Path.{_≡_};
 ghost use Prim.Native.Nat.{_*_, _+_, _≤_, _<_};
 ghost use lib.ListN.{length};
-ghost use Rattle.outline.specs.Outline.{modelOf};
 ghost use Rattle.steps.specs.InBytes.{Outlined};
 ghost use Rattle.beam_order.specs.Slots.{slotWords};
 ghost use Rattle.beam_index.specs.Links.{Falling, Found};
@@ -26,7 +25,7 @@ pub fn write_slot(slots: &mut [u64], s: usize, words: &[u64])
 // Whether the node of words a dominates that of b with g no greater.
 fn beats(model: &[u8], outline: &[u64], a: &[u64], b: &[u64]) -> bool
     requires { ⌜ Outlined (now model) (now outline) × ((length (now a) ≡ slotWords) × (length (now b) ≡ slotWords)) ⌝ }
-    ensures { λ r. ⌜ r ≡ Nodes·beats (modelOf (now (model .entry)) .variables) (now (a .entry)) (now (b .entry)) ⌝ }
+    ensures { λ r. ⌜ r ≡ Nodes·beats (now (model .entry)) (now (a .entry)) (now (b .entry)) ⌝ }
 {
     if a[G_AT] <= b[G_AT] {
         return dominates(model, outline, &a[..16], &b[..16]);
@@ -44,7 +43,7 @@ fn sought(
     beaten: bool,
 ) -> bool
     requires { ⌜ Outlined (now model) (now outline) × ((s * slotWords + slotWords ≤ length (now slots)) × (length (now child) ≡ slotWords)) ⌝ }
-    ensures { λ r. ⌜ r ≡ slotSought (modelOf (now (model .entry)) .variables) (now (slots .entry)) (now (child .entry)) beaten s ⌝ }
+    ensures { λ r. ⌜ r ≡ slotSought (now (model .entry)) (now (slots .entry)) (now (child .entry)) beaten s ⌝ }
 {
     let at = s * SLOT_WORDS;
     if beaten {
@@ -65,7 +64,7 @@ pub fn find(
     beaten: bool,
 ) -> usize
     requires { ⌜ Outlined (now model) (now outline) × ((w + b < length (now links)) × (Falling w (now links) × ((w * slotWords ≤ length (now slots)) × (length (now child) ≡ slotWords)))) ⌝ }
-    ensures { λ r. ⌜ Found (now (links .entry)) w b (slotSought (modelOf (now (model .entry)) .variables) (now (slots .entry)) (now (child .entry)) beaten) r ⌝ }
+    ensures { λ r. ⌜ Found (now (links .entry)) w b (slotSought (now (model .entry)) (now (slots .entry)) (now (child .entry)) beaten) r ⌝ }
 {
     let mut link = links[w + b] as usize;
     while 0 < link {

@@ -1,15 +1,29 @@
 -- Passing over an expression in leaps: at `at` with so many expressions due, what is left gives the whole.
 use Prim.Native.Nat.{ℕ, zero, suc, _+_, _-_, _≤_, _<_, min}
 use mathlib.Core.Path.{_≡_, refl, ap, _∙_}
+use mathlib.Core.Bool.{Bool, true, false, _&&_, false≢true}
 use mathlib.Core.List.{List, [], _∷_}
 use native.Mathlib.Omega.{arith}
 use lib.ListN.{length, drop, getD, length-drop, drop-of-length-le}
 use lib.Seq.{drop-drop, drop-cons}
-use Rattle.eval_sets.specs.Forms.{operands, parts, span}
+use lib.Dec.{leb}
+use borrow.Author.Tests.{leb-true}
+use Rattle.words.proofs.Bytes.{agree}
+use Rattle.eval_sets.specs.declared.bytes.Shape.{Shape}
+use Rattle.eval_sets.specs.Forms.{shapeOf, operands, parts, span}
 use Rattle.eval_sets.proofs.Spans.{span-none}
 
 abbrev pub Passed : List ℕ → (at due : ℕ) → Type 0
 Passed e at due = span e 0 1 ≡ min at (length e) + span (drop at e) 0 due
+
+-- no byte has more than nine bytes of operands or more than three parts, as computed at all bytes
+pub shape-small : (b : ℕ) → b < 256 → (shapeOf b .operands ≤ 9) × (shapeOf b .parts ≤ 3)
+unfolding shapeOf
+shape-small b h = both (leb (shapeOf b .operands) 9) refl (agree (λ b. true) (λ b. leb (shapeOf b .operands) 9 && leb (shapeOf b .parts) 3) (λ b. true) refl b h refl)
+  where
+    both : (t : Bool) → leb (shapeOf b .operands) 9 ≡ t → (t && leb (shapeOf b .parts) 3) ≡ true → (shapeOf b .operands ≤ 9) × (shapeOf b .parts ≤ 3)
+    both true p q = (leb-true _ 9 p, leb-true _ 3 q)
+    both false p q = absurd (false≢true q)
 
 -- a leap over operands may pass the end
 leap : (e : List ℕ) (j c : ℕ) → span e j c ≡ min j (length e) + span (drop j e) 0 c
@@ -38,10 +52,15 @@ unfolding span
 turn-is b f c k p hk hp = rw (hk, hp) (ap suc (leap f (operands b) (parts b + c)))
 
 -- one turn: the byte at `at`, its operands, and its parts for one that was due
-pub passed-step : (e : List ℕ) (at due k p : ℕ) → Passed e at due → at < length e → 0 < due
-    → k ≡ operands (getD e at 0) → p ≡ parts (getD e at 0) → Passed e (at + 1 + k) (due - 1 + p)
-passed-step e at due k p h l z hk hp =
+pub passed-step : (e : List ℕ) (at due : ℕ) (s : Shape) → Passed e at due → at < length e → 0 < due
+    → s ≡ shapeOf (getD e at 0) → Passed e (at + 1 + s .operands) (due - 1 + s .parts)
+unfolding operands parts
+passed-step e at due s h l z q =
     let b = getD e at 0 in
+    let k = s .operands in
+    let p = s .parts in
+    let hk : k ≡ operands b = ap (λ (s : Shape). s .operands) q in
+    let hp : p ≡ parts b = ap (λ (s : Shape). s .parts) q in
     let one-more : due ≡ suc (due - 1) = omega arith in
     let turn : span (b ∷ drop (suc at) e) 0 (suc (due - 1)) ≡ suc (min k (length (drop (suc at) e)) + span (drop k (drop (suc at) e)) 0 (p + (due - 1)))
     = turn-is b (drop (suc at) e) (due - 1) k p hk hp in

@@ -306,7 +306,7 @@ pub set-element-small : (ws : List ℕ) (rs : List ℕ → SetValue) (e : List �
 unfolding R.setThenElement
 set-element-small ws rs e = element-small ws (drop (rs e .used) e)
 
--- the bytes used from a environment on
+-- the bytes used from a position on
 pub element-past : (ws : List ℕ) (at : ℕ) (e f : List ℕ) (v : ElementValue) → f ≡ drop at e → v ≡ runElement ws f → v .used ≤ length e - at
 element-past ws at e f v q r = omega (arith, rw (← r, q) at (element-within ws f), length-drop at e)
 

@@ -3,6 +3,7 @@ use Prim.Native.Nat.{ℕ, zero, suc, _+_}
 use mathlib.Core.Bool.{cond, true, false}
 use mathlib.Core.List.{List, [], _∷_}
 use lib.Dec.{eqb}
+use Rattle.eval_sets.specs.declared.bytes.Shape.{Shape}
 use Rattle.eval_sets.specs.declared.first_bytes.Operation.the-variants as O
 use Rattle.eval_sets.specs.declared.first_bytes.NumberForm.{NumberForm}
 use Rattle.eval_sets.specs.declared.first_bytes.NumberForm.the-variants as N
@@ -38,19 +39,22 @@ conditionForm b =
 
 -- ---- shapes
 
--- b, the bytes of operands behind it, and the expressions behind those
-unfoldable pub shapeOf : ℕ → ℕ × ℕ
+abbrev shape : (operands parts : ℕ) → Shape
+shape n k = record { operands = n; parts = k }
+
+-- the bytes of operands behind byte b, and the expressions behind those
+unfoldable pub shapeOf : ℕ → Shape
 shapeOf b =
-    cond (eqb b 0x20) (4, 0) (cond (eqb b 0x21) (1, 0) (cond (eqb b 0x28) (1, 2) (cond (eqb b 0x29) (0, 1)
-    (cond (eqb b 0x2a) (1, 2) (cond (eqb b 0x2b) (0, 3) (cond (eqb b 0x30) (1, 0) (cond (eqb b 0x31) (1, 0)
-    (cond (eqb b 0x40) (9, 0) (cond (eqb b 0x41) (1, 0) (cond (eqb b 0x47) (0, 1) (cond (eqb b 0x55) (0, 1)
-    (cond (eqb b 0x57) (0, 1) (0, 2)))))))))))))
+    cond (eqb b 0x20) (shape 4 0) (cond (eqb b 0x21) (shape 1 0) (cond (eqb b 0x28) (shape 1 2) (cond (eqb b 0x29) (shape 0 1)
+    (cond (eqb b 0x2a) (shape 1 2) (cond (eqb b 0x2b) (shape 0 3) (cond (eqb b 0x30) (shape 1 0) (cond (eqb b 0x31) (shape 1 0)
+    (cond (eqb b 0x40) (shape 9 0) (cond (eqb b 0x41) (shape 1 0) (cond (eqb b 0x47) (shape 0 1) (cond (eqb b 0x55) (shape 0 1)
+    (cond (eqb b 0x57) (shape 0 1) (shape 0 2)))))))))))))
 
 unfoldable pub operands : ℕ → ℕ
-operands b = shapeOf b .0
+operands b = shapeOf b .operands
 
 unfoldable pub parts : ℕ → ℕ
-parts b = shapeOf b .1
+parts b = shapeOf b .parts
 
 -- the bytes that operands and then the expressions that are due take, as far as there are bytes
 unfoldable pub span : List ℕ → (operands due : ℕ) → ℕ

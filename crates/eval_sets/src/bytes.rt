@@ -1,9 +1,8 @@
 // A name, what stands behind a part, and the bytes of an expression that is passed over.
 
 ghost use mathlib.Core.Path.{_≡_};
-ghost use Prim.Native.Nat.{_≤_};
 ghost use lib.ListN.{getD, drop};
-ghost use Rattle.eval_sets.specs.Forms.{operands, parts, span};
+ghost use Rattle.eval_sets.specs.Forms.{shapeOf, span};
 use laws::byte_at;
 
 // What stands behind the first n bytes; nothing where there are no more.
@@ -30,7 +29,7 @@ pub struct Shape {
 }
 
 fn shape_of(b: u8) -> Shape
-    ensures { λ r. ⌜ (r .operands ≡ operands b) × (r .parts ≡ parts b) × (operands b ≤ 9) × (parts b ≤ 3) ⌝ }
+    ensures { λ r. ⌜ r ≡ shapeOf b ⌝ }
 {
     match b {
         0x20 => Shape {

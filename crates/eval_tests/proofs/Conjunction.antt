@@ -1,4 +1,4 @@
--- A conjunction's stopped answer by those of its parts, at a environment in the bytes, and the room for their bytes.
+-- A conjunction's stopped answer by those of its parts, at a position in the bytes, and the room for their bytes.
 use Prim.Native.Nat.{ℕ, _+_, _-_, _^_, _≤_, _<_}
 use mathlib.Core.Path.{_≡_, refl, sym, ap, _∙_}
 use mathlib.Core.Bool.{Bool, true, false}
@@ -12,8 +12,8 @@ use Rattle.eval_sets.specs.Bounds.{ConditionRoom}
 use Rattle.eval_sets.specs.Forms.{conditionForm}
 use Rattle.eval_sets.specs.Runs.{Environment, runNumber, runCondition, conditionAt, conditionBehind, runConnective, connectiveFirst, decided, agree, skipAt}
 use Rattle.eval_sets.proofs.Within.{number-within, condition-within, connective-within}
-use Rattle.eval_sets.proofs.Opening.{condition-no-depth, condition-no-byte, condition-open}
-use Rattle.eval_sets.proofs.Slices.{behind, first-at, none-behind, some-behind}
+use Rattle.eval_sets.proofs.Opening.{condition-opens}
+use Rattle.eval_sets.proofs.Slices.{behind}
 use Rattle.eval_tests.specs.Stopped.{stopped}
 use Rattle.eval_tests.proofs.Stopping.{stopped-past, stopped-within, stopped-room}
 
@@ -22,18 +22,16 @@ use Rattle.eval_tests.proofs.Stopping.{stopped-past, stopped-within, st
 module _ (p : Environment) (d at : ℕ) (e : List ℕ) where
   pub no-depth : d ≡ 0 → C.Trouble 0 ≡ stopped (runCondition d p (drop at e))
   unfolding stopped
-  no-depth h = rw (condition-no-depth p d (drop at e) h)
+  no-depth h = rw (condition-opens p .no-depth d at e h)
 
   pub no-byte : length e ≤ at → C.Trouble 0 ≡ stopped (runCondition d p (drop at e))
   unfolding stopped
-  no-byte h = rw (condition-no-byte p d (drop at e) (none-behind at e h))
+  no-byte h = rw (condition-opens p .no-byte d at e h)
 
   pub conjunction-tested : (d ≡ 0 → ⊥) → at < length e → getD e at 0 ≡ 0x58
       → stopped (conditionPast 1 (stopped (runConnective false (λ f. runCondition (d - 1) p f) (drop (at + 1) e)))) ≡ stopped (runCondition d p (drop at e))
   unfolding conditionAt conditionBehind conditionForm
-  conjunction-tested h l q =
-      stopped-past 1 _ ∙ ap stopped (rw (behind at 1 e) (sym (condition-open p d (drop at e) h (some-behind at e l)
-      ∙ ap (λ (b : ℕ). conditionPast 1 (conditionAt (d - 1) p (conditionForm b) (drop 1 (drop at e)))) (sym (first-at at e) ∙ q))))
+  conjunction-tested h l q = stopped-past 1 _ ∙ ap stopped (sym (condition-opens p .opened d at e h l q))
 
   -- the first byte can be counted too
   pub conjunction-room : length e < 2 ^ 63 → ConditionRoom 1 (stopped (runConnective false (λ f. runCondition d p f) (drop (at + 1) e)))

@@ -9,6 +9,9 @@ pub mod Ranges
 pub mod Fair
 pub mod Reading
 pub mod Troubles
+pub mod Declared
+pub mod Enumerated
+pub mod Consistent
 pub mod PlanCheck
 pub mod Chains
 pub mod Loops

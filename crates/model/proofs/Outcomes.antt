@@ -1,13 +1,13 @@
--- What evaluation comes to: every value of a number expression is in range, and every trouble is one of the state's.
--- One induction over the expressions says both; Ranges and Troubles take from it what they state.
+-- What evaluation comes to: every value of a number expression is in range, every trouble is one of the state's, and a step keeps
+-- the number of values. One induction over the expressions says all; Ranges, Troubles and Declared take from it what they state.
 use Prim.Native.Nat.{ℕ, zero, suc, _-_, _≤_, _<_}
-use mathlib.Core.Path.{_≡_, subst}
+use mathlib.Core.Path.{_≡_, refl, _∙_, subst}
 use mathlib.Core.Bool.{Bool, true, false, cond}
 use mathlib.Core.List.{List, [], _∷_}
 use mathlib.Core.Option.{Option}
 use mathlib.Core.Option as O
 use native.Mathlib.Omega.{arith}
-use lib.ListN.{getElem?, set}
+use lib.ListN.{length, getElem?, set, length-set}
 use lib.Dec.{ltb}
 use lib.IntN.{ℤ, pos, negsuc}
 use lib.Signed.{mag}
@@ -143,16 +143,16 @@ pub data StatusOutcome : Status → Type 0 where
   is-unfinished : StatusOutcome unfinished
   no-status : {t : ℕ} → StateTrouble t → StatusOutcome (noStatus t)
 
-pub data MoveOutcome (end : ℕ) : Move State ℕ → Type 0 where
-  no-move : MoveOutcome end blocked
-  a-move : {c : ℕ} {u : State} → c < end → MoveOutcome end (moved c u)
-  trouble-before : {t : ℕ} → StateTrouble t → MoveOutcome end (troubleBefore t)
-  trouble-after : {c t : ℕ} → c < end → StateTrouble t → MoveOutcome end (troubleAfter c t)
+-- from a state of n values: the cost of a step is below the range's end, and the new state has n values
+pub data MoveOutcome (end n : ℕ) : Move State ℕ → Type 0 where
+  no-move : MoveOutcome end n blocked
+  a-move : {c : ℕ} {u : State} → c < end → length u ≡ n → MoveOutcome end n (moved c u)
+  trouble-before : {t : ℕ} → StateTrouble t → MoveOutcome end n (troubleBefore t)
+  trouble-after : {c t : ℕ} → c < end → StateTrouble t → MoveOutcome end n (troubleAfter c t)
 
--- the cost of a step that is taken is below the range's end
-data AttemptOutcome (end : ℕ) : Attempt → Type 0 where
-  not-taken : AttemptOutcome end notTaken
-  is-taken : {c : ℕ} {new : State} → c < end → AttemptOutcome end (taken c new)
+data AttemptOutcome (end n : ℕ) : Attempt → Type 0 where
+  not-taken : AttemptOutcome end n notTaken
+  is-taken : {c : ℕ} {new : State} → c < end → length new ≡ n → AttemptOutcome end n (taken c new)
 
 status-of-outcome : {x : Value Bool} → Outcome Anything StateTrouble x → StatusOutcome (statusOf x)
 unfolding statusOf
@@ -176,35 +176,35 @@ module _ (end : ℕ) (m : Model) where
   unfolding status
   status-outcome s = status-of-outcome (some-holds-outcome end (m .tables) (m .baseCases) s)
 
-  effects-outcome : (fs : List Effect) (s new : State) → Outcome Anything StateTrouble (effects end m fs s new)
+  effects-outcome : (fs : List Effect) (s new : State) {n : ℕ} → length new ≡ n → Outcome (λ u. length u ≡ n) StateTrouble (effects end m fs s new)
   unfolding effects
-  effects-outcome [] s new = a-value tt
-  effects-outcome (f ∷ fs) s new = then-outcome (expression-outcome end (m .tables) (f .result) s) (λ z _. effects-outcome fs s (set new (f .target) z))
+  effects-outcome [] s new e = a-value e
+  effects-outcome (f ∷ fs) s new e = then-outcome (expression-outcome end (m .tables) (f .result) s) (λ z _. effects-outcome fs s (set new (f .target) z) (length-set new (f .target) z ∙ e))
 
-  attempt-outcome : (t : Transition) (s : State) → Outcome (AttemptOutcome end) StateTrouble (attempt end m t s)
+  attempt-outcome : (t : Transition) (s : State) → Outcome (AttemptOutcome end (length s)) StateTrouble (attempt end m t s)
   unfolding attempt
   attempt-outcome t s = then-outcome (all-hold-outcome end (m .tables) (t .conditions) s) (λ b _. cond-outcome b
-      (then-outcome (number-outcome end (m .tables) (t .cost) s) (λ z h. then-outcome (cost-outcome end z h) (λ c k. then-outcome (effects-outcome (t .effects) s s) (λ new _. a-value (is-taken k)))))
+      (then-outcome (number-outcome end (m .tables) (t .cost) s) (λ z h. then-outcome (cost-outcome end z h) (λ c k. then-outcome (effects-outcome (t .effects) s s refl) (λ new e. a-value (is-taken k e)))))
       (a-value not-taken))
 
-  constrained-outcome : (c : ℕ) (new : State) {x : Value Bool} → c < end → Outcome Anything StateTrouble x → MoveOutcome end (constrained end m c new x)
+  constrained-outcome : (c : ℕ) (new : State) {n : ℕ} {x : Value Bool} → c < end → length new ≡ n → Outcome Anything StateTrouble x → MoveOutcome end n (constrained end m c new x)
   unfolding constrained
-  constrained-outcome c new h (a-value {a = true} p) = a-move h
-  constrained-outcome c new h (a-value {a = false} p) = no-move
-  constrained-outcome c new h (a-trouble q) = trouble-after h q
+  constrained-outcome c new h e (a-value {a = true} p) = a-move h e
+  constrained-outcome c new h e (a-value {a = false} p) = no-move
+  constrained-outcome c new h e (a-trouble q) = trouble-after h q
 
-  move-of-outcome : {x : Value Attempt} → Outcome (AttemptOutcome end) StateTrouble x → MoveOutcome end (moveOf end m x)
+  move-of-outcome : {n : ℕ} {x : Value Attempt} → Outcome (AttemptOutcome end n) StateTrouble x → MoveOutcome end n (moveOf end m x)
   unfolding moveOf
   move-of-outcome (a-value not-taken) = no-move
-  move-of-outcome (a-value (is-taken {c} {new} h)) = constrained-outcome c new h (all-hold-outcome end (m .tables) (m .constraints) new)
+  move-of-outcome (a-value (is-taken {c} {new} h e)) = constrained-outcome c new h e (all-hold-outcome end (m .tables) (m .constraints) new)
   move-of-outcome (a-trouble q) = trouble-before q
 
-  move-by-outcome : (o : Option Transition) (s : State) → MoveOutcome end (moveBy end m o s)
+  move-by-outcome : (o : Option Transition) (s : State) → MoveOutcome end (length s) (moveBy end m o s)
   unfolding moveBy
   move-by-outcome O.none s = no-move
   move-by-outcome (O.some t) s = move-of-outcome (attempt-outcome t s)
 
-  pub move-outcome : (s : State) (t : ℕ) → MoveOutcome end (move end m s t)
+  pub move-outcome : (s : State) (t : ℕ) → MoveOutcome end (length s) (move end m s t)
   unfolding move
   move-outcome s t = move-by-outcome (getElem? (m .transitions) t) s
 

@@ -1,5 +1,5 @@
 -- The plan check passes exactly the plans, at their costs: over any system, then on the bytes of a model and a plan.
--- Its answer is 0 exactly where the bytes are a model and the plan is one of its plans, at the answer's cost.
+-- Its answer is 0 exactly where the bytes are a model and the plan is one of its plans, at whatever cost.
 use Prim.Native.Nat.{ℕ, _≤_}
 use mathlib.Core.Path.{_≡_, refl, sym, _∙_, ap, subst}
 use mathlib.Core.Logic.{_↔_}
@@ -17,7 +17,7 @@ use Rattle.model.specs.Syntax.{Model}
 use Rattle.model.specs.Readers.{Read, read, refused}
 use Rattle.model.specs.Commands.{model}
 use Rattle.model.specs.Steps.{target, systemOf, costsOf}
-use Rattle.model.specs.Check.{final, afterMove, afterStatus, follow, checkModel, check, answerNumber, answerCost, CheckedPlan}
+use Rattle.model.specs.Check.{final, afterMove, afterStatus, follow, checkModel, check, answerNumber, CheckedPlan, IsPlan}
 use Rattle.model.proofs.Costs.{cost-laws}
 use Rattle.model.proofs.Troubles.{check-numbers, check-refusal-positive}
 
@@ -98,14 +98,14 @@ pub check-exact : (bytes plan : List ℕ) (c : ℕ) → (check bytes plan ≡ va
 check-exact bytes plan c = (check-sound bytes plan c, check-complete bytes plan c)
 
 -- no refusal has number 0, so answer 0 says that there is a cost
-answer-zero-sound : (bytes plan : List ℕ) (x : Value ℕ) → check bytes plan ≡ x → answerNumber x ≡ 0 → CheckedPlan bytes plan (answerCost x)
-unfolding answerNumber answerCost
-answer-zero-sound bytes plan (value c) p e = check-sound bytes plan c p
+answer-zero-sound : (bytes plan : List ℕ) (x : Value ℕ) → check bytes plan ≡ x → answerNumber x ≡ 0 → IsPlan bytes plan
+unfolding answerNumber
+answer-zero-sound bytes plan (value c) p e = (c, check-sound bytes plan c p)
 answer-zero-sound bytes plan (trouble t) p e = absurd (omega (arith, check-refusal-positive (check-numbers bytes plan p)))
 
 answer-zero-complete : (bytes plan : List ℕ) (c : ℕ) → CheckedPlan bytes plan c → answerNumber (check bytes plan) ≡ 0
 unfolding answerNumber
 answer-zero-complete bytes plan c h = rw (check-complete bytes plan c h)
 
-pub answer-zero-exact : (bytes plan : List ℕ) → (answerNumber (check bytes plan) ≡ 0) ↔ CheckedPlan bytes plan (answerCost (check bytes plan))
-answer-zero-exact bytes plan = (answer-zero-sound bytes plan (check bytes plan) refl, answer-zero-complete bytes plan (answerCost (check bytes plan)))
+pub answer-zero-exact : (bytes plan : List ℕ) → (answerNumber (check bytes plan) ≡ 0) ↔ IsPlan bytes plan
+answer-zero-exact bytes plan = (answer-zero-sound bytes plan (check bytes plan) refl, λ h. answer-zero-complete bytes plan (h .0) (h .1))

@@ -21,21 +21,21 @@ use Rattle.model.proofs.Outcomes.{outcome-value, number-outcome, MoveOu
 pub number-in-range : (end : ℕ) (tables : List Table) (x : Number) (s : State) {z : ℤ} → numberValue end tables x s ≡ value z → mag z < end
 number-in-range end tables x s e = outcome-value (number-outcome end tables x s) e
 
-moved-below : {end c : ℕ} {u : State} → MoveOutcome end (moved c u) → c < end
-moved-below (a-move h) = h
+moved-below : {end n c : ℕ} {u : State} → MoveOutcome end n (moved c u) → c < end
+moved-below (a-move h e) = h
 
-after-below : {end c t : ℕ} → MoveOutcome end (troubleAfter c t) → c < end
+after-below : {end n c t : ℕ} → MoveOutcome end n (troubleAfter c t) → c < end
 after-below (trouble-after h q) = h
 
 module _ (end : ℕ) (m : Model) where
   pub step-cost-below : (s : State) (t : ℕ) {c : ℕ} {u : State} → systemOf end m .move s t ≡ moved c u → c < end
   unfolding systemOf
-  step-cost-below s t e = moved-below (subst (MoveOutcome end) e (move-outcome end m s t))
+  step-cost-below s t e = moved-below (subst (MoveOutcome end (length s)) e (move-outcome end m s t))
 
   -- the step's cost where the new state's constraints give trouble
   pub trouble-cost-below : (s : State) (t : ℕ) {c n : ℕ} → systemOf end m .move s t ≡ troubleAfter c n → c < end
   unfolding systemOf
-  trouble-cost-below s t e = after-below (subst (MoveOutcome end) e (move-outcome end m s t))
+  trouble-cost-below s t e = after-below (subst (MoveOutcome end (length s)) e (move-outcome end m s t))
 
   bound-at-most : (s : State) {h : ℕ} → systemOf end m .bound s ≡ value h → h ≤ end - 1
   unfolding systemOf

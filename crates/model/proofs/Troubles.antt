@@ -34,10 +34,10 @@ module _ (end : ℕ) (tables : List Table) where
 of-no-status : {t : ℕ} → StatusOutcome (noStatus t) → StateTrouble t
 of-no-status (no-status q) = q
 
-of-trouble-before : {end t : ℕ} → MoveOutcome end (troubleBefore t) → StateTrouble t
+of-trouble-before : {end n t : ℕ} → MoveOutcome end n (troubleBefore t) → StateTrouble t
 of-trouble-before (trouble-before q) = q
 
-of-trouble-after : {end c t : ℕ} → MoveOutcome end (troubleAfter c t) → StateTrouble t
+of-trouble-after : {end n c t : ℕ} → MoveOutcome end n (troubleAfter c t) → StateTrouble t
 of-trouble-after (trouble-after h q) = q
 
 module _ (end : ℕ) (m : Model) where
@@ -47,11 +47,11 @@ module _ (end : ℕ) (m : Model) where
 
   pub move-trouble-before : (s : State) (i : ℕ) {t : ℕ} → systemOf end m .move s i ≡ troubleBefore t → StateTrouble t
   unfolding systemOf
-  move-trouble-before s i e = of-trouble-before (subst (MoveOutcome end) e (move-outcome end m s i))
+  move-trouble-before s i e = of-trouble-before (subst (MoveOutcome end (length s)) e (move-outcome end m s i))
 
   pub move-trouble-after : (s : State) (i : ℕ) {c t : ℕ} → systemOf end m .move s i ≡ troubleAfter c t → StateTrouble t
   unfolding systemOf
-  move-trouble-after s i e = of-trouble-after (subst (MoveOutcome end) e (move-outcome end m s i))
+  move-trouble-after s i e = of-trouble-after (subst (MoveOutcome end (length s)) e (move-outcome end m s i))
 
   pub bound-trouble : (s : State) {t : ℕ} → systemOf end m .bound s ≡ trouble t → StateTrouble t
   unfolding systemOf
@@ -79,14 +79,14 @@ module _ (end : ℕ) (K : Costs ℕ) (m : Model) where
   final-outcome g is-unfinished = not-a-plan
   final-outcome g (no-status q) = by-state q
 
-  after-move-outcome : {x : Move State ℕ} {rest : ℕ → State → Value ℕ} → MoveOutcome end x → ((c : ℕ) (u : State) → PlanOutcome (rest c u)) → PlanOutcome (afterMove K (systemOf end m) x rest)
+  after-move-outcome : {n : ℕ} {x : Move State ℕ} {rest : ℕ → State → Value ℕ} → MoveOutcome end n x → ((c : ℕ) (u : State) → PlanOutcome (rest c u)) → PlanOutcome (afterMove K (systemOf end m) x rest)
   unfolding afterMove
   after-move-outcome no-move f = not-a-plan
-  after-move-outcome (a-move {c} {u} h) f = f c u
+  after-move-outcome (a-move {c} {u} h e) f = f c u
   after-move-outcome (trouble-before q) f = by-state q
   after-move-outcome (trouble-after h q) f = by-state q
 
-  after-status-outcome : {x : Status} (declared : Bool) {y : Move State ℕ} {rest : ℕ → State → Value ℕ} → StatusOutcome x → MoveOutcome end y → ((c : ℕ) (u : State) → PlanOutcome (rest c u)) → PlanOutcome (afterStatus K (systemOf end m) x declared y rest)
+  after-status-outcome : {n : ℕ} {x : Status} (declared : Bool) {y : Move State ℕ} {rest : ℕ → State → Value ℕ} → StatusOutcome x → MoveOutcome end n y → ((c : ℕ) (u : State) → PlanOutcome (rest c u)) → PlanOutcome (afterStatus K (systemOf end m) x declared y rest)
   unfolding afterStatus
   after-status-outcome declared is-base p f = not-a-plan
   after-status-outcome true is-unfinished p f = after-move-outcome p f

@@ -64,3 +64,7 @@ pub record CheckedPlan (bytes plan : List ℕ) (c : ℕ) : Type 0 where
   pub used : ℕ
   pub reads : model bytes ≡ read described used
   pub plans : Plan (costsOf (described .rule)) (systemOf rangeEnd described) (target described) plan c
+
+-- the bytes are a model and the plan is one of its plans, at some cost
+abbrev pub IsPlan : (bytes plan : List ℕ) → Type 0
+IsPlan bytes plan = (c : ℕ) × CheckedPlan bytes plan c

@@ -38,6 +38,11 @@ module _ {S C : Type 0} (K : Costs C) (M : System S C) where
     finish : {s : S} → M .status s ≡ base → Plan s [] (K .empty)
     step : {s u : S} {t : ℕ} {ts : List ℕ} {c r : C} → Step M s t c u → Plan u ts r → Plan s (t ∷ ts) (K .combine c r)
 
+  -- allowed steps, one after the other, lead from s to u, g being spent on the way to s and d on the way to u
+  pub data Leads : (s : S) (g : C) → List ℕ → (u : S) (d : C) → Type 0 where
+    arrived : {s : S} {g : C} → Leads s g [] s g
+    further : {s u v : S} {t : ℕ} {ts : List ℕ} {c g d : C} → Step M s t c u → Leads u (K .combine g c) ts v d → Leads s g (t ∷ ts) v d
+
   -- "Declarations are true when, over all states reachable by allowed steps, h (where it has a value) is at most the cost of
   -- every plan from there, and a dominating state has, for each plan of the dominated one, a plan costing no more"
   pub record TrueDeclarations (start : S) : Type 0 where

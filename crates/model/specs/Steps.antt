@@ -1,7 +1,7 @@
 -- A model as a system: its start, the status of a state, a transition's move, h, dominance, its costs.
 -- docs/FORMAT.md, "States and steps" and "Bounds and preferences".
 use Prim.Native.Nat.{ℕ, suc, _+_, max}
-use mathlib.Core.Bool.{Bool, true, false, cond, _&&_}
+use mathlib.Core.Bool.{Bool, true, false, cond, not, _&&_}
 use mathlib.Core.List.{List, [], _∷_, map}
 use mathlib.Core.Option.{Option}
 use mathlib.Core.Option as O
@@ -9,6 +9,7 @@ use lib.ListN.{length, getElem?, set}
 use lib.Dec.{leb}
 use lib.IntN.{ℤ, pos, negsuc}
 use lib.Signed.{leZ}
+use Rattle.laws.specs.Lists.{any, isEmpty}
 use Rattle.model.specs.Numbers.{negativeCost}
 use Rattle.model.specs.Values.{Value, value, trouble, _>>=_}
 use Rattle.model.specs.System.{Costs, System, Origin, Status, base, unfinished, noStatus, Move, blocked, moved, troubleBefore, troubleAfter}
@@ -41,6 +42,19 @@ noWorse more t s = leZ s t
 unfoldable pub noneWorse : List Variable → (v : ℕ) (t s : State) → Bool
 noneWorse [] v t s = true
 noneWorse (x ∷ xs) v t s = noWorse (x .preference) (numberAt t v) (numberAt s v) && noneWorse xs (suc v) t s
+
+unfoldable pub isPreferred : Preference → Bool
+isPreferred none = false
+isPreferred less = true
+isPreferred more = true
+
+-- no variable has a preference
+unfoldable pub prefersNothing : Model → Bool
+prefersNothing m = not (any (λ x. isPreferred (x .preference)) (m .variables))
+
+-- no variable has a preference, and there is no dual bound
+unfoldable pub declaresNothing : Model → Bool
+declaresNothing m = prefersNothing m && isEmpty (m .bounds)
 
 -- the greater of a bound and what came before it; a negative one counts as 0
 unfoldable pub raise : ℕ → ℤ → ℕ

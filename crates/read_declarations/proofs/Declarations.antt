@@ -118,9 +118,9 @@ pub record VariablesSoFar (bytes : List ℕ) (start : ℕ) (kinds words : List �
   pub outlined : Each (VariableAt words) items
   pub goes-on : variablesRest bytes (16 - n) items at ≡ readAt variables start bytes
 
-pub no-variables : (bytes : List ℕ) (start : ℕ) (kinds words : List ℕ) → length kinds ≡ 16 → length words ≡ 80 → VariablesSoFar bytes start kinds words start 0
+pub no-variables : {bytes : List ℕ} {start : ℕ} {kinds words : List ℕ} → length kinds ≡ 16 → length words ≡ 80 → VariablesSoFar bytes start kinds words start 0
 unfolding variables
-no-variables bytes start kinds words h l = record {
+no-variables {words = words} h l = record {
   few = omega arith;
   kinds-length = h;
   words-length = l;
@@ -131,11 +131,11 @@ no-variables bytes start kinds words h l = record {
   goes-on = refl;
 }
 
-module _ (bytes : List ℕ) (start : ℕ) (kinds words : List ℕ) (at n : ℕ) (s : VariablesSoFar bytes start kinds words at n) where
+module _ {bytes : List ℕ} {start : ℕ} {kinds words : List ℕ} {at n : ℕ} (s : VariablesSoFar bytes start kinds words at n) where
   module _ (inside : at < length bytes) (due : among 0x02 3 (getD bytes at 0) ≡ true) where
-    pub variable-more : (d : Declaration) → Declares (variableOf (getD bytes at 0) (drop (at + 1) bytes)) d → n < 16
+    pub variable-more : {d : Declaration} → Declares (variableOf (getD bytes at 0) (drop (at + 1) bytes)) d → n < 16
         → VariablesSoFar bytes start (set kinds n (d .kind)) (stored words n d) (at + 1 + d .used) (n + 1)
-    variable-more d h less =
+    variable-more {d} h less =
         let x = h .variable in
         let e : readAt (variableOf (getD bytes at 0)) (at + 1) bytes ≡ read x (at + 1 + d .used) = reads-at (variableOf (getD bytes at 0)) (at + 1) bytes (h .reads) in
         let inBytes : n < length kinds = omega (arith, s .kinds-length) in
@@ -151,8 +151,8 @@ module _ (bytes : List ℕ) (start : ℕ) (kinds words : List ℕ) (at n : ℕ) 
           goes-on = sym (turn (among 0x02 3) (λ b done. variableOf b) give bytes 16 n (s .items) at less inside due e (give-at x (at + 1 + d .used) bytes)) ∙ s .goes-on;
         }
 
-    pub variable-too-many : (d : Declaration) → Declares (variableOf (getD bytes at 0) (drop (at + 1) bytes)) d → n ≡ 16 → readAt variables start bytes ≡ refused offLimits
-    variable-too-many d h full =
+    pub variable-too-many : {d : Declaration} → Declares (variableOf (getD bytes at 0) (drop (at + 1) bytes)) d → n ≡ 16 → readAt variables start bytes ≡ refused offLimits
+    variable-too-many h full =
         sym (s .goes-on) ∙ turn-full (among 0x02 3) (λ b done. variableOf b) give bytes 16 n (s .items) at full inside due (reads-at (variableOf (getD bytes at 0)) (at + 1) bytes (h .reads))
 
     pub variable-refused : {t : ℕ} → variableOf (getD bytes at 0) (drop (at + 1) bytes) ≡ refused t → readAt variables start bytes ≡ refused t
@@ -192,9 +192,9 @@ pub record TablesSoFar (bytes : List ℕ) (start : ℕ) (rows columns words : Li
   pub outlined : Each (TabledIn bytes words) items
   pub goes-on : tablesRest bytes (32 - n) items at ≡ readAt tables start bytes
 
-pub no-tables : (bytes : List ℕ) (start : ℕ) (rows columns words : List ℕ) → length rows ≡ 32 → length columns ≡ 32 → length words ≡ 32 → TablesSoFar bytes start rows columns words start 0
+pub no-tables : {bytes : List ℕ} {start : ℕ} {rows columns words : List ℕ} → length rows ≡ 32 → length columns ≡ 32 → length words ≡ 32 → TablesSoFar bytes start rows columns words start 0
 unfolding tables
-no-tables bytes start rows columns words h l w = record {
+no-tables {bytes} {words = words} h l w = record {
   few = omega arith;
   rows-length = h;
   columns-length = l;
@@ -210,7 +210,7 @@ no-tables bytes start rows columns words h l w = record {
 tabled-before : (bytes words : List ℕ) (n w k : ℕ) (t : Table) → k < n → TabledIn bytes words k t → TabledIn bytes (set words n w) k t
 tabled-before bytes words n w k t less h = rw (getD-set-other words n k w 0 (λ q. omega arith)) h
 
-module _ (bytes : List ℕ) (start : ℕ) (rows columns words : List ℕ) (at n : ℕ) (s : TablesSoFar bytes start rows columns words at n) where
+module _ {bytes : List ℕ} {start : ℕ} {rows columns words : List ℕ} {at n : ℕ} (s : TablesSoFar bytes start rows columns words at n) where
   module _ (inside : at < length bytes) (due : getD bytes at 0 ≡ 5) where
     due-table : eqb (getD bytes at 0) 5 ≡ true
     due-table = eq-eqb (getD bytes at 0) 5 due
@@ -218,7 +218,7 @@ module _ (bytes : List ℕ) (start : ℕ) (rows columns words : List ℕ) (at n 
     pub table-head-refused : {t : ℕ} → sides (drop (at + 1) bytes) ≡ refused t → readAt tables start bytes ≡ refused t
     table-head-refused h = sym (s .goes-on) ∙ turn-head-refused (λ b. eqb b 0x05) (λ b done. sides) tableOf bytes 32 n (s .items) at inside due-table (refuses-at sides (at + 1) bytes h)
 
-    module _ (r c : ℕ) (g : Sided (drop (at + 1) bytes) r c) where
+    module _ {r c : ℕ} (g : Sided (drop (at + 1) bytes) r c) where
       head-reads : readAt sides (at + 1) bytes ≡ read (r, c) (at + 3)
       head-reads = let p : at + 1 + 2 ≡ at + 3 = omega arith in reads-at sides (at + 1) bytes (g .reads) ∙ ap (read (r, c)) p
 

@@ -1,11 +1,11 @@
--- An expression's answer from the layout of its first byte, and what the code of `expression` cites.
+-- An expression's answer from the layout of its first byte, and what the readers' functions cite at their places.
 use Prim.Native.Nat.{ℕ, zero, suc, _-_, _≤_, _<_, _^_}
-use mathlib.Core.Path.{_≡_, refl, sym, ap, _∙_}
+use mathlib.Core.Path.{_≡_, refl, sym, ap, subst⁻¹, _∙_}
 use mathlib.Core.Bool.{Bool, true, false, cond, _&&_}
 use mathlib.Core.List.{List, [], _∷_, map}
 use mathlib.Core.Option as O
 use native.Mathlib.Omega.{arith}
-use lib.ListN.{length, getD, drop, length-drop, getElem?}
+use lib.ListN.{length, getD, take, drop, length-drop, getElem?}
 use lib.Dec.{leb, ltb, eqb}
 use borrow.Author.Tests.{lt-ltb, le-ltb, ltb-true, ltb-false}
 use Rattle.model.specs.Numbers.{endsEarly, mismatch, tooDeep}
@@ -15,7 +15,7 @@ use Rattle.model.specs.Expressions.{Form, _⇒_, formOf, noDepth, objectsAndMem
 use Rattle.words.specs.Signature.{variableOf, variablesOf, tableOf, tablesOf}
 use Rattle.read_forms.specs.Parts.{noCount, partOf, partAt}
 use Rattle.read_forms.specs.Layouts.{Row, _begins_, refusalOf, layoutIn, layouts, layoutOf}
-use Rattle.read_forms.specs.Forms.{behind, twoParts, fitted, within, plusParts, choiceOf, countFor, whole, TakesAtMost, TakeAtMost, dueNumber, variableAt, part, partsAt, inTableAt, choiceAt, formAt}
+use Rattle.read_forms.specs.Forms.{behind, twoParts, fitted, within, plusParts, choiceOf, countFor, whole, TakesAtMost, TakeAtMost, dueNumber, variableAt, partsAt, inTableAt, choiceAt, formAt}
 use Rattle.read_forms.specs.declared.Due.{Due}
 use Rattle.read_forms.specs.declared.Due.the-variants as D
 use Rattle.read_forms.specs.declared.Part.{Part}
@@ -24,7 +24,7 @@ use Rattle.read_forms.specs.declared.Parts.{Parts}
 use Rattle.read_forms.specs.declared.Parts.the-variants as P
 use Rattle.read_forms.specs.declared.Fit.the-variants.{Any}
 use Rattle.read_forms.specs.declared.Layout.{Layout}
-use Rattle.words.proofs.Literal.{word-one}
+use Rattle.words.proofs.Literal.{word-one, suffix}
 use Rattle.read_forms.proofs.Counts.{counted, oneMore, part-after, whole-counted, short-part, by-one, by-two, by-elementAndSet, by-twoSets, by-three, in-sides}
 use Rattle.read_forms.proofs.Bounds.{bounded-element, bounded-set, bounded-number, bounded-condition}
 
@@ -112,7 +112,7 @@ module _ (kinds rows columns : List ℕ) where
           → Told x h ((b ⇒ r) ∷ fs) ((b begins l) ∷ ls)
 
     told : {A : Type 0} (x : Due) (h : A → ℕ) {fs : List (Form A)} {ls : List Row} → Told x h fs ls → (b : ℕ) → partOf h (formOf fs b e) ≡ counted x (formAt kinds rows columns (layoutIn ls b) d e)
-    unfolding formOf layoutIn refuse formAt refusalOf
+    unfolding formOf layoutIn refuse refusalOf
     told x h end b = refl
     told {A} x h (_&_ {b = a} {r = r} {l = l} {fs = fs} {ls = ls} p ps) b = go (eqb b a) (told x h ps b)
       where
@@ -133,14 +133,14 @@ module _ (kinds rows columns : List ℕ) where
     by-any x f g ra rb make q = by-two f g noCount (λ p. counted x (fitted Any p)) (λ t. refl) ra rb make e (λ n a b. ap (Good n) q)
 
     opened-element : (b : ℕ) → partOf elementCount (element vs ts (suc d) (b ∷ e)) ≡ whole D.Element (formAt kinds rows columns (layoutOf D.Element b) d e)
-    unfolding element layouts formAt elementCount kindNumber
+    unfolding element layouts elementCount kindNumber
     opened-element = opened D.Element elementCount
         (by-one D.Element elementCount suc object (λ k. refl) objectNumber e
         & by-name D.Element anElement elementCount _ refl (λ p. refl)
         & end)
 
     opened-set : (b : ℕ) → partOf setCount (set vs ts (suc d) (b ∷ e)) ≡ whole D.Set (formAt kinds rows columns (layoutOf D.Set b) d e)
-    unfolding set layouts formAt partsAt part partAt setCount kindNumber
+    unfolding set layouts partsAt partAt setCount kindNumber
     opened-set = opened D.Set setCount
         (by-one D.Set setCount (λ p. p .0) _ (λ p. refl) objectsAndMembers e
         & by-name D.Set aSet setCount _ refl (λ p. refl)
@@ -156,7 +156,7 @@ module _ (kinds rows columns : List ℕ) where
     arithmetic make = by-any D.Number noCount noCount (number vs ts d) (number vs ts d) make refl
 
     opened-number : (b : ℕ) → partOf noCount (number vs ts (suc d) (b ∷ e)) ≡ whole D.Number (formAt kinds rows columns (layoutOf D.Number b) d e)
-    unfolding number layouts formAt partsAt inTableAt choiceAt part partAt kindNumber
+    unfolding number layouts partsAt inTableAt choiceAt partAt kindNumber
     opened-number = opened D.Number noCount
         (by-one D.Number noCount noCount literal (λ z. refl) integer e
         & by-name D.Number aNumber noCount _ refl (λ p. refl)
@@ -187,7 +187,7 @@ module _ (kinds rows columns : List ℕ) where
     comparison f r make = by-any D.Condition f f r r make refl
 
     opened-condition : (b : ℕ) → partOf noCount (condition vs ts (suc d) (b ∷ e)) ≡ whole D.Condition (formAt kinds rows columns (layoutOf D.Condition b) d e)
-    unfolding number layouts formAt partsAt part partAt
+    unfolding number layouts partsAt partAt
     opened-condition = opened D.Condition noCount
         (comparison noCount (number vs ts d) equal
         & comparison noCount (number vs ts d) less
@@ -201,9 +201,9 @@ module _ (kinds rows columns : List ℕ) where
         & comparison noCount (condition vs ts d) either
         & end)
 
-  -- ---- what `expression` cites
+  -- ---- an expression by its depth and its first byte
 
-  pub part-empty : (x : Due) (d : ℕ) (e : List ℕ) → length e ≡ 0 → Refused endsEarly ≡ partAt x vs ts d e
+  part-empty : (x : Due) (d : ℕ) (e : List ℕ) → length e ≡ 0 → Refused endsEarly ≡ partAt x vs ts d e
   unfolding partAt element set number noDepth _>>=_ _>>_ continue byte
   part-empty x d (b ∷ e) h = absurd (omega arith)
   part-empty D.Number zero [] h = refl
@@ -215,7 +215,7 @@ module _ (kinds rows columns : List ℕ) where
   part-empty D.Set zero [] h = refl
   part-empty D.Set (suc d) [] h = refl
 
-  pub part-too-deep : (x : Due) (d : ℕ) (e : List ℕ) → (length e ≡ 0 → ⊥) → d ≡ 0 → Refused tooDeep ≡ partAt x vs ts d e
+  part-too-deep : (x : Due) (d : ℕ) (e : List ℕ) → (length e ≡ 0 → ⊥) → d ≡ 0 → Refused tooDeep ≡ partAt x vs ts d e
   unfolding partAt element set number noDepth _>>_ continue byte refuse after
   part-too-deep x (suc d) e h q = absurd (omega arith)
   part-too-deep x zero [] h q = absurd (h refl)
@@ -224,7 +224,7 @@ module _ (kinds rows columns : List ℕ) where
   part-too-deep D.Element zero (b ∷ e) h q = refl
   part-too-deep D.Set zero (b ∷ e) h q = refl
 
-  pub part-opened : (x : Due) (d : ℕ) (e : List ℕ) → (length e ≡ 0 → ⊥) → (d ≡ 0 → ⊥) → partAt x vs ts d e ≡ whole x (formAt kinds rows columns (layoutOf x (getD e 0 0)) (d - 1) (drop 1 e))
+  part-opened : (x : Due) (d : ℕ) (e : List ℕ) → (length e ≡ 0 → ⊥) → (d ≡ 0 → ⊥) → partAt x vs ts d e ≡ whole x (formAt kinds rows columns (layoutOf x (getD e 0 0)) (d - 1) (drop 1 e))
   unfolding partAt
   part-opened x zero e h q = absurd (q refl)
   part-opened x (suc d) [] h q = absurd (h refl)
@@ -241,7 +241,7 @@ module _ (kinds rows columns : List ℕ) where
   part-bounded D.Set d e = short-part setCount (length e) (set vs ts d e) (bounded-set vs ts d e)
 
   parts-bounded : (x y : Due) (d : ℕ) (e : List ℕ) → TakeAtMost (length e) (partsAt kinds rows columns x y d e)
-  unfolding partsAt part
+  unfolding partsAt
   parts-bounded x y d e = go (partAt x vs ts d e) (part-bounded x d e)
     where
       second : (n a : ℕ) → n ≤ length e → (p : Part) → TakesAtMost (length (drop n e)) p → TakeAtMost (length e) (behind n a p)
@@ -252,65 +252,113 @@ module _ (kinds rows columns : List ℕ) where
       go (Good n a) s = second n a s (partAt y vs ts d (drop n e)) (part-bounded y d (drop n e))
       go (Refused t) s = tt
 
-  -- a part that was read, within l bytes
-  pub part-fits : (x : Due) (d : ℕ) (e : List ℕ) (l : ℕ) {p : Part} → p ≡ partAt x vs ts d e → length e ≤ l → TakesAtMost l p
-  part-fits x d e l {p} q h = go p (rw (← q) at (part-bounded x d e))
-    where
-      go : (p : Part) → TakesAtMost (length e) p → TakesAtMost l p
-      go (Good n a) w = omega arith
-      go (Refused t) w = tt
+-- ---- what the functions cite
 
-  pub parts-fit : (x y : Due) (d : ℕ) (e : List ℕ) (l : ℕ) {p : Parts} → p ≡ partsAt kinds rows columns x y d e → length e ≤ l → TakeAtMost l p
-  parts-fit x y d e l {p} q h = go p (rw (← q) at (parts-bounded x y d e))
-    where
-      go : (p : Parts) → TakeAtMost (length e) p → TakeAtMost l p
-      go (P.Good n a b) w = omega arith
-      go (P.Refused t) w = tt
+-- the declared names, the depth that is left, and the bytes
+pub record Source : Type 0 where
+  pub kinds : List ℕ
+  pub rows : List ℕ
+  pub columns : List ℕ
+  pub depth : ℕ
+  pub bytes : List ℕ
 
-  -- what stands behind the first byte of the expression at e
-  pub form-fits : (x : Due) (d : ℕ) (e : List ℕ) (l : ℕ) {p : Part} → (length e ≡ 0 → ⊥) → (d ≡ 0 → ⊥) → p ≡ formAt kinds rows columns (layoutOf x (getD e 0 0)) (d - 1) (drop 1 e) → length e ≤ l → TakesAtMost l p
-  form-fits x d e l {p} h q s le = go p (rw (← s) at (part-fits x d e l (sym (part-opened x d e h q)) le))
-    where
-      go : (p : Part) → TakesAtMost l (whole x p) → TakesAtMost l p
-      go (Good n a) w = omega arith
-      go (Refused t) w = tt
+-- what is read there where this kind is due, and where these two are
+abbrev pub reads : Source → Due → Part
+reads s x = partAt x (variablesOf (s .kinds)) (tablesOf (s .rows) (s .columns)) (s .depth) (s .bytes)
 
-  module _ (d : ℕ) (e : List ℕ) where
-    pub used-within : (x : Due) {n a : ℕ} → Good n a ≡ partAt x vs ts d e → n ≤ length e
-    used-within x q = rw (← q) at (part-bounded x d e)
+abbrev pub readsTwo : Source → (x y : Due) → Parts
+readsTwo s x y = partsAt (s .kinds) (s .rows) (s .columns) x y (s .depth) (s .bytes)
 
-    -- the part behind the first, and the two parts behind the first: no sum of bytes passes 2^63
-    pub next-fits : (x y : Due) {n a : ℕ} {p : Part} → length e ≤ 2 ^ 63 → Good n a ≡ partAt x vs ts d e → p ≡ partAt y vs ts d (drop n e) → TakesAtMost (2 ^ 63 - n) p × (n ≤ 2 ^ 63)
-    next-fits x y {n} h q r = let u : n ≤ length e = used-within x q in (part-fits y d (drop n e) (2 ^ 63 - n) r (omega (arith, length-drop n e)), omega arith)
+-- behind n bytes, lent as a part of the slice
+abbrev pub behindBytes : Source → ℕ → Source
+behindBytes s n = record { kinds = s .kinds; rows = s .rows; columns = s .columns; depth = s .depth; bytes = take (length (s .bytes) - n) (drop n (s .bytes)) }
 
-    pub next-two-fit : (x y z : Due) {n a : ℕ} {p : Parts} → length e ≤ 2 ^ 63 → Good n a ≡ partAt x vs ts d e → p ≡ partsAt kinds rows columns y z d (drop n e) → TakeAtMost (2 ^ 63 - n) p × (n ≤ 2 ^ 63)
-    next-two-fit x y z {n} h q r = let u : n ≤ length e = used-within x q in (parts-fit y z d (drop n e) (2 ^ 63 - n) r (omega (arith, length-drop n e)), omega arith)
+within-takes : {m l : ℕ} → m ≤ l → (p : Part) → TakesAtMost m p → TakesAtMost l p
+within-takes h (Good n a) w = omega arith
+within-takes h (Refused t) w = tt
 
-    pub parts-read : (x y : Due) {n a : ℕ} {p : Part} → Good n a ≡ partAt x vs ts d e → p ≡ partAt y vs ts d (drop n e) → behind n a p ≡ partsAt kinds rows columns x y d e
-    unfolding partsAt part
-    parts-read x y q r = rw (← q, r)
+within-take : {m l : ℕ} → m ≤ l → (p : Parts) → TakeAtMost m p → TakeAtMost l p
+within-take h (P.Good n a b) w = omega arith
+within-take h (P.Refused t) w = tt
 
-    pub parts-refused : (x y : Due) {t : ℕ} → Refused t ≡ partAt x vs ts d e → P.Refused t ≡ partsAt kinds rows columns x y d e
-    unfolding partsAt part
-    parts-refused x y q = rw (← q)
+pub part-takes : (s : Source) (x : Due) {l : ℕ} → length (s .bytes) ≤ l → TakesAtMost l (reads s x)
+part-takes s x h = within-takes h (reads s x) (part-bounded (s .kinds) (s .rows) (s .columns) x (s .depth) (s .bytes))
 
-    pub choice-read : {n a : ℕ} {p : Parts} → Good n a ≡ partAt D.Condition vs ts d e → p ≡ partsAt kinds rows columns D.Number D.Number d (drop n e) → plusParts n p ≡ choiceAt kinds rows columns d e
-    unfolding choiceAt part
-    choice-read q r = rw (← q, r)
+parts-take : (s : Source) (x y : Due) {l : ℕ} → length (s .bytes) ≤ l → TakeAtMost l (readsTwo s x y)
+parts-take s x y h = within-take h (readsTwo s x y) (parts-bounded (s .kinds) (s .rows) (s .columns) x y (s .depth) (s .bytes))
 
-    pub choice-refused : {t : ℕ} → Refused t ≡ partAt D.Condition vs ts d e → Refused t ≡ choiceAt kinds rows columns d e
-    unfolding choiceAt part
-    choice-refused q = rw (← q)
+rest-length : (s : Source) (n : ℕ) → length (behindBytes s n .bytes) ≡ length (s .bytes) - n
+rest-length s n = rw (suffix n (s .bytes)) (length-drop n (s .bytes))
 
-    pub table-short : (x : Due) → length e ≡ 0 → Refused endsEarly ≡ inTableAt kinds rows columns x d e
+module _ (s : Source) where
+  pub no-byte : (x : Due) → length (s .bytes) ≡ 0 → Refused endsEarly ≡ reads s x
+  no-byte x h = part-empty (s .kinds) (s .rows) (s .columns) x (s .depth) (s .bytes) h
+
+  pub no-depth : (x : Due) → (length (s .bytes) ≡ 0 → ⊥) → s .depth ≡ 0 → Refused tooDeep ≡ reads s x
+  no-depth x h q = part-too-deep (s .kinds) (s .rows) (s .columns) x (s .depth) (s .bytes) h q
+
+  -- some byte and some depth are left: the expression by the layout of its first byte
+  module _ (x : Due) {k : Layout} {p : Part} (some-byte : length (s .bytes) ≡ 0 → ⊥) (some-depth : s .depth ≡ 0 → ⊥) (k-is : k ≡ layoutOf x (getD (s .bytes) 0 0))
+      (p-is : p ≡ formAt (s .kinds) (s .rows) (s .columns) k (s .depth - 1) (behindBytes s 1 .bytes)) where
+    pub whole-read : whole x p ≡ reads s x
+    whole-read = rw (p-is, k-is, suffix 1 (s .bytes)) (sym (part-opened (s .kinds) (s .rows) (s .columns) x (s .depth) (s .bytes) some-byte some-depth))
+
+    pub form-fits : length (s .bytes) ≤ 2 ^ 63 → TakesAtMost (2 ^ 63) p
+    form-fits h = go p (subst⁻¹ (TakesAtMost (2 ^ 63)) whole-read (part-takes s x h))
+      where
+        go : (p : Part) → TakesAtMost (2 ^ 63) (whole x p) → TakesAtMost (2 ^ 63) p
+        go (Good n a) w = omega arith
+        go (Refused t) w = tt
+
+  -- behind a first part of n bytes
+  module _ (x : Due) {n a : ℕ} (first : Good n a ≡ reads s x) where
+    pub used : n ≤ length (s .bytes)
+    used = subst⁻¹ (TakesAtMost (length (s .bytes))) first (part-takes s x (omega arith))
+
+    -- no sum of bytes passes 2^63, with the part or the two parts behind the first
+    pub next-fits : (y : Due) {p : Part} → length (s .bytes) ≤ 2 ^ 63 → p ≡ reads (behindBytes s n) y → TakesAtMost (2 ^ 63 - n) p × (n ≤ 2 ^ 63)
+    next-fits y h q = let u : n ≤ length (s .bytes) = used in (rw q (part-takes (behindBytes s n) y (omega (arith, rest-length s n))), omega arith)
+
+    pub next-two-fit : (y z : Due) {p : Parts} → length (s .bytes) ≤ 2 ^ 63 → p ≡ readsTwo (behindBytes s n) y z → TakeAtMost (2 ^ 63 - n) p × (n ≤ 2 ^ 63)
+    next-two-fit y z h q = let u : n ≤ length (s .bytes) = used in (rw q (parts-take (behindBytes s n) y z (omega (arith, rest-length s n))), omega arith)
+
+    pub parts-read : (y : Due) {p : Part} → p ≡ reads (behindBytes s n) y → behind n a p ≡ readsTwo s x y
+    unfolding partsAt
+    parts-read y q = rw (← first, q, suffix n (s .bytes))
+
+  pub parts-refused : (x y : Due) {t : ℕ} → Refused t ≡ reads s x → P.Refused t ≡ readsTwo s x y
+  unfolding partsAt
+  parts-refused x y q = rw (← q)
+
+  -- a condition and two numbers
+  abbrev readsChoice : Part
+  readsChoice = choiceAt (s .kinds) (s .rows) (s .columns) (s .depth) (s .bytes)
+
+  pub choice-read : {n a : ℕ} {p : Parts} → Good n a ≡ reads s D.Condition → p ≡ readsTwo (behindBytes s n) D.Number D.Number → plusParts n p ≡ readsChoice
+  unfolding choiceAt
+  choice-read {n} q r = rw (← q, r, suffix n (s .bytes))
+
+  pub choice-refused : {t : ℕ} → Refused t ≡ reads s D.Condition → Refused t ≡ readsChoice
+  unfolding choiceAt
+  choice-refused q = rw (← q)
+
+  -- a table's number and two parts
+  abbrev readsInTable : Due → Part
+  readsInTable x = inTableAt (s .kinds) (s .rows) (s .columns) x (s .depth) (s .bytes)
+
+  pub table-short : (x : Due) → length (s .bytes) ≡ 0 → Refused endsEarly ≡ readsInTable x
+  unfolding inTableAt
+  table-short x h = rw h
+
+  module _ (x : Due) (some-byte : length (s .bytes) ≡ 0 → ⊥) where
+    pub table-undeclared : length (s .rows) ≤ getD (s .bytes) 0 0 → Refused mismatch ≡ readsInTable x
     unfolding inTableAt
-    table-short x h = rw h
+    table-undeclared u = rw (lt-ltb 0 (length (s .bytes)) (omega (arith, some-byte)), le-ltb (getD (s .bytes) 0 0) (length (s .rows)) u)
 
-    pub table-undeclared : (x : Due) → (length e ≡ 0 → ⊥) → length rows ≤ getD e 0 0 → Refused mismatch ≡ inTableAt kinds rows columns x d e
+    pub table-read : {r c : ℕ} {p : Parts} → getD (s .bytes) 0 0 < length (s .rows) → r ≡ getD (s .rows) (getD (s .bytes) 0 0) 0 → c ≡ getD (s .columns) (getD (s .bytes) 0 0) 0
+        → p ≡ readsTwo (behindBytes s 1) x D.Element → within r c p ≡ readsInTable x
     unfolding inTableAt
-    table-undeclared x h u = rw (lt-ltb 0 (length e) (omega (arith, h)), le-ltb (getD e 0 0) (length rows) u)
+    table-read u r-is c-is p-is = rw (lt-ltb 0 (length (s .bytes)) (omega (arith, some-byte)), lt-ltb (getD (s .bytes) 0 0) (length (s .rows)) u, r-is, c-is, p-is, suffix 1 (s .bytes))
 
-    pub table-read : (x : Due) {c : ℕ} {p : Parts} → (length e ≡ 0 → ⊥) → getD e 0 0 < length rows → c ≡ getD columns (getD e 0 0) 0 → p ≡ partsAt kinds rows columns x D.Element d (drop 1 e)
-        → within (getD rows (getD e 0 0) 0) c p ≡ inTableAt kinds rows columns x d e
-    unfolding inTableAt
-    table-read x h u q r = rw (lt-ltb 0 (length e) (omega (arith, h)), lt-ltb (getD e 0 0) (length rows) u, q, r)
+    pub table-fits : {p : Parts} → length (s .bytes) ≤ 2 ^ 63 → p ≡ readsTwo (behindBytes s 1) x D.Element → TakeAtMost (2 ^ 63) p
+    table-fits h q = rw q (parts-take (behindBytes s 1) x D.Element (omega (arith, rest-length s 1)))

@@ -1,9 +1,12 @@
 // Reads expressions: how many bytes the expression at the front of a byte string takes and which object count it has, or why it
-// is refused. Declared names are byte strings, as crate forms has them.
+// is refused. A number may contain conditions and a condition numbers: the readers call each other, with less depth left each time.
+// Declared names are byte strings, as crate read_forms has them.
 
 ghost use mathlib.Core.Path.{_≡_};
 ghost use Rattle.words.specs.Signature.{variablesOf, tablesOf};
+ghost use lib.ListN.{getD};
 ghost use Rattle.read_forms.specs.Parts.{partAt};
+ghost use Rattle.read_forms.specs.Layouts.{layoutOf};
 ghost use Rattle.read_forms.specs.Forms.{partsAt, inTableAt, choiceAt, formAt};
 use laws::byte_at;
 use read_forms::Due;
@@ -17,15 +20,49 @@ use read_forms::bytes;
 use read_forms::layouts;
 use read_forms::sizes;
 
-// The expression at the front of e, of the kind that is due, nested at most `depth` deep.
-pub fn expression(
+// The number at the front of e, nested at most `depth` deep.
+pub fn number(e: &[u8], kinds: &[u8], rows: &[u8], columns: &[u8], depth: usize) -> Part
+    ensures { λ r. ⌜ r ≡ partAt Due.Number (variablesOf (now (kinds .entry))) (tablesOf (now (rows .entry)) (now (columns .entry))) depth (now (e .entry)) ⌝ }
+{
+    let layout = layouts::layout(Due::Number, byte_at(e, 0));
+    opened(Due::Number, layout, e, kinds, rows, columns, depth)
+}
+
+// The condition at the front of e, nested at most `depth` deep.
+pub fn condition(e: &[u8], kinds: &[u8], rows: &[u8], columns: &[u8], depth: usize) -> Part
+    ensures { λ r. ⌜ r ≡ partAt Due.Condition (variablesOf (now (kinds .entry))) (tablesOf (now (rows .entry)) (now (columns .entry))) depth (now (e .entry)) ⌝ }
+{
+    let layout = layouts::layout(Due::Condition, byte_at(e, 0));
+    opened(Due::Condition, layout, e, kinds, rows, columns, depth)
+}
+
+// The element at the front of e, nested at most `depth` deep.
+pub fn element(e: &[u8], kinds: &[u8], rows: &[u8], columns: &[u8], depth: usize) -> Part
+    ensures { λ r. ⌜ r ≡ partAt Due.Element (variablesOf (now (kinds .entry))) (tablesOf (now (rows .entry)) (now (columns .entry))) depth (now (e .entry)) ⌝ }
+{
+    let layout = layouts::layout(Due::Element, byte_at(e, 0));
+    opened(Due::Element, layout, e, kinds, rows, columns, depth)
+}
+
+// The set at the front of e, nested at most `depth` deep.
+pub fn set(e: &[u8], kinds: &[u8], rows: &[u8], columns: &[u8], depth: usize) -> Part
+    ensures { λ r. ⌜ r ≡ partAt Due.Set (variablesOf (now (kinds .entry))) (tablesOf (now (rows .entry)) (now (columns .entry))) depth (now (e .entry)) ⌝ }
+{
+    let layout = layouts::layout(Due::Set, byte_at(e, 0));
+    opened(Due::Set, layout, e, kinds, rows, columns, depth)
+}
+
+// The expression at the front of e, of the kind that is due, whose first byte has this layout.
+fn opened(
     due: Due,
+    layout: Layout,
     e: &[u8],
     kinds: &[u8],
     rows: &[u8],
     columns: &[u8],
     depth: usize,
 ) -> Part
+    requires { ⌜ layout ≡ layoutOf due (getD (now e) 0 0) ⌝ }
     ensures { λ r. ⌜ r ≡ partAt due (variablesOf (now (kinds .entry))) (tablesOf (now (rows .entry)) (now (columns .entry))) depth (now (e .entry)) ⌝ }
 {
     if e.len() == 0 {
@@ -34,7 +71,6 @@ pub fn expression(
     if depth == 0 {
         return Part::Refused(TOO_DEEP);
     }
-    let layout = layouts::layout(due, e[0]);
     sizes::whole(due, form(layout, &e[1..], kinds, rows, columns, depth - 1))
 }
 
@@ -47,7 +83,7 @@ fn form(layout: Layout, e: &[u8], kinds: &[u8], rows: &[u8], columns: &[u8], dep
         Layout::Object => bytes::object(e),
         Layout::ObjectsAndMembers => bytes::objects_and_members(e),
         Layout::Variable(due) => bytes::variable(due, e, kinds),
-        Layout::One(due) => expression(due, e, kinds, rows, columns, depth),
+        Layout::One(due) => part(due, e, kinds, rows, columns, depth),
         Layout::Two(first, second, fit) => sizes::fitted(
             fit,
             pair(first, second, e, kinds, rows, columns, depth),
@@ -68,7 +104,7 @@ fn in_table(first: Due, e: &[u8], kinds: &[u8], rows: &[u8], columns: &[u8], dep
     let t = e[0] as usize;
     if t < rows.len() {
         let parts = pair(first, Due::Element, &e[1..], kinds, rows, columns, depth);
-        sizes::within(parts, rows[t], byte_at(columns, t))
+        sizes::within(parts, byte_at(rows, t), byte_at(columns, t))
     } else {
         Part::Refused(MISMATCH)
     }
@@ -78,18 +114,16 @@ fn in_table(first: Due, e: &[u8], kinds: &[u8], rows: &[u8], columns: &[u8], dep
 fn choice(e: &[u8], kinds: &[u8], rows: &[u8], columns: &[u8], depth: usize) -> Part
     ensures { λ r. ⌜ r ≡ choiceAt (now (kinds .entry)) (now (rows .entry)) (now (columns .entry)) depth (now (e .entry)) ⌝ }
 {
-    match expression(Due::Condition, e, kinds, rows, columns, depth) {
+    match condition(e, kinds, rows, columns, depth) {
         Part::Good(n, _) => {
-            let numbers = pair(
-                Due::Number,
-                Due::Number,
-                &e[n..],
-                kinds,
-                rows,
-                columns,
-                depth,
-            );
-            sizes::plus_parts(n, numbers)
+            let rest = &e[n..];
+            match number(rest, kinds, rows, columns, depth) {
+                Part::Good(m, a) => {
+                    let last = number(&rest[m..], kinds, rows, columns, depth);
+                    sizes::plus_parts(n, sizes::behind(m, a, last))
+                }
+                Part::Refused(t) => Part::Refused(t),
+            }
         }
         Part::Refused(t) => Part::Refused(t),
     }
@@ -107,11 +141,23 @@ fn pair(
 ) -> Parts
     ensures { λ r. ⌜ r ≡ partsAt (now (kinds .entry)) (now (rows .entry)) (now (columns .entry)) first second depth (now (e .entry)) ⌝ }
 {
-    match expression(first, e, kinds, rows, columns, depth) {
+    match part(first, e, kinds, rows, columns, depth) {
         Part::Good(n, a) => {
-            let next = expression(second, &e[n..], kinds, rows, columns, depth);
+            let next = part(second, &e[n..], kinds, rows, columns, depth);
             sizes::behind(n, a, next)
         }
         Part::Refused(t) => Parts::Refused(t),
+    }
+}
+
+// The expression at the front of e, of the kind that is due.
+pub fn part(due: Due, e: &[u8], kinds: &[u8], rows: &[u8], columns: &[u8], depth: usize) -> Part
+    ensures { λ r. ⌜ r ≡ partAt due (variablesOf (now (kinds .entry))) (tablesOf (now (rows .entry)) (now (columns .entry))) depth (now (e .entry)) ⌝ }
+{
+    match due {
+        Due::Number => number(e, kinds, rows, columns, depth),
+        Due::Condition => condition(e, kinds, rows, columns, depth),
+        Due::Element => element(e, kinds, rows, columns, depth),
+        Due::Set => set(e, kinds, rows, columns, depth),
     }
 }

@@ -96,7 +96,7 @@ variableAt due kinds e =
 -- ---- forms
 
 module _ (kinds rows columns : List ℕ) where
-  unfoldable pub part : Due → (d : ℕ) → List ℕ → Part
+  abbrev pub part : Due → (d : ℕ) → List ℕ → Part
   part due d e = partAt due (variablesOf kinds) (tablesOf rows columns) d e
 
   unfoldable pub partsAt : (first second : Due) → (d : ℕ) → List ℕ → Parts
@@ -114,7 +114,7 @@ module _ (kinds rows columns : List ℕ) where
   choiceAt d e = choiceOf (part D.Condition d e) (λ n. partsAt D.Number D.Number d (drop n e))
 
   -- what stands behind the first byte, with depth d left for the parts
-  unfoldable pub formAt : Layout → (d : ℕ) → List ℕ → Part
+  abbrev pub formAt : Layout → (d : ℕ) → List ℕ → Part
   formAt Integer d e = partOf noCount (integer e)
   formAt Object d e = partOf suc (objectNumber e)
   formAt ObjectsAndMembers d e = partOf (λ p. p .0) (objectsAndMembers e)

@@ -7,6 +7,7 @@ use Rattle.model.specs.Numbers.{notDue, mismatch}
 use Rattle.model.specs.Expressions.{beginsExpression}
 use Rattle.read_forms.specs.declared.Due.{Due}
 use Rattle.read_forms.specs.declared.Due.the-variants as D
+use Rattle.read_forms.specs.declared.layouts.Rows.{Rows}
 use Rattle.read_forms.specs.declared.Fit.the-variants.{Any, AtMost, Equal}
 use Rattle.read_forms.specs.declared.Layout.{Layout}
 use Rattle.read_forms.specs.declared.Layout.the-variants.{Integer, Object, ObjectsAndMembers, Variable, One, Two, InTable, Choice, Unknown}
@@ -68,3 +69,10 @@ layouts D.Condition =
 -- the layout behind byte b where this kind is due
 abbrev pub layoutOf : Due → ℕ → Layout
 layoutOf due b = layoutIn (layouts due) b
+
+-- the bytes that begin an expression of this kind, and where their rows begin among all rows
+abbrev pub rowsOf : Due → Rows
+rowsOf D.Number = record { first = 0x20; count = 12; at = 0 }
+rowsOf D.Element = record { first = 0x30; count = 2; at = 12 }
+rowsOf D.Set = record { first = 0x40; count = 8; at = 14 }
+rowsOf D.Condition = record { first = 0x50; count = 10; at = 22 }

@@ -69,7 +69,7 @@ pub fn objects_and_members(e: &[u8]) -> Part
             Part::Refused(OFF_LIMITS)
         }
     } else {
-        Part::Refused(ENDS_EARLY)
+        Part::Refused(ENDS_EARLY) // before the count is judged
     }
 }
 

@@ -3,7 +3,7 @@
 ghost use mathlib.Core.Path.{_≡_};
 ghost use Prim.Native.Nat.{_+_, _<_};
 ghost use Rattle.model.specs.Expressions.{among};
-ghost use Rattle.read_forms.specs.Layouts.{refusalOf, layoutOf};
+ghost use Rattle.read_forms.specs.Layouts.{refusalOf, rowsOf, layoutOf};
 use crate::Due;
 use crate::Fit;
 use crate::Layout;
@@ -37,71 +37,73 @@ fn refusal(b: u8) -> u8
     NOT_DUE
 }
 
-// What stands behind byte b where a number is due.
-fn number_layout(b: u8) -> Layout
-    ensures { λ r. ⌜ r ≡ layoutOf Due.Number b ⌝ }
-{
-    match b {
-        0x20 => Layout::Integer,
-        0x21 => Layout::Variable(Due::Number),
-        0x22 => Layout::Two(Due::Number, Due::Number, Fit::Any),
-        0x23 => Layout::Two(Due::Number, Due::Number, Fit::Any),
-        0x24 => Layout::Two(Due::Number, Due::Number, Fit::Any),
-        0x25 => Layout::Two(Due::Number, Due::Number, Fit::Any),
-        0x26 => Layout::Two(Due::Number, Due::Number, Fit::Any),
-        0x27 => Layout::Two(Due::Number, Due::Number, Fit::Any),
-        0x28 => Layout::InTable(Due::Element),
-        0x29 => Layout::One(Due::Set),
-        0x2a => Layout::InTable(Due::Set),
-        0x2b => Layout::Choice,
-        _ => Layout::Unknown(refusal(b)),
-    }
+// What stands behind each byte that begins an expression, in the order of the bytes.
+const LAYOUTS: [Layout; 32] = [
+    Layout::Integer, // 0x20
+    Layout::Variable(Due::Number), // 0x21
+    Layout::Two(Due::Number, Due::Number, Fit::Any), // 0x22
+    Layout::Two(Due::Number, Due::Number, Fit::Any), // 0x23
+    Layout::Two(Due::Number, Due::Number, Fit::Any), // 0x24
+    Layout::Two(Due::Number, Due::Number, Fit::Any), // 0x25
+    Layout::Two(Due::Number, Due::Number, Fit::Any), // 0x26
+    Layout::Two(Due::Number, Due::Number, Fit::Any), // 0x27
+    Layout::InTable(Due::Element), // 0x28
+    Layout::One(Due::Set), // 0x29
+    Layout::InTable(Due::Set), // 0x2a
+    Layout::Choice, // 0x2b
+    Layout::Object, // 0x30
+    Layout::Variable(Due::Element), // 0x31
+    Layout::ObjectsAndMembers, // 0x40
+    Layout::Variable(Due::Set), // 0x41
+    Layout::Two(Due::Element, Due::Set, Fit::AtMost), // 0x42
+    Layout::Two(Due::Element, Due::Set, Fit::AtMost), // 0x43
+    Layout::Two(Due::Set, Due::Set, Fit::Equal), // 0x44
+    Layout::Two(Due::Set, Due::Set, Fit::Equal), // 0x45
+    Layout::Two(Due::Set, Due::Set, Fit::Equal), // 0x46
+    Layout::One(Due::Set), // 0x47
+    Layout::Two(Due::Number, Due::Number, Fit::Any), // 0x50
+    Layout::Two(Due::Number, Due::Number, Fit::Any), // 0x51
+    Layout::Two(Due::Number, Due::Number, Fit::Any), // 0x52
+    Layout::Two(Due::Element, Due::Element, Fit::Any), // 0x53
+    Layout::Two(Due::Element, Due::Set, Fit::AtMost), // 0x54
+    Layout::One(Due::Set), // 0x55
+    Layout::Two(Due::Set, Due::Set, Fit::Equal), // 0x56
+    Layout::One(Due::Condition), // 0x57
+    Layout::Two(Due::Condition, Due::Condition, Fit::Any), // 0x58
+    Layout::Two(Due::Condition, Due::Condition, Fit::Any), // 0x59
+];
+
+// The bytes that begin an expression of this kind, the first and how many, and where their rows stand in the table.
+pub struct Rows {
+    pub first: u8,
+    pub count: u8,
+    pub at: u8,
 }
 
-// What stands behind byte b where an element is due.
-fn element_layout(b: u8) -> Layout
-    ensures { λ r. ⌜ r ≡ layoutOf Due.Element b ⌝ }
+fn rows_of(due: Due) -> Rows
+    ensures { λ r. ⌜ r ≡ rowsOf due ⌝ }
 {
-    match b {
-        0x30 => Layout::Object,
-        0x31 => Layout::Variable(Due::Element),
-        _ => Layout::Unknown(refusal(b)),
-    }
-}
-
-// What stands behind byte b where a set is due.
-fn set_layout(b: u8) -> Layout
-    ensures { λ r. ⌜ r ≡ layoutOf Due.Set b ⌝ }
-{
-    match b {
-        0x40 => Layout::ObjectsAndMembers,
-        0x41 => Layout::Variable(Due::Set),
-        0x42 => Layout::Two(Due::Element, Due::Set, Fit::AtMost),
-        0x43 => Layout::Two(Due::Element, Due::Set, Fit::AtMost),
-        0x44 => Layout::Two(Due::Set, Due::Set, Fit::Equal),
-        0x45 => Layout::Two(Due::Set, Due::Set, Fit::Equal),
-        0x46 => Layout::Two(Due::Set, Due::Set, Fit::Equal),
-        0x47 => Layout::One(Due::Set),
-        _ => Layout::Unknown(refusal(b)),
-    }
-}
-
-// What stands behind byte b where a condition is due.
-fn condition_layout(b: u8) -> Layout
-    ensures { λ r. ⌜ r ≡ layoutOf Due.Condition b ⌝ }
-{
-    match b {
-        0x50 => Layout::Two(Due::Number, Due::Number, Fit::Any),
-        0x51 => Layout::Two(Due::Number, Due::Number, Fit::Any),
-        0x52 => Layout::Two(Due::Number, Due::Number, Fit::Any),
-        0x53 => Layout::Two(Due::Element, Due::Element, Fit::Any),
-        0x54 => Layout::Two(Due::Element, Due::Set, Fit::AtMost),
-        0x55 => Layout::One(Due::Set),
-        0x56 => Layout::Two(Due::Set, Due::Set, Fit::Equal),
-        0x57 => Layout::One(Due::Condition),
-        0x58 => Layout::Two(Due::Condition, Due::Condition, Fit::Any),
-        0x59 => Layout::Two(Due::Condition, Due::Condition, Fit::Any),
-        _ => Layout::Unknown(refusal(b)),
+    match due {
+        Due::Number => Rows {
+            first: 0x20,
+            count: 12,
+            at: 0,
+        },
+        Due::Element => Rows {
+            first: 0x30,
+            count: 2,
+            at: 12,
+        },
+        Due::Set => Rows {
+            first: 0x40,
+            count: 8,
+            at: 14,
+        },
+        Due::Condition => Rows {
+            first: 0x50,
+            count: 10,
+            at: 22,
+        },
     }
 }
 
@@ -109,10 +111,11 @@ fn condition_layout(b: u8) -> Layout
 pub fn layout(due: Due, b: u8) -> Layout
     ensures { λ r. ⌜ r ≡ layoutOf due b ⌝ }
 {
-    match due {
-        Due::Number => number_layout(b),
-        Due::Condition => condition_layout(b),
-        Due::Element => element_layout(b),
-        Due::Set => set_layout(b),
+    let rows = rows_of(due);
+    if is_among(rows.first, rows.count, b) {
+        let k = rows.at + (b - rows.first);
+        LAYOUTS[k as usize]
+    } else {
+        Layout::Unknown(refusal(b))
     }
 }

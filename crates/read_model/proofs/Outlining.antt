@@ -28,14 +28,16 @@ code-positive G.Bounds = omega arith
 
 -- where a group's words are
 pub record Room (g : Group) : Type 0 where
-  pub low : countAt g < offsetsFrom g
+  pub behind-counts : 3 ≤ countAt g
+  pub low : countAt g < 16
+  pub behind-tables : 112 ≤ offsetsFrom g
   pub high : offsetsFrom g + mostOf g ≤ outlineWords
 
 pub room : (g : Group) → Room g
-room G.Transitions = record { low = omega arith; high = omega arith }
-room G.BaseCases = record { low = omega arith; high = omega arith }
-room G.Constraints = record { low = omega arith; high = omega arith }
-room G.Bounds = record { low = omega arith; high = omega arith }
+room G.Transitions = record { behind-counts = omega arith; low = omega arith; behind-tables = omega arith; high = omega arith }
+room G.BaseCases = record { behind-counts = omega arith; low = omega arith; behind-tables = omega arith; high = omega arith }
+room G.Constraints = record { behind-counts = omega arith; low = omega arith; behind-tables = omega arith; high = omega arith }
+room G.Bounds = record { behind-counts = omega arith; low = omega arith; behind-tables = omega arith; high = omega arith }
 
 module _ (vs : List Variable) (ts : List Table) (g : Group) (bytes : List ℕ) (start : ℕ) (before part : List ℕ) (long : outlineWords ≤ length before) (whole : length part ≡ mostOf g) where
   abbrev filled : List ℕ
@@ -50,7 +52,7 @@ module _ (vs : List Variable) (ts : List Table) (g : Group) (bytes : List ℕ) (
   pub group-read : {end n : ℕ} → ItemsRead (itemOf vs ts g) bytes part (readAt (upTo (mostOf g) (codeOf g) (itemOf vs ts g)) start bytes) end n
       → GroupRead vs ts g bytes start before (set filled (countAt g) n) end
   group-read {end} {n} h =
-      let inside : countAt g < length filled = omega (arith, filled-length, room g .low, room g .high) in
+      let inside : countAt g < length filled = omega (arith, filled-length, room g .low, room g .behind-tables, room g .high) in
       record {
         items = h .items;
         reads = h .reads;
@@ -60,7 +62,7 @@ module _ (vs : List Variable) (ts : List Table) (g : Group) (bytes : List ℕ) (
           placed = λ k x e.
               let less : k < mostOf g = omega (arith, found-below (h .items) k e, h .count, h .few) in
               let w : getD (set filled (countAt g) n) (offsetsFrom g + k) 0 ≡ getD part k 0 =
-              getD-set-other filled (countAt g) (offsetsFrom g + k) n 0 (λ q. omega (arith, room g .low)) ∙ part-in (offsetsFrom g) (mostOf g) before part fits whole k less in
+              getD-set-other filled (countAt g) (offsetsFrom g + k) n 0 (λ q. omega (arith, room g .low, room g .behind-tables)) ∙ part-in (offsetsFrom g) (mostOf g) before part fits whole k less in
               let i = h .placed k x e in
               record { inside = rw w (i .inside); used = i .used; reads = rw w (i .reads) };
         };

@@ -1,5 +1,5 @@
 -- Laws of transitions: expressions at positions, the result of an effect, the effects of a transition, and the transition itself.
-use Prim.Native.Nat.{ℕ, zero, suc, _+_, _-_, _<_, _≤_}
+use Prim.Native.Nat.{ℕ, zero, suc, _+_, _-_, _^_, _<_, _≤_}
 use mathlib.Core.Path.{_≡_, refl, sym, ap, _∙_}
 use mathlib.Core.Bool.{Bool, true, false, cond, _||_}
 use mathlib.Core.List.{List, [], _∷_, _++_, reverse}
@@ -19,48 +19,45 @@ use Rattle.model.specs.Expressions.{declared, element, number, condition}
 use Rattle.model.specs.Commands.{conditions, effectTarget, expressionFor, effectOn, transition}
 use Rattle.words.specs.Signature.{variableOf, variablesOf, tablesOf}
 use Rattle.read_forms.specs.Parts.{noCount, partOf, partAt}
+use Rattle.read_forms.specs.Forms.{TakesAtMost}
 use Rattle.read_forms.specs.declared.Due.{Due}
 use Rattle.read_forms.specs.declared.Due.the-variants as D
 use Rattle.read_forms.specs.declared.Part.{Part}
 use Rattle.read_forms.specs.declared.Part.the-variants as R
 use Rattle.read_declarations.specs.Positions.{readAt, positionOf}
-use Rattle.read_transitions.specs.Transitions.{placeOfPart, dueFor, countFits, partFrom, costNumber, effectsBehind, Marked, Changed}
+use Rattle.read_transitions.specs.Transitions.{placeOfPart, movedBy, dueFor, countFits, partFrom, costNumber, effectsBehind, Marked, Changed}
 use Rattle.read_declarations.specs.declared.Position.the-variants.{At, Refused}
 use Rattle.words.proofs.Literal.{word-one}
+use Rattle.read_expressions.proofs.Forms.{part-takes}
 use Rattle.read_declarations.proofs.Positions.{front, reads-at, refuses-at, give-at, given-at, position-read, position-refused, then-read, then-refused, next-read, next-refused, next-split, reverse-more, turn, turn-full, turn-head-refused, turn-body-refused, turn-end, turn-early}
 
 -- ---- an expression at a position
 
 module _ {A : Type 0} (count : A → ℕ) where
-  part-moved : (at : ℕ) (x : Read A) {n c : ℕ} → R.Good n c ≡ partOf count x → R.Good (at + n) c ≡ partOf count (after at x)
+  part-moved : (at : ℕ) (x : Read A) → movedBy at (partOf count x) ≡ partOf count (after at x)
   unfolding after
-  part-moved at (read a k) {n} {c} q = let h : n ≡ k = cc in let g : c ≡ count a = cc in rw (h, g)
-  part-moved at (refused t) q = let z : _≡_ {A = ℕ} 0 1 = cc in absurd (omega arith)
-
-  part-not-moved : (at : ℕ) (x : Read A) {t : ℕ} → R.Refused t ≡ partOf count x → R.Refused t ≡ partOf count (after at x)
-  unfolding after
-  part-not-moved at (read a k) q = let z : _≡_ {A = ℕ} 0 1 = cc in absurd (omega arith)
-  part-not-moved at (refused u) q = q
+  part-moved at (read a n) = refl
+  part-moved at (refused t) = refl
 
   part-place : (x : Read A) → placeOfPart (partOf count x) ≡ positionOf x
   part-place (read a n) = refl
   part-place (refused t) = refl
 
+-- what was read of the bytes from a position on
+module _ (kinds rows columns : List ℕ) (at : ℕ) (bytes : List ℕ) (due : Due) {e : List ℕ} {p : Part} (e-is : e ≡ drop at bytes) (p-is : p ≡ partAt due (variablesOf kinds) (tablesOf rows columns) mostNesting e) where
+  pub moved-fits : length bytes ≤ 2 ^ 63 → at < 2 ^ 64 → TakesAtMost (2 ^ 64 - 1 - at) p
+  moved-fits h l = rw p-is (part-takes (record { kinds = kinds; rows = rows; columns = columns; depth = mostNesting; bytes = e }) due (rw e-is (omega (arith, length-drop at bytes))))
+
+  pub part-from : movedBy at p ≡ partFrom (variablesOf kinds) (tablesOf rows columns) due at bytes
+  part-from = rw (p-is, e-is) (go due)
+    where
+      go : (due : Due) → movedBy at (partAt due (variablesOf kinds) (tablesOf rows columns) mostNesting (drop at bytes)) ≡ partFrom (variablesOf kinds) (tablesOf rows columns) due at bytes
+      go D.Number = unfold partAt partFrom readAt in part-moved noCount at _
+      go D.Condition = unfold partAt partFrom readAt in part-moved noCount at _
+      go D.Element = unfold partAt partFrom readAt in part-moved elementCount at _
+      go D.Set = unfold partAt partFrom readAt in part-moved setCount at _
+
 module _ (vs : List Variable) (ts : List Table) (at : ℕ) (bytes : List ℕ) where
-  pub part-good : (due : Due) {n c : ℕ} → R.Good n c ≡ partAt due vs ts mostNesting (drop at bytes) → R.Good (at + n) c ≡ partFrom vs ts due at bytes
-  unfolding partAt partFrom readAt
-  part-good D.Number q = part-moved noCount at (number vs ts mostNesting (drop at bytes)) q
-  part-good D.Condition q = part-moved noCount at (condition vs ts mostNesting (drop at bytes)) q
-  part-good D.Element q = part-moved elementCount at (element vs ts mostNesting (drop at bytes)) q
-  part-good D.Set q = part-moved setCount at (X.set vs ts mostNesting (drop at bytes)) q
-
-  pub part-refused : (due : Due) {t : ℕ} → R.Refused t ≡ partAt due vs ts mostNesting (drop at bytes) → R.Refused t ≡ partFrom vs ts due at bytes
-  unfolding partAt partFrom readAt
-  part-refused D.Number q = part-not-moved noCount at (number vs ts mostNesting (drop at bytes)) q
-  part-refused D.Condition q = part-not-moved noCount at (condition vs ts mostNesting (drop at bytes)) q
-  part-refused D.Element q = part-not-moved elementCount at (element vs ts mostNesting (drop at bytes)) q
-  part-refused D.Set q = part-not-moved setCount at (X.set vs ts mostNesting (drop at bytes)) q
-
   pub number-place : {p : Part} → p ≡ partFrom vs ts D.Number at bytes → placeOfPart p ≡ positionOf (readAt (number vs ts mostNesting) at bytes)
   unfolding partFrom
   number-place q = ap placeOfPart q ∙ part-place noCount (readAt (number vs ts mostNesting) at bytes)
@@ -269,30 +266,31 @@ module _ (vs : List Variable) (ts : List Table) where
     pub marked : Marked vs ts marks items
     pub goes-on : readAt (effectsBehind vs ts (mostVariables - n) items) at bytes ≡ readAt (effectsBehind vs ts mostVariables []) start bytes
 
-  pub no-effects : (bytes : List ℕ) (start : ℕ) → EffectsSoFar bytes start start 0 (replicate 16 0)
-  no-effects bytes start = record { few = omega arith; marks-length = refl; items = []; marked = none-marked; goes-on = refl }
+pub no-effects : {vs : List Variable} {ts : List Table} {bytes : List ℕ} {start : ℕ} → EffectsSoFar vs ts bytes start start 0 (replicate 16 0)
+no-effects {vs} {ts} = record { few = omega arith; marks-length = refl; items = []; marked = none-marked vs ts; goes-on = refl }
 
-  module _ (bytes : List ℕ) (start at n : ℕ) (marks : List ℕ) (s : EffectsSoFar bytes start at n marks) where
-    pub effects-more : {v end : ℕ} → ((items : List Effect) → Marked vs ts marks items → Changed vs ts bytes at n items v end) → EffectsSoFar bytes start end (n + 1) (set marks v 1)
-    effects-more {v} {end} h =
-        let c = h (s .items) (s .marked) in
-        record {
-          few = omega (arith, c .room);
-          marks-length = simp lib.ListN.length-set (s .marks-length);
-          items = s .items ++ (c .effect ∷ []);
-          marked = marked-more marks (s .items) (c .effect) v (c .target) (omega (arith, c .declared, s .marks-length)) (s .marked);
-          goes-on = sym (c .goes-on) ∙ s .goes-on;
-        }
+module _ {vs : List Variable} {ts : List Table} {bytes : List ℕ} {start at n : ℕ} {marks : List ℕ} (s : EffectsSoFar vs ts bytes start at n marks) where
+  pub effects-more : {v end : ℕ} → ((items : List Effect) → Marked vs ts marks items → Changed vs ts bytes at n items v end) → EffectsSoFar vs ts bytes start end (n + 1) (set marks v 1)
+  effects-more {v} {end} h =
+      let c = h (s .items) (s .marked) in
+      record {
+        few = omega (arith, c .room);
+        marks-length = simp lib.ListN.length-set (s .marks-length);
+        items = s .items ++ (c .effect ∷ []);
+        marked = marked-more vs ts marks (s .items) (c .effect) v (c .target) (omega (arith, c .declared, s .marks-length)) (s .marked);
+        goes-on = sym (c .goes-on) ∙ s .goes-on;
+      }
 
-    pub effects-end : at < length bytes → (getD bytes at 0 ≡ 0x0a → ⊥) → readAt (effectsBehind vs ts mostVariables []) start bytes ≡ read (s .items) at
-    effects-end inside other =
-        sym (s .goes-on) ∙ turn-end (λ b. eqb b 0x0a) (effectTarget vs ts) (effectOn vs ts) bytes mostVariables n (s .items) at inside (ne-eqb (getD bytes at 0) 0x0a other)
+  pub effects-end : at < length bytes → (getD bytes at 0 ≡ 0x0a → ⊥) → readAt (effectsBehind vs ts mostVariables []) start bytes ≡ read (s .items) at
+  effects-end inside other =
+      sym (s .goes-on) ∙ turn-end (λ b. eqb b 0x0a) (effectTarget vs ts) (effectOn vs ts) bytes mostVariables n (s .items) at inside (ne-eqb (getD bytes at 0) 0x0a other)
 
-    pub effects-early : length bytes ≤ at → readAt (effectsBehind vs ts mostVariables []) start bytes ≡ refused endsEarly
-    effects-early h = sym (s .goes-on) ∙ turn-early (λ b. eqb b 0x0a) (effectTarget vs ts) (effectOn vs ts) bytes mostVariables n (s .items) at h
+  pub effects-early : length bytes ≤ at → readAt (effectsBehind vs ts mostVariables []) start bytes ≡ refused endsEarly
+  effects-early h = sym (s .goes-on) ∙ turn-early (λ b. eqb b 0x0a) (effectTarget vs ts) (effectOn vs ts) bytes mostVariables n (s .items) at h
 
-  -- ---- the whole transition
+-- ---- the whole transition
 
+module _ (vs : List Variable) (ts : List Table) where
   module _ (at : ℕ) (bytes : List ℕ) where
     pub cost-read : {p : ℕ} → At p ≡ positionOf (readAt (command 0x09) at bytes) → positionOf (readAt (number vs ts mostNesting) p bytes) ≡ positionOf (readAt (costNumber vs ts) at bytes)
     cost-read q = let c = position-read (readAt (command 0x09) at bytes) q in sym (ap positionOf (next-read (command 0x09) at bytes (number vs ts mostNesting) (c .1)))

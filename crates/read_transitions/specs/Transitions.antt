@@ -29,6 +29,11 @@ abbrev pub placeOfPart : Part → Position
 placeOfPart (R.Good n c) = At n
 placeOfPart (R.Refused t) = Refused t
 
+-- what was read from a position on, with the position behind it in place of its bytes
+abbrev pub movedBy : (at : ℕ) → Part → Part
+movedBy at (R.Good n c) = R.Good (at + n) c
+movedBy at (R.Refused t) = R.Refused t
+
 -- which expression sets a variable of this kind
 abbrev pub dueFor : Kind → Due
 dueFor aSet = D.Set

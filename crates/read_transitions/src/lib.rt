@@ -2,19 +2,22 @@
 
 ghost use mathlib.Core.Path.{_≡_};
 ghost use mathlib.Core.List.{[]};
-ghost use Prim.Native.Nat.{_≤_, _<_};
-ghost use lib.ListN.{length, getD};
+ghost use Prim.Native.Nat.{_-_, _^_, _≤_, _<_};
+ghost use lib.ListN.{length, getD, drop};
 ghost use Rattle.model.specs.Numbers.{mostVariables, mostNesting};
-ghost use Rattle.model.specs.Expressions.{number, condition};
+ghost use Rattle.model.specs.Expressions as expressions;
 ghost use Rattle.model.specs.Commands as commands;
 ghost use Rattle.words.specs.Signature.{variableOf, variablesOf, tablesOf};
+ghost use Rattle.read_forms.specs.Forms.{TakesAtMost};
 ghost use Rattle.read_declarations.specs.Positions.{readAt, positionOf};
-ghost use Rattle.read_transitions.specs.Transitions.{placeOfPart, dueFor, countFits, partFrom, costNumber, effectsBehind, ChangedAs};
+ghost use Rattle.read_transitions.specs.Transitions.{placeOfPart, movedBy, dueFor, countFits, partFrom, costNumber, effectsBehind, ChangedAs};
 use laws::byte_at;
 use read_declarations::MOST_VARIABLES;
 use read_declarations::Position;
 use read_declarations::commands::command_at;
-use read_expressions::expression;
+use read_expressions::condition;
+use read_expressions::number;
+use read_expressions::part;
 use read_forms::Due;
 use read_forms::ENDS_EARLY;
 use read_forms::MISMATCH;
@@ -32,6 +35,27 @@ pub enum Change {
     Refused(u8),
 }
 
+// The bytes from a position on; none behind the end.
+fn suffix_at(model: &[u8], at: usize) -> &[u8]
+    ensures { λ r. ⌜ now r ≡ drop at (now (model .entry)) ⌝ }
+{
+    if at <= model.len() {
+        return &model[at..];
+    }
+    &model[model.len()..]
+}
+
+// What was read from a position on, with the position behind it in place of its bytes.
+fn moved(at: usize, read: Part) -> Part
+    requires { ⌜ TakesAtMost (2 ^ 64 - 1 - at) read ⌝ }
+    ensures { λ r. ⌜ r ≡ movedBy at read ⌝ }
+{
+    match read {
+        Part::Good(n, count) => Part::Good(at + n, count),
+        Part::Refused(t) => Part::Refused(t),
+    }
+}
+
 // The position behind the expression that is due, and its object count.
 fn expression_at(
     due: Due,
@@ -43,14 +67,17 @@ fn expression_at(
 ) -> Part
     ensures { λ r. ⌜ r ≡ partFrom (variablesOf (now (kinds .entry))) (tablesOf (now (rows .entry)) (now (columns .entry))) due at (now (model .entry)) ⌝ }
 {
-    if at < model.len() {
-        match expression(due, &model[at..], kinds, rows, columns, MOST_NESTING) {
-            Part::Good(n, count) => Part::Good(at + n, count),
-            Part::Refused(t) => Part::Refused(t),
-        }
-    } else {
-        Part::Refused(ENDS_EARLY)
-    }
+    moved(
+        at,
+        part(
+            due,
+            suffix_at(model, at),
+            kinds,
+            rows,
+            columns,
+            MOST_NESTING,
+        ),
+    )
 }
 
 fn placed(part: Part) -> Position
@@ -64,16 +91,22 @@ fn placed(part: Part) -> Position
 
 // The position behind a number.
 pub fn number_at(model: &[u8], at: usize, kinds: &[u8], rows: &[u8], columns: &[u8]) -> Position
-    ensures { λ r. ⌜ r ≡ positionOf (readAt (number (variablesOf (now (kinds .entry))) (tablesOf (now (rows .entry)) (now (columns .entry))) mostNesting) at (now (model .entry))) ⌝ }
+    ensures { λ r. ⌜ r ≡ positionOf (readAt (expressions.number (variablesOf (now (kinds .entry))) (tablesOf (now (rows .entry)) (now (columns .entry))) mostNesting) at (now (model .entry))) ⌝ }
 {
-    placed(expression_at(Due::Number, model, at, kinds, rows, columns))
+    placed(moved(
+        at,
+        number(suffix_at(model, at), kinds, rows, columns, MOST_NESTING),
+    ))
 }
 
 // The position behind a condition.
 pub fn condition_at(model: &[u8], at: usize, kinds: &[u8], rows: &[u8], columns: &[u8]) -> Position
-    ensures { λ r. ⌜ r ≡ positionOf (readAt (condition (variablesOf (now (kinds .entry))) (tablesOf (now (rows .entry)) (now (columns .entry))) mostNesting) at (now (model .entry))) ⌝ }
+    ensures { λ r. ⌜ r ≡ positionOf (readAt (expressions.condition (variablesOf (now (kinds .entry))) (tablesOf (now (rows .entry)) (now (columns .entry))) mostNesting) at (now (model .entry))) ⌝ }
 {
-    placed(expression_at(Due::Condition, model, at, kinds, rows, columns))
+    placed(moved(
+        at,
+        condition(suffix_at(model, at), kinds, rows, columns, MOST_NESTING),
+    ))
 }
 
 // Any conditions, 08 each.

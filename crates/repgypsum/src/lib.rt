@@ -4,9 +4,8 @@
 ghost use mathlib.Core.Path.{_≡_};
 ghost use mathlib.Core.Logic.{_↔_};
 ghost use Rattle.model.specs.Check as plans;
-ghost use Rattle.model.specs.Check.{CheckedPlan, answerNumber, answerCost};
-ghost use Rattle.search_report.specs.Answers.{FieldsAre};
-ghost use Rattle.solver.specs.Searches.{BuffersAre, Guaranteed, runOf};
+ghost use Rattle.model.specs.Check.{IsPlan, answerNumber, answerCost};
+ghost use Rattle.solver.specs.Searches.{Searched};
 use plan_check::check;
 use search_report::answers::Fields;
 use search_report::figures::fields;
@@ -17,16 +16,14 @@ use solver::entry::search;
 pub extern "C" fn repgypsum_search(
     model: &[u8],
     width: u32,
-    length: u32,
+    limit: u32,
     budget: u32,
     plan: &mut [u8],
     words: &mut [u64],
 ) -> Fields
-    ensures answer { λ r. ⌜ FieldsAre (runOf 65536 (now (model .entry)) (now (plan .entry)) (now (words .entry)) width length budget) r ⌝ }
-    ensures buffers { λ r. ⌜ BuffersAre (runOf 65536 (now (model .entry)) (now (plan .entry)) (now (words .entry)) width length budget) (now (plan .entry)) (now (plan .exit)) (now (words .entry)) (now (words .exit)) ⌝ }
-    ensures guaranteed { λ r. ⌜ Guaranteed (now (model .entry)) width length (runOf 65536 (now (model .entry)) (now (plan .entry)) (now (words .entry)) width length budget) ⌝ }
+    ensures { λ r. ⌜ Searched 65536 (now (model .entry)) (now (plan .entry)) (now (plan .exit)) (now (words .entry)) (now (words .exit)) width limit budget r ⌝ }
 {
-    let answer = search(model, width, length, budget, plan, words);
+    let answer = search(model, width, limit, budget, plan, words);
     fields(answer)
 }
 
@@ -34,7 +31,7 @@ pub extern "C" fn repgypsum_search(
 #[no_mangle]
 pub extern "C" fn repgypsum_check_answer(model: &[u8], plan: &[u8]) -> u8
     ensures number { λ r. ⌜ r ≡ answerNumber (plans.check (now (model .entry)) (now (plan .entry))) ⌝ }
-    ensures exact { λ r. ⌜ (r ≡ 0) ↔ CheckedPlan (now (model .entry)) (now (plan .entry)) (answerCost (plans.check (now (model .entry)) (now (plan .entry)))) ⌝ }
+    ensures exact { λ r. ⌜ (r ≡ 0) ↔ IsPlan (now (model .entry)) (now (plan .entry)) ⌝ }
 {
     check(model, plan).answer
 }

@@ -1,21 +1,19 @@
--- Facts of every answer that need no cost laws: the counts, where a refusal's number comes from, the plan flag;
--- and with cost laws: the bound on the rounds is never used up.
-use Prim.Native.Nat.{ℕ, zero, suc, _+_, _≤_, _<_}
-use mathlib.Core.Path.{_≡_, refl, _∙_, ap, subst}
-use mathlib.Core.Logic.{_⊎_, inl, inr}
-use mathlib.Core.Bool.{Bool, true, false}
-use mathlib.Core.List.{List, [], _∷_}
+-- Facts of every answer that need no cost laws: the counts, where a refusal's number comes from, the plan flag.
+use Prim.Native.Nat.{ℕ, _≤_, _<_}
+use mathlib.Core.Path.{_≡_, refl, subst}
+use mathlib.Core.Bool.{false}
+use mathlib.Core.List.{List}
 use mathlib.Core.Option.{Option, none, some}
 use native.Mathlib.Omega.{arith}
 use Rattle.laws.specs.Lists.{any, isEmpty}
-use Rattle.laws.proofs.Bools.{by-cond, not-both}
+use Rattle.laws.proofs.Bools.{by-cond}
 use Rattle.model.specs.Values.{trouble}
-use Rattle.model.specs.System.{Costs, CostLaws, System, Origin, base, unfinished, noStatus, troubleBefore, troubleAfter}
+use Rattle.model.specs.System.{Costs, System, Origin, noStatus, troubleBefore, troubleAfter}
 use Rattle.search.specs.Answer.{cheapest, noPlan, widthStop, lengthStop, budgetSpent, contradicted, verdict, byState, byInput, Answer}
-use Rattle.search.specs.Search.{Node, Route, Progress, Round, Ending, decided, refused, Stop, belowBest, beats, cut, insert, offer, counted, atLimit, improvedBy, layerEnd, nextLayer, root, freshRound, round, After, again, ended, exhausted, afterRound, hasPlan, tallyOf, answerOf, answer, nextWidth, laterWidths, unlessOver, rounds, search}
+use Rattle.search.specs.Search.{Node, Route, Progress, Round, Ending, decided, refused, Stop, belowBest, beats, cut, insert, offer, counted, atLimit, improvedBy, layerEnd, nextLayer, root, freshRound, round, exhausted, hasPlan, tallyOf, answerOf, answer, rounds, search}
 use Rattle.search.specs.Guarantee.{widest}
-use Rattle.search.proofs.Induction.{Point, taking, expanding, Changes, RoundEnd, round-holds}
-use Rattle.search.proofs.Rounds.{AfterHolds, afterRound-holds, atStart, RunChanges, search-holds}
+use Rattle.search.proofs.Induction.{Changes, RoundEnd, round-holds}
+use Rattle.search.proofs.Rounds.{afterRound-holds, RunChanges, search-holds}
 
 -- P holds of every number of a trouble that the system can give
 pub record Troubles {S C : Type 0} (M : System S C) (P : ℕ → Type 0) : Type 0 where
@@ -26,7 +24,7 @@ pub record Troubles {S C : Type 0} (M : System S C) (P : ℕ → Type 0) : Type 
 
 module _ {S C : Type 0} (K : Costs C) (M : System S C) where
   -- rules 4 and 5 change nothing that lasts over rounds
-  offer-progress : (width : ℕ) (n : Node S C) (r : Round S C) → offer K M width n r .progress ≡ r .progress
+  pub offer-progress : (width : ℕ) (n : Node S C) (r : Round S C) → offer K M width n r .progress ≡ r .progress
   unfolding offer insert cut
   offer-progress width n r =
       by-cond (λ (x : Round S C). x .progress ≡ r .progress) (belowBest K M (n .f) (r .progress .best))
@@ -156,118 +154,3 @@ module _ {S C : Type 0} (K : Costs C) (M : System S C) (o : Origin S C) (budget 
 
   pub refusal-has-no-plan : (t : ℕ) → search K M budget limit width wider o .outcome ≡ byState t → search K M budget limit width wider o .flag ≡ false
   refusal-has-no-plan = search-reported (λ e. Unit {0}) anyTrouble .refused-no-flag
-
-module _ {S C : Type 0} (K : Costs C) (L : CostLaws K) (M : System S C) (o : Origin S C) (budget l : ℕ) (h : C) where
-  -- a start that is not unfinished is met only in round 1, with nothing found
-  abbrev FirstOrUnfinished : Progress C → Type 0
-  FirstOrUnfinished p = (M .status (o .start) ≡ unfinished) ⊎ (p ≡ atStart K o h)
-
-  -- of a count of expansions: since a round began with p, a state has been expanded
-  record Grown (p : Progress C) (count : ℕ) : Type 0 where
-    grows : p .expansions < count
-    within : count ≤ budget
-    open-state : M .status (o .start) ≡ unfinished
-
-  -- the start, at the round's begin, is still to be taken
-  record AtRoot (p : Progress C) (left : ℕ) (ns : List (Node S C)) (r : Round S C) : Type 0 where
-    alone : ns ≡ root K M o h ∷ []
-    layers-left : left ≡ suc l
-    same : r .progress ≡ p
-
-  abbrev Growing : Progress C → (k left : ℕ) → Point S C → Round S C → Type 0
-  Growing p k left (taking ns) r = AtRoot p left ns r ⊎ Grown p (r .progress .expansions)
-  Growing p k left (expanding n t ns) r = Grown p (r .progress .expansions)
-
-  -- the first node is the start
-  root-state : {p : Progress C} {left : ℕ} {n : Node S C} {ns : List (Node S C)} {r : Round S C} → AtRoot p left (n ∷ ns) r → n .state ≡ o .start
-  unfolding root
-  root-state a = let e = a .alone in cc
-
-  root-g : {p : Progress C} {left : ℕ} {n : Node S C} {ns : List (Node S C)} {r : Round S C} → AtRoot p left (n ∷ ns) r → n .g ≡ o .spent
-  unfolding root
-  root-g a = let e = a .alone in cc
-
-  spent-at-most : K .atMost (o .spent) (K .combine (o .spent) h) ≡ true
-  spent-at-most = subst (λ x. K .atMost x (K .combine (o .spent) h) ≡ true) (L .right-unit (o .spent)) (L .monotone _ _ _ _ (L .reflexive (o .spent)) (L .least h))
-
-  -- a start that is a base state is the best at once, and at most low
-  module _ (p : Progress C) (f : FirstOrUnfinished p) {left : ℕ} {n : Node S C} {ns : List (Node S C)} {r : Round S C} (a : AtRoot p left (n ∷ ns) r) (e : M .status (n .state) ≡ base) where
-    first-round : p ≡ atStart K o h
-    first-round = pick f
-      where
-        pick : FirstOrUnfinished p → p ≡ atStart K o h
-        pick (inl u) = let s = root-state a in let z : _≡_ {A = ℕ} 0 1 = cc in absurd (omega arith)
-        pick (inr q) = q
-
-    is-below : belowBest K M (n .g) (r .progress .best) ≡ true
-    unfolding belowBest
-    is-below = rw (a .same ∙ first-round) refl
-
-    is-at-low : K .atMost (n .g) (r .progress .low) ≡ true
-    is-at-low = rw (root-g a, a .same ∙ first-round) spent-at-most
-
-  abbrev Any : Stop C → Type 0
-  Any s = Unit {0}
-
-  at-root-no-node : {p : Progress C} {left : ℕ} {r : Round S C} → AtRoot p left [] r → ⊥
-  at-root-no-node a = let e = a .alone in let z : _≡_ {A = ℕ} 0 1 = cc in omega arith
-
-  round-grows : (width : ℕ) (p : Progress C) → FirstOrUnfinished p → Changes K M budget width (Growing p) Any
-  unfolding counted atLimit improvedBy layerEnd nextLayer
-  round-grows width p f =
-      record {
-        no-status = λ i e. tt;
-        no-better = λ i e b. elim i [ inl a ↦ absurd (not-both (is-below p f a e) b) | inr g ↦ inr g ];
-        better = λ i e b c. elim i [ inl a ↦ absurd (not-both (is-at-low p f a e) c) | inr g ↦ inr g ];
-        at-low = λ i e b c. tt;
-        at-limit = λ i e. elim i [ inl a ↦ absurd (omega (arith, a .layers-left)) | inr g ↦ inr g ];
-        budget-spent = λ i e b. tt;
-        expansion-begins =
-            λ i e lt.
-            elim i [
-              | inl a ↦ record { grows = omega (arith, ap (λ (q : Progress C). q .expansions) (a .same)); within = lt; open-state = rw (root-state a) at e }
-              | inr g ↦ record { grows = omega (arith, g .grows); within = lt; open-state = g .open-state }
-            ];
-        is-blocked = λ g lt e. g;
-        has-moved = λ g lt e b. rw offer-progress g;
-        no-bound = λ g lt e b. tt;
-        trouble-before = λ g lt e. tt;
-        trouble-after = λ g lt e. tt;
-        expansion-ends = λ g. inr g;
-        layer-ends = λ i. elim i [ inl a ↦ absurd (at-root-no-node a) | inr g ↦ inr g ];
-        next-layer = λ i e. elim i [ inl a ↦ absurd (at-root-no-node a) | inr g ↦ inr g ];
-      }
-
-  -- a round that is followed by another has expanded a state
-  again-grown : (width : ℕ) (atWidest : Bool) (p : Progress C) → FirstOrUnfinished p → AfterHolds K M (λ q. Grown p (q .expansions)) Any (afterRound K M atWidest (round K M budget (suc l) width (root K M o h) p))
-  unfolding freshRound
-  again-grown width atWidest p f =
-      afterRound-holds K M (λ q. Grown p (q .expansions)) Any (RoundEnd (Growing p)) atWidest (round K M budget (suc l) width (root K M o h) p)
-      (round-holds K M budget width (Growing p) Any (round-grows width p f) p (inl (record { alone = refl; layers-left = refl; same = refl })))
-      (λ r E.
-      record {
-        no-mark = λ _ _ _. tt;
-        next-round = elim (E .holds) [ inl a ↦ absurd (at-root-no-node a) | inr g ↦ g ];
-        at-widest = λ _ _. tt;
-        no-width-mark = λ _ _ _. tt;
-      })
-
-  unlessOver-same : (k width : ℕ) (R : Progress C → Type 0) (a : After K M) (f g : Progress C → Answer C) → AfterHolds K M R Any a → ((p : Progress C) → R p → f p ≡ g p) → unlessOver K M k width a f ≡ unlessOver K M k width a g
-  unfolding unlessOver
-  unlessOver-same k width R (ended s) f g i e = refl
-  unlessOver-same k width R (again p) f g i e = e p i
-
-  -- any two bounds above what is left of the budget give the same answer
-  same-answer : (most most′ width : ℕ) (wider : List ℕ) (k : ℕ) (p : Progress C) → FirstOrUnfinished p → p .expansions ≤ budget → budget < most + p .expansions → budget < most′ + p .expansions
-      → rounds K M most budget (suc l) width wider k (root K M o h) p ≡ rounds K M most′ budget (suc l) width wider k (root K M o h) p
-  unfolding rounds
-  same-answer zero most′ width wider k p f le a b = absurd (omega arith)
-  same-answer (suc most) zero width wider k p f le a b = absurd (omega arith)
-  same-answer (suc most) (suc most′) width wider k p f le a b =
-      unlessOver-same k width (λ q. Grown p (q .expansions)) (afterRound K M (isEmpty wider) (round K M budget (suc l) width (root K M o h) p)) _ _ (again-grown width (isEmpty wider) p f)
-      (λ q g. same-answer most most′ (nextWidth K M width wider) (laterWidths K M wider) (suc k) q (inl (g .open-state)) (g .within) (omega (arith, g .grows)) (omega (arith, g .grows)))
-
-  -- the bound on the rounds is never used up: every greater one gives the same answer
-  pub any-bound-of-rounds : (width : ℕ) (wider : List ℕ) (most : ℕ) → budget < most
-      → rounds K M most budget (suc l) width wider 1 (root K M o h) (record { best = none; low = K .combine (o .spent) h; expansions = 0 }) ≡ rounds K M (suc budget) budget (suc l) width wider 1 (root K M o h) (record { best = none; low = K .combine (o .spent) h; expansions = 0 })
-  any-bound-of-rounds width wider most lt = same-answer most (suc budget) width wider 1 (atStart K o h) (inr refl) (omega arith) (omega arith) (omega arith)

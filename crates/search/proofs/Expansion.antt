@@ -1,20 +1,21 @@
 -- Rules 3 and 4 keep the invariant: a state at the limit, the start of an expansion, a transition tried, the end of an expansion.
 -- A plan through the expanded state is among the transitions still untried, or it goes on from a child.
 use Prim.Native.Nat.{ℕ, suc, _<_, zero-le}
-use mathlib.Core.Path.{_≡_, refl, subst}
+use mathlib.Core.Path.{_≡_, refl, sym, subst}
 use mathlib.Core.Logic.{_⊎_, inl, inr}
 use mathlib.Core.Bool.{true}
-use mathlib.Core.List.{List, _∷_}
+use mathlib.Core.List.{List, _∷_, reverse-cons}
 use native.Mathlib.Omega.{arith}
 use native.Mathlib.Nat.{eq-or-lt-of-le}
 use Rattle.laws.proofs.Bools.{or-neither}
 use Rattle.laws.proofs.Lists.{here, there}
-use Rattle.model.specs.Values.{value}
-use Rattle.model.specs.System.{Costs, CostLaws, System, Origin, unfinished, blocked, moved}
+use Rattle.model.specs.Values.{value, trouble}
+use Rattle.model.specs.System.{Costs, CostLaws, System, Origin, unfinished, blocked, moved, troubleBefore, troubleAfter}
 use Rattle.model.specs.Plans.{Step, InLayer, next, Plan, finish, step, TrueDeclarations}
-use Rattle.model.proofs.Reach.{onward}
+use Rattle.model.proofs.Reach.{onward, reach-leads}
 use Rattle.search.specs.Answer.{budgetSpent}
 use Rattle.search.specs.Search.{Node, Round, decided, refused, belowBest, offer, routeTo, routeOver, child, counted, atLimit}
+use Rattle.search.specs.Guarantee.{TroubleAt, in-transition, in-constraints, in-bound}
 use Rattle.search.proofs.Induction.{stopAt, Point, taking, expanding}
 use Rattle.search.proofs.Invariant.{Completion, Untried, Accounted, covered, pending, Pending, Valid, InvariantAt, Justified, refused-holds, accounted-map, invariant-map, not-below-covered, f-below}
 use Rattle.search.proofs.Insertion.{offer-holds}
@@ -136,14 +137,26 @@ module _ {S C : Type 0} (K : Costs C) (L : CostLaws K) (M : System S C) (o : Ori
         tried T x (inl y) = elim (untried-moved K M h e y) [ inl z ↦ pending (inl z) | inr z ↦ pending (inr (inl z)) ]
         tried T x (inr y) = pending (inr (inr y))
 
-    -- trouble before there is a child: the path is the one to n; or after: it is one step longer
-    pub refused-before-holds : {k left t e : ℕ} {n : Node S C} {ns : List (Node S C)} {r : Round S C} → At k (suc left) (expanding n t ns) r → Justified K M o limit W (stopAt (refused e (routeTo K M n)) r)
+    -- trouble before there is a child: the path is the one to n; in a child's constraints or h: it is one step longer
+    pub trouble-before-holds : {k left t e : ℕ} {n : Node S C} {ns : List (Node S C)} {r : Round S C} → At k (suc left) (expanding n t ns) r → t < M .transitions → M .move (n .state) t ≡ troubleBefore e
+        → Justified K M o limit W (stopAt (refused e (routeTo K M n)) r)
     unfolding routeTo
-    refused-before-holds {n} s = refused-holds K M o limit W (routeTo K M n) s (omega (arith, s .depth, s .ahead .0 .path-length))
+    trouble-before-holds {n} s lt e =
+        refused-holds K M o limit W (routeTo K M n) s (omega (arith, s .depth, s .ahead .0 .path-length)) (in-transition (reach-leads K M o (s .ahead .0 .reached)) (s .ahead .1) lt e)
 
-    pub refused-after-holds : {k left t e : ℕ} {n : Node S C} {ns : List (Node S C)} {r : Round S C} (c : C) → At k (suc left) (expanding n t ns) r → Justified K M o limit W (stopAt (refused e (routeOver K M n t c)) r)
+    pub trouble-after-holds : {k left t e : ℕ} {n : Node S C} {ns : List (Node S C)} {r : Round S C} {c : C} → At k (suc left) (expanding n t ns) r → t < M .transitions → M .move (n .state) t ≡ troubleAfter c e
+        → Justified K M o limit W (stopAt (refused e (routeOver K M n t c)) r)
     unfolding routeOver
-    refused-after-holds {t} {n} c s = refused-holds K M o limit W (routeOver K M n t c) s (omega (arith, s .depth, s .ahead .0 .path-length))
+    trouble-after-holds {t} {e = number} {n} {c} s lt e =
+        refused-holds K M o limit W (routeOver K M n t c) s (omega (arith, s .depth, s .ahead .0 .path-length))
+        (subst (λ p. TroubleAt K M o number p (K .combine (n .g) c)) (sym (reverse-cons t (n .path))) (in-constraints (reach-leads K M o (s .ahead .0 .reached)) (s .ahead .1) lt e))
+
+    pub no-bound-holds : {k left t e : ℕ} {n : Node S C} {ns : List (Node S C)} {r : Round S C} {c : C} {u : S} → At k (suc left) (expanding n t ns) r → t < M .transitions → M .move (n .state) t ≡ moved c u → M .bound u ≡ trouble e
+        → Justified K M o limit W (stopAt (refused e (routeOver K M n t c)) r)
+    unfolding routeOver
+    no-bound-holds {t} {n} {c} s lt e b =
+        refused-holds K M o limit W (routeOver K M n t c) s (omega (arith, s .depth, s .ahead .0 .path-length))
+        (in-bound (reach-leads K M o (onward (s .ahead .0 .reached) (record { open-state = s .ahead .1; declared = lt; allowed = e }))) b)
 
     pub expansion-ends-holds : {k left : ℕ} {n : Node S C} {ns : List (Node S C)} {r : Round S C} → At k left (expanding n (M .transitions) ns) r → At k left (taking ns) r
     expansion-ends-holds {n} {ns} s =

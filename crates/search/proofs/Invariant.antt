@@ -16,7 +16,7 @@ use Rattle.model.specs.Plans.{InLayer, Overfull, OpenAt, Plan, TrueDeclarations
 use Rattle.model.proofs.Reach.{Reach}
 use Rattle.search.specs.Answer.{cheapest, noPlan, widthStop, lengthStop, budgetSpent, contradicted}
 use Rattle.search.specs.Search.{Node, Route, Progress, Round, Ending, decided, refused, Stop, less, belowBest}
-use Rattle.search.specs.Guarantee.{OfEveryPlan}
+use Rattle.search.specs.Guarantee.{OfEveryPlan, TroubleAt}
 use Rattle.search.proofs.Induction.{stopAt, Point, taking, expanding}
 
 module _ {S C : Type 0} (K : Costs C) (M : System S C) where
@@ -126,6 +126,11 @@ module _ {S C : Type 0} (K : Costs C) (M : System S C) (o : Origin S C) where
           accounted = λ w l T p c x. accounted-map K M (f T (K .combine (o .spent) c)) (I .accounted w l T p c x);
         }
 
+    -- a route within the limit to a state that has trouble t
+    pub record IsRefusal (t : ℕ) (route : Route C) : Type 0 where
+      pub fits : length (route .path) ≤ limit
+      pub trouble-there : TroubleAt K M o t (reverse (route .path)) (route .cost)
+
     abbrev pub IsCheapest : Option (Route C) → Type 0
     IsCheapest none = ⊥
     IsCheapest (some b) = OfEveryPlan K M o (λ c. K .atMost (b .cost) c ≡ true)
@@ -140,14 +145,14 @@ module _ {S C : Type 0} (K : Costs C) (M : System S C) (o : Origin S C) where
       Claim (decided lengthStop) best = OpenAt M (o .start) limit
       Claim (decided budgetSpent) best = Unit {0}
       Claim (decided contradicted) best = TrueDeclarations K M (o .start) → ⊥
-      Claim (refused t route) best = length (route .path) ≤ limit
+      Claim (refused t route) best = IsRefusal t route
 
       pub record Justified (s : Stop C) : Type 0 where
         pub supported : Supported (s .progress)
         pub claim : Claim (s .ending) (s .progress .best)
 
-      pub refused-holds : {width k left e : ℕ} {point : Point S C} {r : Round S C} (route : Route C) → InvariantAt width k left point r → length (route .path) ≤ limit → Justified (stopAt (refused e route) r)
-      refused-holds route s fits = record { supported = s .invariant .supported; claim = fits }
+      pub refused-holds : {width k left e : ℕ} {point : Point S C} {r : Round S C} (route : Route C) → InvariantAt width k left point r → length (route .path) ≤ limit → TroubleAt K M o e (reverse (route .path)) (route .cost) → Justified (stopAt (refused e route) r)
+      refused-holds route s fits x = record { supported = s .invariant .supported; claim = record { fits = fits; trouble-there = x } }
 
 module _ {S C : Type 0} (K : Costs C) (L : CostLaws K) (M : System S C) where
   pub not-below-covered : {x c : C} (best : Option (Route C)) → belowBest K M x best ≡ false → K .atMost x c ≡ true → Covered K M c best

@@ -10,11 +10,12 @@ use native.Mathlib.Omega.{arith}
 use Rattle.laws.specs.Lists.{filter, isEmpty}
 use Rattle.laws.proofs.Bools.{by-cond, not-both}
 use Rattle.laws.proofs.Lists.{Some, here, there, some-none, some-all, some-map, some-of, all-filter, all-passed, some-filter, apart-filter}
-use Rattle.model.specs.System.{Costs, CostLaws, System, Origin, base}
+use Rattle.model.specs.System.{Costs, CostLaws, System, Origin, base, noStatus}
 use Rattle.model.specs.Plans.{Plan, finish, step, TrueDeclarations}
-use Rattle.model.proofs.Reach.{Reach, here as reach-here, onward}
+use Rattle.model.proofs.Reach.{Reach, here as reach-here, onward, reach-leads}
 use Rattle.search.specs.Answer.{cheapest, contradicted}
 use Rattle.search.specs.Search.{Node, Round, decided, refused, belowBest, routeTo, improvedBy, leastF, raisedLow, layerEnd, nextLayer}
+use Rattle.search.specs.Guarantee.{in-base-cases}
 use Rattle.search.proofs.Induction.{stopAt, Point, taking}
 use Rattle.search.proofs.Invariant.{Completion, Covered, Accounted, covered, pending, held, Pending, Valid, IsPlan, Limited, InvariantAt, Justified, refused-holds, invariant-map, not-below-covered, below-covered, f-below}
 
@@ -58,9 +59,9 @@ module _ {S C : Type 0} (K : Costs C) (L : CostLaws K) (M : System S C) (o : Ori
     abbrev At : (k left : ℕ) → Point S C → Round S C → Type 0
     At = InvariantAt K M o limit width
 
-    pub no-status-holds : {k left e : ℕ} {n : Node S C} {ns : List (Node S C)} {r : Round S C} → At k left (taking (n ∷ ns)) r → Justified K M o limit W (stopAt (refused e (routeTo K M n)) r)
+    pub no-status-holds : {k left e : ℕ} {n : Node S C} {ns : List (Node S C)} {r : Round S C} → At k left (taking (n ∷ ns)) r → M .status (n .state) ≡ noStatus e → Justified K M o limit W (stopAt (refused e (routeTo K M n)) r)
     unfolding routeTo
-    no-status-holds {n} s = refused-holds K M o limit W (routeTo K M n) s (omega (arith, s .depth, s .ahead .0 .path-length))
+    no-status-holds {n} s e = refused-holds K M o limit W (routeTo K M n) s (omega (arith, s .depth, s .ahead .0 .path-length)) (in-base-cases (reach-leads K M o (s .ahead .0 .reached)) e)
 
     pub no-better-holds : {k left : ℕ} {n : Node S C} {ns : List (Node S C)} {r : Round S C} → At k left (taking (n ∷ ns)) r → M .status (n .state) ≡ base → belowBest K M (n .g) (r .progress .best) ≡ false → At k left (taking ns) r
     no-better-holds {n} {ns} {r} s e b =

@@ -9,5 +9,9 @@ pub mod Insertion
 pub mod Expansion
 pub mod Layer
 pub mod Sound
+pub mod Refusals
 pub mod Counts
+pub mod Budget
+pub mod Fitting
+pub mod ThreeDesigns
 pub mod Mission

@@ -15,11 +15,10 @@ use Rattle.laws.proofs.Bools.{by-cond, not-false, and-both}
 use Rattle.laws.proofs.Lists.{some-all, any-some}
 use Rattle.model.specs.Numbers.{rangeEnd, modelTooLong, badSetting, tooLittleLent}
 use Rattle.model.specs.Values.{value, trouble}
-use Rattle.model.specs.Plans.{Plan, TrueDeclarations}
 use Rattle.model.specs.Readers.{Read, read, refused}
 use Rattle.model.specs.Syntax.{Model}
 use Rattle.model.specs.Commands.{model}
-use Rattle.model.specs.Steps.{target, costsOf, systemOf, originOf}
+use Rattle.model.specs.Steps.{costsOf, systemOf, originOf}
 use Rattle.model.proofs.Costs.{cost-laws}
 use Rattle.model.specs.Check.{check, CheckedPlan}
 use Rattle.model.proofs.Dominance.{dominates-self}
@@ -28,18 +27,15 @@ use Rattle.model.proofs.Reading.{model-refusal}
 use Rattle.model.proofs.Troubles.{status-trouble, move-trouble-before, move-trouble-after, bound-trouble, CheckRefusal, check-numbers}
 use Rattle.model.proofs.PlanCheck.{check-exact}
 use Rattle.search.specs.Answer.{Verdict, cheapest, noPlan, widthStop, lengthStop, contradicted, Outcome, verdict, byState, byInput, Answer, bufferAfter, handedBack}
-use Rattle.search.specs.Guarantee.{Stopped, widest, Guarantee, Fits}
+use Rattle.search.specs.Guarantee.{Stopped, widest, Guarantee}
+use Rattle.search.specs.Demands.{Ends, with-verdict, by-state, by-input, PlanOf, DeclarationsTrue, LayersFit, Marked, Demands}
 use Rattle.search.specs.Run.{Settings, Lent, widerWidths, widerUpTo, settingsFit, lentFits, refusedByInput, searchModel, runRead, run}
 use Rattle.search.proofs.Sound.{search-guarantee, steps-within, no-stop-where-fits}
+use Rattle.search.proofs.Refusals.{run-refusal-path}
+use Rattle.search.proofs.Budget.{run-budget-spent-means-used}
 use Rattle.search.proofs.Counts.{Troubles, expansions-within-budget, refusals-from-system, never-by-input}
 
 -- ---- demand 1
-
--- how a run may end: a verdict, or one of document 01's refusals
-pub data Ends : Outcome → Type 0 where
-  with-verdict : {v : Verdict} → Ends (verdict v)
-  by-state : {t : ℕ} → 11 ≤ t → t ≤ 13 → Ends (byState t)
-  by-input : {t : ℕ} → 1 ≤ t → t ≤ 9 → Ends (byInput t)
 
 search-ends : (m : Model) (q : Settings) (x : Outcome) → searchModel m q .outcome ≡ x → Ends x
 unfolding searchModel
@@ -110,7 +106,7 @@ refusal-changes-no-buffer most bytes q l buffer e = source-keeps-buffer buffer (
 pub plan-check-exact : (bytes plan : List ℕ) (c : ℕ) → (check bytes plan ≡ value c) ↔ CheckedPlan bytes plan c
 plan-check-exact bytes plan c = check-exact bytes plan c
 
--- "The search follows document 01's rules step for step, counts included": the count of expansions is the definition's, and never passes the budget
+-- the definition's count of expansions never passes the budget; that the code counts as the definition does is a field of its contract, `Searched`
 source-within-budget : {bytes : List ℕ} {q : Settings} {a : Answer ℕ} → Source bytes q a → a .tally .expansions ≤ q .budget
 unfolding refusedByInput searchModel
 source-within-budget {q = q} (input-refused t) = omega arith
@@ -118,6 +114,10 @@ source-within-budget {q = q} (searched m n r) = expansions-within-budget (costsO
 
 pub expansions-never-pass-budget : (most : ℕ) (bytes : List ℕ) (q : Settings) (l : Lent) → run most bytes q l .tally .expansions ≤ q .budget
 expansions-never-pass-budget most bytes q l = source-within-budget (run-source most bytes q l)
+
+plan-lent : (q : Settings) (l : Lent) → lentFits q l ≡ true → q .limit ≤ l .planBytes
+unfolding lentFits
+plan-lent q l e = leb-true (q .limit) (l .planBytes) (and-both _ _ e .0)
 
 -- the steps in an answer never outnumber the length limit, so L plan bytes are enough
 source-steps-within : {bytes : List ℕ} {q : Settings} {a : Answer ℕ} → Source bytes q a → length (a .steps) ≤ q .limit
@@ -129,20 +129,21 @@ source-steps-within {q = q} (searched m n r) =
 pub steps-never-pass-limit : (most : ℕ) (bytes : List ℕ) (q : Settings) (l : Lent) → length (run most bytes q l .steps) ≤ q .limit
 steps-never-pass-limit most bytes q l = source-steps-within (run-source most bytes q l)
 
+-- nor the plan bytes lent
+pub steps-fit-buffer : (most : ℕ) (bytes : List ℕ) (q : Settings) (l : Lent) → length (run most bytes q l .steps) ≤ l .planBytes
+unfolding run refusedByInput
+steps-fit-buffer most bytes q l =
+    by-cond (λ (a : Answer ℕ). length (a .steps) ≤ l .planBytes) (ltb most (length bytes)) (λ _. omega arith)
+    (λ _. by-cond (λ (a : Answer ℕ). length (a .steps) ≤ l .planBytes) (not (settingsFit q)) (λ _. omega arith)
+    (λ _. by-cond (λ (a : Answer ℕ). length (a .steps) ≤ l .planBytes) (not (lentFits q l)) (λ _. omega arith)
+    (λ e. omega (arith, plan-lent q l (not-false (lentFits q l) e), source-steps-within (read-source bytes q (model bytes) refl)))))
+
 -- what is handed back of the buffer afterwards is the plan
 pub plan-handed-back : (a : Answer ℕ) (buffer : List ℕ) → length (a .steps) ≤ length buffer → handedBack (length (a .steps)) (bufferAfter a buffer) ≡ a .steps
 unfolding handedBack bufferAfter
 plan-handed-back a buffer h =
     let fits : length (a .steps) ≤ length (a .steps ++ drop (length (a .steps)) buffer) = omega (arith, length-append (a .steps) (drop (length (a .steps)) buffer)) in
     rw (le-leb (length (a .steps)) (length (a .steps ++ drop (length (a .steps)) buffer)) fits) (take-at (a .steps) (drop (length (a .steps)) buffer) (length (a .steps)) refl)
-
--- ---- a model's plans, and its declarations
-
-abbrev pub PlanOf : Model → List ℕ → (cost : ℕ) → Type 0
-PlanOf m p c = Plan (costsOf (m .rule)) (systemOf rangeEnd m) (target m) p c
-
-abbrev pub DeclarationsTrue : Model → Type 0
-DeclarationsTrue m = TrueDeclarations (costsOf (m .rule)) (systemOf rangeEnd m) (target m)
 
 -- ---- the guarantee, from bytes
 
@@ -241,6 +242,31 @@ module _ (most : ℕ) (bytes : List ℕ) (q : Settings) (l : Lent) (m : Model) (
 
   -- "if every layer of the model up to the length limit has at most as many different states as the widest beam, and no unfinished state
   -- lies at the limit, neither the width stop nor the length stop is given"
-  pub no-stop-where-layers-fit : Fits (costsOf (m .rule)) (systemOf rangeEnd m) (originOf m) (q .widest) (q .limit)
-      → (run most bytes q l .outcome ≡ verdict widthStop → ⊥) × (run most bytes q l .outcome ≡ verdict lengthStop → ⊥)
+  pub no-stop-where-layers-fit : LayersFit m q → (run most bytes q l .outcome ≡ verdict widthStop → ⊥) × (run most bytes q l .outcome ≡ verdict lengthStop → ⊥)
   no-stop-where-layers-fit f = no-stop-where-fits (costsOf (m .rule)) (systemOf rangeEnd m) (originOf m) (q .widest) (q .limit) (run most bytes q l) run-guarantee f
+
+  -- all that is said of the model
+  run-marked : Marked m q (run most bytes q l)
+  run-marked =
+      record {
+        plan-given = a-plan-given-is-a-plan;
+        cheapest-given = λ e. cheapest-costs-no-more e .0;
+        cheapest-least = λ e. cheapest-costs-no-more e .1;
+        no-plan = no-plan-means-none;
+        bound-below = stopped-bound-below-every-plan;
+        declaration-false = contradicted-only-if-false;
+        no-width-stop = λ f. no-stop-where-layers-fit f .0;
+        no-length-stop = λ f. no-stop-where-layers-fit f .1;
+        trouble-there = λ t e. run-refusal-path most bytes q l m n reads e;
+      }
+
+-- every demand, of every run
+pub run-meets-demands : (most : ℕ) (bytes : List ℕ) (q : Settings) (l : Lent) → Demands bytes q (run most bytes q l)
+run-meets-demands most bytes q l =
+    record {
+      ends = every-run-ends most bytes q l;
+      within-budget = expansions-never-pass-budget most bytes q l;
+      budget-used = run-budget-spent-means-used most bytes q l;
+      within-limit = steps-never-pass-limit most bytes q l;
+      marked = λ m n reads. run-marked most bytes q l m n reads;
+    }

@@ -73,7 +73,7 @@ unfolding ofLists.any ofLists.filter ofLists.isEmpty ofHex.hex ofHex.zeros _bind
     ofSearch.raisedLow ofSearch.layerEnd ofSearch.nextLayer ofSearch.unlessEnded ofSearch.layers ofSearch.root ofSearch.freshRound ofSearch.round
     ofSearch.exhausted ofSearch.endWith ofSearch.judge ofSearch.afterRound ofSearch.hasPlan ofSearch.bestCost ofSearch.bestSteps ofSearch.boundAt
     ofSearch.tallyOf ofSearch.answerOf ofSearch.answer ofSearch.nextWidth ofSearch.laterWidths ofSearch.unlessOver ofSearch.rounds ofSearch.begin
-    ofSearch.search ofRun.widerUpTo ofRun.settingsFit ofRun.wordsNeeded ofRun.lentFits ofRun.refusedByInput ofRun.searchModel ofRun.runRead ofRun.run
+    ofSearch.searchWithin ofSearch.search ofRun.widerUpTo ofRun.settingsFit ofRun.wordsNeeded ofRun.lentFits ofRun.refusedByInput ofRun.searchModel ofRun.runRead ofRun.run
     ofRun.fields valueRead told toldCheck
 opened (runOf bytes widest limit budget buffer words) = told (run mostModelBytes bytes (record { widest = widest; limit = limit; budget = budget }) (record { planBytes = length buffer; words = words })) buffer
 opened (checkOf bytes plan) = toldCheck (check bytes plan)

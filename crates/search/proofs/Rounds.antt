@@ -11,7 +11,7 @@ use Rattle.laws.proofs.Bools.{by-cond, not-both, not-true, and-both}
 use Rattle.model.specs.Values.{Value, value, trouble}
 use Rattle.model.specs.System.{Costs, System, Origin}
 use Rattle.search.specs.Answer.{Answer, widthStop, lengthStop, budgetSpent}
-use Rattle.search.specs.Search.{Progress, Round, decided, refused, Stop, Result, on, over, round, After, again, ended, exhausted, endWith, judge, afterRound, answer, nextWidth, laterWidths, unlessOver, rounds, root, begin, search}
+use Rattle.search.specs.Search.{Progress, Round, decided, refused, Stop, Result, on, over, round, After, again, ended, exhausted, endWith, judge, afterRound, answer, nextWidth, laterWidths, unlessOver, rounds, root, begin, searchWithin, search}
 use Rattle.search.specs.Guarantee.{widest}
 use Rattle.search.proofs.Induction.{Holds, stopAt}
 
@@ -78,11 +78,11 @@ module _ {S C : Type 0} (K : Costs C) (M : System S C) (R : Progress C → Type 
           (changes .round-keeps h width wider p b w i)
           (λ p′ i′. rounds-hold most (nextWidth K M width wider) (laterWidths K M wider) (suc k) h p′ b (same-widest width wider ∙ w) (omega arith) i′)
 
-      begin-holds : (width : ℕ) (wider : List ℕ) (b : Value C) → M .bound (o .start) ≡ b → widest width wider ≡ W → X (begin K M budget limit width wider o b)
+      begin-holds : (most width : ℕ) (wider : List ℕ) (b : Value C) → M .bound (o .start) ≡ b → widest width wider ≡ W → X (begin K M most budget limit width wider o b)
       unfolding begin
-      begin-holds width wider (value h) b w = rounds-hold (suc budget) width wider 1 h _ b w (omega arith) (changes .starts h b)
-      begin-holds width wider (trouble t) b w = told 1 width _ (omega arith) (changes .no-start t b)
+      begin-holds most width wider (value h) b w = rounds-hold most width wider 1 h _ b w (omega arith) (changes .starts h b)
+      begin-holds most width wider (trouble t) b w = told 1 width _ (omega arith) (changes .no-start t b)
 
       pub search-holds : (width : ℕ) (wider : List ℕ) → widest width wider ≡ W → X (search K M budget limit width wider o)
-      unfolding search
-      search-holds width wider w = begin-holds width wider (M .bound (o .start)) refl w
+      unfolding search searchWithin
+      search-holds width wider w = begin-holds _ width wider (M .bound (o .start)) refl w

@@ -13,15 +13,15 @@ use Rattle.laws.proofs.Bools.{not-both, or-either}
 use Rattle.laws.proofs.Lists.{Some, here, some-none, is-empty}
 use Rattle.model.specs.Values.{value}
 use Rattle.model.specs.System.{Costs, CostLaws, System, Origin}
-use Rattle.model.specs.Plans.{first, Plan}
+use Rattle.model.specs.Plans.{first, Plan, arrived}
 use Rattle.model.proofs.Reach.{here as reach-here}
 use Rattle.search.specs.Answer.{Verdict, cheapest, noPlan, widthStop, lengthStop, contradicted, verdict, byState, Answer}
 use Rattle.search.specs.Search.{Node, Route, Progress, Round, Ending, decided, refused, root, freshRound, round, exhausted, hasPlan, bestCost, bestSteps, boundAt, answerOf, answer, search}
-use Rattle.search.specs.Guarantee.{Stopped, by-width, by-length, by-budget, widest, OfEveryPlan, Guarantee, Fits}
+use Rattle.search.specs.Guarantee.{Stopped, by-width, by-length, by-budget, widest, OfEveryPlan, in-bound, Guarantee, Fits}
 use Rattle.search.proofs.Induction.{taking, Changes, RoundEnd, round-holds}
 use Rattle.search.proofs.Rounds.{Judged, afterRound-holds, RunChanges, search-holds}
 use Rattle.search.proofs.Invariant.{Completion, Covered, Accounted, covered, pending, held, Pending, Limited, BestIsPlan, Supported, InvariantAt, IsCheapest, Claim, Justified}
-use Rattle.search.proofs.Expansion.{at-limit-holds, budget-spent-holds, expansion-begins-holds, blocked-holds, moved-holds, refused-before-holds, refused-after-holds, expansion-ends-holds}
+use Rattle.search.proofs.Expansion.{at-limit-holds, budget-spent-holds, expansion-begins-holds, blocked-holds, moved-holds, trouble-before-holds, trouble-after-holds, no-bound-holds, expansion-ends-holds}
 use Rattle.search.proofs.Layer.{no-status-holds, no-better-holds, better-holds, at-low-holds, layer-ends-holds, next-layer-holds}
 
 module _ {S C : Type 0} (K : Costs C) (L : CostLaws K) (M : System S C) (self : (s : S) → M .dominates s s ≡ true) (o : Origin S C) (budget limit W : ℕ) where
@@ -29,7 +29,7 @@ module _ {S C : Type 0} (K : Costs C) (L : CostLaws K) (M : System S C) (self : 
   invariant-kept : (width : ℕ) → Changes K M budget width (InvariantAt K M o limit width) (Justified K M o limit W)
   invariant-kept width =
       record {
-        no-status = λ s e. no-status-holds K L M o limit W width s;
+        no-status = λ s e. no-status-holds K L M o limit W width s e;
         no-better = λ s e b. no-better-holds K L M o limit W width s e b;
         better = λ s e b l. better-holds K L M o limit W width s e b;
         at-low = λ s e b l. at-low-holds K L M o limit W width s e b l;
@@ -38,9 +38,9 @@ module _ {S C : Type 0} (K : Costs C) (L : CostLaws K) (M : System S C) (self : 
         expansion-begins = λ s e b. expansion-begins-holds K L M o limit W width s e;
         is-blocked = λ s lt e. blocked-holds K L M o limit W width s e;
         has-moved = λ s lt e b. moved-holds K L M o limit W width self s lt e b;
-        no-bound = λ s lt e b. refused-after-holds K L M o limit W width _ s;
-        trouble-before = λ s lt e. refused-before-holds K L M o limit W width s;
-        trouble-after = λ s lt e. refused-after-holds K L M o limit W width _ s;
+        no-bound = λ s lt e b. no-bound-holds K L M o limit W width s lt e b;
+        trouble-before = λ s lt e. trouble-before-holds K L M o limit W width s lt e;
+        trouble-after = λ s lt e. trouble-after-holds K L M o limit W width s lt e;
         expansion-ends = λ s. expansion-ends-holds K L M o limit W width s;
         layer-ends = λ s. layer-ends-holds K L M o limit W width s;
         next-layer = λ s e. next-layer-holds K L M o limit W width s;
@@ -111,11 +111,11 @@ module _ {S C : Type 0} (K : Costs C) (L : CostLaws K) (M : System S C) (self : 
   last-is-widest width [] w e = w
   last-is-widest width (v ∷ vs) w e = absurd (false≢true e)
 
-  run-kept : RunChanges K M (Supported K M o limit) (Justified K M o limit W) o budget limit W
+  pub run-kept : RunChanges K M (Supported K M o limit) (Justified K M o limit W) o budget limit W
   run-kept =
       record {
         starts = λ h b. record { best = tt; low = λ T p c plan. L .monotone _ _ _ _ (L .reflexive _) (T .bounds first b plan) };
-        no-start = λ t b. record { supported = record { best = tt; low = λ T p c plan. L .least _ }; claim = omega arith };
+        no-start = λ t b. record { supported = record { best = tt; low = λ T p c plan. L .least _ }; claim = record { fits = omega arith; trouble-there = in-bound arrived b } };
         round-keeps =
             λ h width wider p b w s.
             afterRound-holds K M (Supported K M o limit) (Justified K M o limit W) (AtEnd width) (isEmpty wider) (round K M budget limit width (root K M o h) p)
@@ -189,7 +189,7 @@ module _ {S C : Type 0} (K : Costs C) (M : System S C) (o : Origin S C) (limit W
   answer-within : (k width : ℕ) (e : Ending C) (p : Progress C) → Supported K M o limit p → Claim K M o limit W e (p .best) → length (answerOf K M e k width p .steps) ≤ limit
   unfolding answerOf
   answer-within k width (decided v) p s c = best-within (p .best) (s .best)
-  answer-within k width (refused t route) p s c = rw (length-reverse (route .path)) c
+  answer-within k width (refused t route) p s c = rw (length-reverse (route .path)) (c .fits)
 
 module _ {S C : Type 0} (K : Costs C) (L : CostLaws K) (M : System S C) (self : (s : S) → M .dominates s s ≡ true) (o : Origin S C) (budget limit width : ℕ) (wider : List ℕ) where
   -- demand 3

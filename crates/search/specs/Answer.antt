@@ -2,9 +2,9 @@
 -- docs/FORMAT.md, "Answer" and "Verdicts".
 use Prim.Native.Nat.{ℕ}
 use mathlib.Core.Bool.{Bool, true, false, cond}
-use mathlib.Core.List.{List, [], _++_}
-use lib.ListN.{length, take, drop}
-use lib.Dec.{leb}
+use mathlib.Core.List.{List, [], _∷_, _++_}
+use lib.ListN.{length, take, drop, getD}
+use lib.Dec.{leb, ltb, eqb}
 
 pub data Verdict : Type 0 where
   cheapest noPlan widthStop lengthStop budgetSpent contradicted : Verdict
@@ -33,6 +33,13 @@ unfoldable pub isRefusal : Outcome → Bool
 isRefusal (verdict v) = false
 isRefusal (byState t) = true
 isRefusal (byInput t) = true
+
+-- the verdict of a number, and the outcome that a number stands for, given whether it is a refusal's: 1 to 9 are by the input, 11 to 13 by the state
+unfoldable pub verdictNumbered : ℕ → Verdict
+verdictNumbered n = getD (cheapest ∷ noPlan ∷ widthStop ∷ lengthStop ∷ budgetSpent ∷ []) n contradicted
+
+unfoldable pub outcomeNumbered : (refused number : ℕ) → Outcome
+outcomeNumbered r n = cond (eqb r 0) (verdict (verdictNumbered n)) (cond (ltb n 10) (byInput n) (byState n))
 
 -- "One tally record of expansions, rounds and width"
 pub record Tally : Type 0 where

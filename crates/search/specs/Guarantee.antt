@@ -1,12 +1,14 @@
--- What an answer is worth: demand 3 of the mission, of plans as document 01 defines them. docs/FORMAT.md, "Verdicts".
-use Prim.Native.Nat.{ℕ, _≤_}
+-- What an answer is worth: demand 3 of the mission, of plans as document 01 defines them, and the path at a refusal by the state.
+-- docs/FORMAT.md, "Verdicts" and "Refusals by the state".
+use Prim.Native.Nat.{ℕ, _≤_, _<_}
 use mathlib.Core.Path.{_≡_}
 use mathlib.Core.Bool.{true}
-use mathlib.Core.List.{List, [], _∷_}
+use mathlib.Core.List.{List, [], _∷_, _++_}
 use lib.ListN.{length}
 use Rattle.laws.specs.Lists.{All, Different}
-use Rattle.model.specs.System.{Costs, System, Origin, unfinished}
-use Rattle.model.specs.Plans.{Plan, InLayer, TrueDeclarations, Overfull, OpenAt}
+use Rattle.model.specs.Values.{trouble}
+use Rattle.model.specs.System.{Costs, System, Origin, unfinished, noStatus, troubleBefore, troubleAfter}
+use Rattle.model.specs.Plans.{Plan, Leads, InLayer, TrueDeclarations, Overfull, OpenAt}
 use Rattle.search.specs.Answer.{cheapest, noPlan, widthStop, lengthStop, budgetSpent, contradicted, Outcome, verdict, Answer}
 
 -- "Runs with 2, 3 or 4 are stopped"
@@ -24,6 +26,21 @@ module _ {S C : Type 0} (K : Costs C) (M : System S C) (o : Origin S C) where
   -- where the declarations are true, P holds of the cost of every plan, of every length, what was spent before included
   abbrev pub OfEveryPlan : (C → Type 0) → Type 0
   OfEveryPlan P = TrueDeclarations K M (o .start) → (p : List ℕ) (c : C) → Plan K M (o .start) p c → P (K .combine (o .spent) c)
+
+  -- allowed steps from the start to s, at cost g, what was spent before included
+  abbrev pub PathTo : List ℕ → (s : S) (g : C) → Type 0
+  PathTo p s g = Leads K M (o .start) (o .spent) p s g
+
+  -- at a refusal by the state "the plan buffer, length and cost give the path to the state evaluated (for a child's constraints and h,
+  -- the child's path)": trouble t is met where these steps lead, at this cost
+  pub data TroubleAt (t : ℕ) : (steps : List ℕ) (cost : C) → Type 0 where
+    in-base-cases : {p : List ℕ} {s : S} {g : C} → PathTo p s g → M .status s ≡ noStatus t → TroubleAt t p g
+    -- in the conditions, the cost or the effects of transition i
+    in-transition : {p : List ℕ} {s : S} {g : C} {i : ℕ} → PathTo p s g → M .status s ≡ unfinished → i < M .transitions → M .move s i ≡ troubleBefore t → TroubleAt t p g
+    -- in the constraints of the child by transition i
+    in-constraints : {p : List ℕ} {s : S} {g c : C} {i : ℕ} → PathTo p s g → M .status s ≡ unfinished → i < M .transitions → M .move s i ≡ troubleAfter c t → TroubleAt t (p ++ (i ∷ [])) (K .combine g c)
+    -- in h of the start or of a child
+    in-bound : {p : List ℕ} {s : S} {g : C} → PathTo p s g → M .bound s ≡ trouble t → TroubleAt t p g
 
   -- W the widest beam, limit the length limit
   module _ (W limit : ℕ) where

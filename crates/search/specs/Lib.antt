@@ -3,3 +3,4 @@ pub mod Answer
 pub mod Search
 pub mod Guarantee
 pub mod Run
+pub mod Demands

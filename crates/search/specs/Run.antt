@@ -65,7 +65,7 @@ run most bytes q l =
     (cond (not (lentFits q l)) (refusedByInput tooLittleLent)
     (runRead (model bytes) q)))
 
--- the program's line: the fields in document 01's order, then the plan
+-- the answer's fields in document 01's order, as the program's line has them in front of the colon
 unfoldable pub fields : Answer ℕ → List ℕ
 fields a =
     outcomeNumber (a .outcome) ∷ cond (a .flag) 1 0 ∷ a .cost ∷ a .bound ∷ length (a .steps)

@@ -276,17 +276,21 @@ module _ {S C : Type 0} (K : Costs C) (M : System S C) where
   unlessOver k width (ended s) next = answer k width s
   unlessOver k width (again p) next = next p
 
-  -- round k, at this width; those behind it are `wider`. The first argument bounds the rounds: one that is followed by another
-  -- has expanded a state, so one more than the budget is never used up
+  -- round k, at this width; those behind it are `wider`. most: a bound on the rounds
   unfoldable pub rounds : (most budget limit width : ℕ) (wider : List ℕ) (k : ℕ) → Node S C → Progress C → Answer C
+  -- never met with a bound above the budget (`any-bound-of-search`): a round that is followed by another has expanded a state
   rounds zero budget limit width wider k n p = answer k width (record { ending = decided budgetSpent; progress = p })
   rounds (suc most) budget limit width wider k n p = unlessOver k width (afterRound (isEmpty wider) (round budget limit width n p)) (λ p′. rounds most budget limit (nextWidth width wider) (laterWidths wider) (suc k) n p′)
 
   -- rule 1: "low is 0 until h of the target is found, just after round 1 has begun; it is then that h"
-  unfoldable pub begin : (budget limit width : ℕ) (wider : List ℕ) → Origin S C → Value C → Answer C
-  begin budget limit width wider o (value h) = rounds (suc budget) budget limit width wider 1 (root o h) (record { best = none; low = K .combine (o .spent) h; expansions = 0 })
-  begin budget limit width wider o (trouble t) = answer 1 width (record { ending = refused t (record { cost = o .spent; path = [] }); progress = record { best = none; low = K .empty; expansions = 0 } })
+  unfoldable pub begin : (most budget limit width : ℕ) (wider : List ℕ) → Origin S C → Value C → Answer C
+  begin most budget limit width wider o (value h) = rounds most budget limit width wider 1 (root o h) (record { best = none; low = K .combine (o .spent) h; expansions = 0 })
+  begin most budget limit width wider o (trouble t) = answer 1 width (record { ending = refused t (record { cost = o .spent; path = [] }); progress = record { best = none; low = K .empty; expansions = 0 } })
+
+  -- the run within so many rounds
+  unfoldable pub searchWithin : (most budget limit width : ℕ) (wider : List ℕ) → Origin S C → Answer C
+  searchWithin most budget limit width wider o = begin most budget limit width wider o (M .bound (o .start))
 
   -- the run with this budget, length limit, first width and wider widths, from this origin
   unfoldable pub search : (budget limit width : ℕ) (wider : List ℕ) → Origin S C → Answer C
-  search budget limit width wider o = begin budget limit width wider o (M .bound (o .start))
+  search budget limit width wider o = searchWithin (suc budget) budget limit width wider o

@@ -5,13 +5,11 @@ use mathlib.Core.Bool.{Bool, false, _||_, or-assoc}
 use mathlib.Core.List.{List}
 use native.Mathlib.Omega.{arith}
 use native.Mathlib.Numerals.{add-one}
-use lib.ListN.{length, getD}
+use lib.ListN.{length}
 use Rattle.model.specs.Meaning.{State}
-use Rattle.model.specs.Steps.{systemOf}
-use Rattle.outline.specs.Outline.{modelOf, transitionCountAt}
 use Rattle.search.specs.Search as definition
 use Rattle.search.specs.Search.{Node, Round, Result, andThen}
-use Rattle.steps.specs.InBytes.{Outlined, systemIn}
+use Rattle.steps.specs.InBytes.{systemIn}
 use Rattle.steps.specs.Follow.{costsIn}
 use Rattle.beam.specs.Nodes.{nodeAt}
 use Rattle.beam.specs.Layers.{nodesOf, Indexed, roundWith}
@@ -25,16 +23,6 @@ use Rattle.search_expansion.proofs.TrialSteps.{triedBy}
 round-twice : (a b : List (Node State ℕ)) (c d : Bool) (r : Round State ℕ) → roundWith b d (roundWith a c r) ≡ roundWith b (c || d) r
 unfolding roundWith
 round-twice a b c d r = rw (or-assoc (r .widthMark) c d)
-
--- how many transitions there are
-pub transitions-in : {bytes outline : List ℕ} → Outlined bytes outline → getD outline transitionCountAt 0 ≡ systemIn bytes .transitions
-unfolding systemOf
-transitions-in o = o .outlines .transition-count
-
--- there are at most 256
-pub few-in : {bytes outline : List ℕ} → Outlined bytes outline → systemIn bytes .transitions ≤ 256
-unfolding systemOf
-few-in o = o .outlines .few-transitions
 
 module _ (bytes outline : List ℕ) (w n i : ℕ) (has : Bool) (best : ℕ) (node layer : List ℕ) where
   -- the definition from transition t on
@@ -50,9 +38,9 @@ module _ (bytes outline : List ℕ) (w n i : ℕ) (has : Bool) (best : ℕ) (nod
     pub long : length layer′ ≡ length layer
     pub within : t ≤ systemIn bytes .transitions
     pub held : Indexed outline w count layer′
-    pub left : (path : ℕ → List ℕ) (r : Round State ℕ) → r .kept ≡ nodesOf w layer (modelOf bytes .variables) path n → BestIs has best (r .progress .best)
-        → expandBy (nodeAt (modelOf bytes .variables) path i node) r
-        ≡ from t (nodeAt (modelOf bytes .variables) path i node) (roundWith (nodesOf w layer′ (modelOf bytes .variables) path count) cut r)
+    pub left : (path : ℕ → List ℕ) (r : Round State ℕ) → r .kept ≡ nodesOf w layer bytes path n → BestIs has best (r .progress .best)
+        → expandBy (nodeAt bytes path i node) r
+        ≡ from t (nodeAt bytes path i node) (roundWith (nodesOf w layer′ bytes path count) cut r)
 
   pub expanding-first : Indexed outline w n layer → Expanding layer n false 0
   expanding-first h = record {
@@ -61,7 +49,7 @@ module _ (bytes outline : List ℕ) (w n i : ℕ) (has : Bool) (best : ℕ) (nod
     held = h;
     left = λ path r k b.
         let z : systemIn bytes .transitions - 0 ≡ systemIn bytes .transitions = omega arith in
-        rw z (ap (expandBy (nodeAt (modelOf bytes .variables) path i node)) (round-same bytes (modelOf bytes .rule) path r (nodesOf w layer (modelOf bytes .variables) path n) k));
+        rw z (ap (expandBy (nodeAt bytes path i node)) (round-same r (nodesOf w layer bytes path n) k));
   }
 
   module _ {layer′ : List ℕ} {count : ℕ} {cut : Bool} {t : ℕ} (so-far : Expanding layer′ count cut t) where
@@ -77,23 +65,23 @@ module _ (bytes outline : List ℕ) (w n i : ℕ) (has : Bool) (best : ℕ) (nod
 
     module _ {layer″ : List ℕ} {x : Expanded} {marked : Bool} (h : t < systemIn bytes .transitions) (grown : Grows bytes outline w count i has best node layer′ layer″ x (triedBy bytes w t)) (joined : marked ≡ (cut || x .cut)) where
       abbrev nodes′ : (ℕ → List ℕ) → List (Node State ℕ)
-      nodes′ path = nodesOf w layer′ (modelOf bytes .variables) path count
+      nodes′ path = nodesOf w layer′ bytes path count
 
       tried : (path : ℕ → List ℕ) (r : Round State ℕ) → BestIs has best (r .progress .best)
-          → triedBy bytes w t (nodeAt (modelOf bytes .variables) path i node) (roundWith (nodes′ path) cut r)
-          ≡ trialResult (x .trial) (nodeAt (modelOf bytes .variables) path i node) (roundWith (nodesOf w layer″ (modelOf bytes .variables) path (x .count)) (x .cut) (roundWith (nodes′ path) cut r))
+          → triedBy bytes w t (nodeAt bytes path i node) (roundWith (nodes′ path) cut r)
+          ≡ trialResult (x .trial) (nodeAt bytes path i node) (roundWith (nodesOf w layer″ bytes path (x .count)) (x .cut) (roundWith (nodes′ path) cut r))
       unfolding roundWith
       tried path r b = grown .same path (roundWith (nodes′ path) cut r) refl b
 
       -- transition t, then those behind it
-      next : (path : ℕ → List ℕ) (r : Round State ℕ) → r .kept ≡ nodesOf w layer (modelOf bytes .variables) path n → BestIs has best (r .progress .best)
-          → expandBy (nodeAt (modelOf bytes .variables) path i node) r
-          ≡ andThen (trialResult (x .trial) (nodeAt (modelOf bytes .variables) path i node) (roundWith (nodesOf w layer″ (modelOf bytes .variables) path (x .count)) marked r)) (λ q. from (t + 1) (nodeAt (modelOf bytes .variables) path i node) q)
+      next : (path : ℕ → List ℕ) (r : Round State ℕ) → r .kept ≡ nodesOf w layer bytes path n → BestIs has best (r .progress .best)
+          → expandBy (nodeAt bytes path i node) r
+          ≡ andThen (trialResult (x .trial) (nodeAt bytes path i node) (roundWith (nodesOf w layer″ bytes path (x .count)) marked r)) (λ q. from (t + 1) (nodeAt bytes path i node) q)
       unfolding definition.expand
       next path r k b =
           let z : systemIn bytes .transitions - t ≡ suc (systemIn bytes .transitions - (t + 1)) = omega arith in
           (rw z at (so-far .left path r k b))
-          ∙ rw (tried path r b, round-twice (nodes′ path) (nodesOf w layer″ (modelOf bytes .variables) path (x .count)) cut (x .cut) r, joined, add-one t)
+          ∙ rw (tried path r b, round-twice (nodes′ path) (nodesOf w layer″ bytes path (x .count)) cut (x .cut) r, joined, add-one t)
 
       pub expanding-more : length layer″ ≡ length layer′ → x .trial ≡ T.On → Expanding layer″ (x .count) marked (t + 1)
       unfolding trialResult andThen

@@ -1,5 +1,5 @@
 -- A transition tried in a node: the child's words, the offer of it by rule 4, and what each answer of the step comes to.
-use Prim.Native.Nat.{ℕ, _+_, _*_, _%_, _/_, _^_, _≤_, _<_}
+use Prim.Native.Nat.{ℕ, _+_, _*_, _%_, _/_, _^_, _<_}
 use mathlib.Core.Path.{_≡_, sym, ap, _∙_}
 use mathlib.Core.Bool.{Bool, true, false}
 use mathlib.Core.List.{List, _∷_}
@@ -9,13 +9,8 @@ use lib.ListN.{length, take, getD, set, length-set}
 use lib.Seq.{getD-take, getD-set-same, getD-set-other}
 use Rattle.model.specs.Numbers.{rangeEnd}
 use Rattle.model.specs.Values.{Value, value, trouble}
-use Rattle.model.specs.System.{System, moved}
-use Rattle.model.specs.Syntax.{Rule, Variable}
+use Rattle.model.specs.System.{moved}
 use Rattle.model.specs.Meaning.{State}
-use Rattle.model.specs.Steps.{costsOf}
-use Rattle.model.proofs.Ranges.{step-cost-below, trouble-cost-below, bound-below}
-use Rattle.words.specs.States.{stateOf}
-use Rattle.outline.specs.Outline.{modelOf}
 use Rattle.search.specs.Search as definition
 use Rattle.search.specs.Search.{Node, Route, Round, Result, less, belowBest}
 use Rattle.steps.specs.declared.answers.BoundAnswer.the-variants as B
@@ -25,8 +20,8 @@ use Rattle.steps.specs.Answers.{boundAnswer}
 use Rattle.steps.specs.InBytes.{Outlined, stateIn, systemIn}
 use Rattle.steps.specs.Follow.{costsIn}
 use Rattle.steps.specs.Says.{MoveSays}
-use Rattle.steps.proofs.StateWords.{state-alike}
-use Rattle.steps.proofs.Following.{is-blocked, is-moved, is-before, is-after, combined-small}
+use Rattle.steps.proofs.Promises.{cost-order, combined-at-most, step-cost-below, trouble-cost-below, bound-below, same-state}
+use Rattle.steps.proofs.Following.{is-blocked, is-moved, is-before, is-after}
 use Rattle.beam_order.specs.Slots.{slotWords, gAt, fAt}
 use Rattle.beam.specs.Nodes.{nodeOf, nodeAt}
 use Rattle.beam.specs.Layers.{nodesOf, Indexed, roundWith, InsertedInto}
@@ -51,31 +46,31 @@ is-trouble (trouble t) e = cc
 -- ---- the offer
 
 -- the test of f is the definition's
-best-test : (rule : Rule) (M : System State ℕ) (has : Bool) (best f : ℕ) (b : Option (Route ℕ)) → BestIs has best b → belowBest (costsOf rule) M f b ≡ belowCost has best f
-unfolding belowBest less costsOf belowCost
-best-test rule M has best f none e = rw e
-best-test rule M has best f (some b) e = rw (e .0, ← (e .1)) (not-at-most f (b .cost))
+best-test : (bytes : List ℕ) (has : Bool) (best f : ℕ) (b : Option (Route ℕ)) → BestIs has best b → belowBest (costsIn bytes) (systemIn bytes) f b ≡ belowCost has best f
+unfolding belowBest less belowCost
+best-test bytes has best f none e = rw e
+best-test bytes has best f (some b) e = rw (e .0, ← (e .1), cost-order bytes (b .cost) f) (not-at-most f (b .cost))
 
 module _ {bytes outline : List ℕ} {w n : ℕ} {has : Bool} {best : ℕ} {child layer : List ℕ} where
   pub offered-below : {layer′ : List ℕ} (x : Inserted) → belowCost has best (getD child fAt 0) ≡ true → InsertedInto bytes outline w n (x .count) (x .cut) layer layer′ child → Offered bytes outline w n has best child layer layer′ x
   unfolding definition.offer nodeOf
   offered-below x e i = record {
     held = i .held;
-    same = λ path r k b. rw (best-test (modelOf bytes .rule) (systemIn bytes) has best (getD child fAt 0) (r .progress .best) b, e) (i .inserts (modelOf bytes .rule) path r k);
+    same = λ path r k b. rw (best-test bytes has best (getD child fAt 0) (r .progress .best) b, e) (i .inserts path r k);
   }
 
   pub offered-not : belowCost has best (getD child fAt 0) ≡ false → Indexed outline w n layer → Offered bytes outline w n has best child layer layer (record { count = n; cut = false })
   unfolding definition.offer nodeOf
   offered-not e h = record {
     held = h;
-    same = λ path r k b. rw (best-test (modelOf bytes .rule) (systemIn bytes) has best (getD child fAt 0) (r .progress .best) b, e) (round-same bytes (modelOf bytes .rule) path r (nodesOf w layer (modelOf bytes .variables) path n) k);
+    same = λ path r k b. rw (best-test bytes has best (getD child fAt 0) (r .progress .best) b, e) (round-same r (nodesOf w layer bytes path n) k);
   }
 
 -- ---- the child's words
 
 -- the first sixteen words are all of a state
-state-front : (vs : List Variable) (ws : List ℕ) → length vs ≤ 16 → stateOf vs (take 16 ws) ≡ stateOf vs ws
-state-front vs ws few = state-alike vs (take 16 ws) ws (λ v l. getD-take 16 ws v 0 (omega arith))
+state-front : {bytes outline : List ℕ} → Outlined bytes outline → (ws : List ℕ) → stateIn bytes (take 16 ws) ≡ stateIn bytes ws
+state-front o ws = same-state o (take 16 ws) ws (λ v l. getD-take 16 ws v 0 l)
 
 -- g, h, f and back behind a state's words
 abbrev wordsOf : (ws : List ℕ) (g h f back : ℕ) → List ℕ
@@ -112,11 +107,11 @@ module _ (ws : List ℕ) (g h f back : ℕ) where
     back-word = getD-set-same (set (set (set ws 16 g) 17 h) 18 f) 19 back 0 (simp length-set (omega arith))
 
 -- the node that they stand for: reached from slot i by transition t
-child-node : (vs : List Variable) (path : ℕ → List ℕ) (ws : List ℕ) (g h f i t : ℕ) → length ws ≡ slotWords → length vs ≤ 16 → t < 256
-    → nodeOf vs path (wordsOf ws g h f (i * 256 + t)) ≡ record { state = stateOf vs ws; g = g; h = h; f = f; path = t ∷ path i }
+child-node : {bytes outline : List ℕ} → Outlined bytes outline → (path : ℕ → List ℕ) (ws : List ℕ) (g h f i t : ℕ) → length ws ≡ slotWords → t < 256
+    → nodeOf bytes path (wordsOf ws g h f (i * 256 + t)) ≡ record { state = stateIn bytes ws; g = g; h = h; f = f; path = t ∷ path i }
 unfolding nodeOf
-child-node vs path ws g h f i t long few small =
-    let s : stateOf vs (take 16 (wordsOf ws g h f (i * 256 + t))) ≡ stateOf vs ws = state-front vs (wordsOf ws g h f (i * 256 + t)) few ∙ state-alike vs (wordsOf ws g h f (i * 256 + t)) ws (λ v l. state-word ws g h f (i * 256 + t) v (omega arith)) in
+child-node {bytes} o path ws g h f i t long small =
+    let s : stateIn bytes (take 16 (wordsOf ws g h f (i * 256 + t))) ≡ stateIn bytes ws = state-front o (wordsOf ws g h f (i * 256 + t)) ∙ same-state o (wordsOf ws g h f (i * 256 + t)) ws (λ v l. state-word ws g h f (i * 256 + t) v l) in
     let step : (i * 256 + t) % 256 ≡ t = omega arith in
     let parent : (i * 256 + t) / 256 ≡ i = omega arith in
     rw (s, g-word ws g h f (i * 256 + t) long, h-word ws g h f (i * 256 + t) long, f-word ws g h f (i * 256 + t) long, back-word ws g h f (i * 256 + t) long, step, parent)
@@ -126,15 +121,15 @@ child-node vs path ws g h f i t long few small =
 -- g of a child and its h fit together
 pub f-fits : (bytes : List ℕ) (u : State) (a c g h : ℕ) → a < 2 ^ 63 → c < rangeEnd → g ≡ costsIn bytes .combine a c → boundAnswer (systemIn bytes .bound u) ≡ B.Value h → g + h < 2 ^ 64
 f-fits bytes u a c g h small step e b =
-    omega (arith, combined-small bytes a c, bound-below rangeEnd (modelOf bytes) (omega arith) u (is-value (systemIn bytes .bound u) b))
+    omega (arith, combined-at-most bytes a c, bound-below bytes u (is-value (systemIn bytes .bound u) b))
 
 module _ {bytes node child : List ℕ} {t : ℕ} {q : MoveAnswer} (says : MoveSays bytes node t child q) where
   -- the cost of a step is below the range's end
   pub moved-small : {c : ℕ} → q ≡ M.Moved c → c < rangeEnd
-  moved-small e = step-cost-below rangeEnd (modelOf bytes) (stateIn bytes node) t (is-moved _ (sym (says .answer) ∙ e) .1)
+  moved-small e = step-cost-below bytes (stateIn bytes node) t (is-moved _ (sym (says .answer) ∙ e) .1)
 
   pub after-small : {c n : ℕ} → q ≡ M.After c n → c < rangeEnd
-  after-small e = trouble-cost-below rangeEnd (modelOf bytes) (stateIn bytes node) t (is-after _ (sym (says .answer) ∙ e))
+  after-small e = trouble-cost-below bytes (stateIn bytes node) t (is-after _ (sym (says .answer) ∙ e))
 
 -- the definition's rules: at the child's state, and for a step
 module _ (bytes : List ℕ) (w t : ℕ) where
@@ -143,9 +138,6 @@ module _ (bytes : List ℕ) (w t : ℕ) where
 
   abbrev pub triedBy : Node State ℕ → Round State ℕ → Result (Round State ℕ) ℕ
   triedBy m q = definition.tried (costsIn bytes) (systemIn bytes) w m t (systemIn bytes .move (m .state) t) q
-
-abbrev vs : (bytes : List ℕ) → List Variable
-vs bytes = modelOf bytes .variables
 
 module _ {bytes outline : List ℕ} (o : Outlined bytes outline) (w n i : ℕ) (has : Bool) (best : ℕ) (node layer : List ℕ) (t : ℕ) where
   pub bounded-value : (c : ℕ) (child : List ℕ) {g h f : ℕ} {layer′ : List ℕ} (x : Inserted) → length child ≡ slotWords → t < 256 → boundAnswer (systemIn bytes .bound (stateIn bytes child)) ≡ B.Value h
@@ -156,7 +148,7 @@ module _ {bytes outline : List ℕ} (o : Outlined bytes outline) (w n i : ℕ) (
     held = offered .held;
     numbered = tt;
     same = λ path r k best-is.
-        rw (is-value (systemIn bytes .bound (stateIn bytes child)) b, ← eg, ← ef, ← child-node (vs bytes) path child g h f i t long (o .outlines .few-variables) small) (ap (λ (q : Round State ℕ). definition.on q) (offered .same path r k best-is));
+        rw (is-value (systemIn bytes .bound (stateIn bytes child)) b, ← eg, ← ef, ← child-node o path child g h f i t long small) (ap (λ (q : Round State ℕ). definition.on q) (offered .same path r k best-is));
   }
 
   pub bounded-trouble : (c : ℕ) (child : List ℕ) {g e : ℕ} → t < 256 → boundAnswer (systemIn bytes .bound (stateIn bytes child)) ≡ B.Trouble e
@@ -172,15 +164,15 @@ module _ {bytes outline : List ℕ} (o : Outlined bytes outline) (w n i : ℕ) (
   -- ---- a step
 
   module _ {child : List ℕ} {q : MoveAnswer} (says : MoveSays bytes node t child q) where
-    front : stateOf (vs bytes) (take 16 node) ≡ stateIn bytes node
-    front = state-front (vs bytes) node (o .outlines .few-variables)
+    front : stateIn bytes (take 16 node) ≡ stateIn bytes node
+    front = state-front o node
 
     pub tried-blocked : q ≡ M.Blocked → Indexed outline w n layer → Grows bytes outline w n i has best node layer layer (record { count = n; cut = false; trial = T.On }) (triedBy bytes w t)
     unfolding definition.tried trialResult nodeAt
     tried-blocked e held = record {
       held = held;
       numbered = tt;
-      same = λ path r k best-is. rw (front, is-blocked _ (sym (says .answer) ∙ e)) (ap (λ (q : Round State ℕ). definition.on q) (round-same bytes (modelOf bytes .rule) path r (nodesOf w layer (vs bytes) path n) k));
+      same = λ path r k best-is. rw (front, is-blocked _ (sym (says .answer) ∙ e)) (ap (λ (q : Round State ℕ). definition.on q) (round-same r (nodesOf w layer bytes path n) k));
     }
 
     pub tried-before : {e : ℕ} → q ≡ M.Before e → Indexed outline w n layer → Grows bytes outline w n i has best node layer layer (record { count = n; cut = false; trial = T.Before e }) (triedBy bytes w t)
@@ -200,7 +192,7 @@ module _ {bytes outline : List ℕ} (o : Outlined bytes outline) (w n i : ℕ) (
       same = λ path r k best-is. rw (front, is-after _ (sym (says .answer) ∙ e), ← eg);
     }
 
-    arrived : {c : ℕ} → q ≡ M.Moved c → (path : ℕ → List ℕ) → systemIn bytes .move (nodeAt (vs bytes) path i node .state) t ≡ moved c (stateIn bytes child)
+    arrived : {c : ℕ} → q ≡ M.Moved c → (path : ℕ → List ℕ) → systemIn bytes .move (nodeAt bytes path i node .state) t ≡ moved c (stateIn bytes child)
     unfolding nodeAt
     arrived {c} e path =
         let m = is-moved _ (sym (says .answer) ∙ e) in

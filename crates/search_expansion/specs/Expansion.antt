@@ -7,7 +7,6 @@ use mathlib.Core.Option.{Option, none, some}
 use lib.Dec.{ltb}
 use Rattle.model.specs.Meaning.{State}
 use Rattle.search.specs.Search.{Node, Route, Round, refused, Result, on, over, offer, bounded, tried, expand}
-use Rattle.outline.specs.Outline.{modelOf}
 use Rattle.steps.specs.InBytes.{stateIn, systemIn}
 use Rattle.steps.specs.Follow.{costsIn}
 use Rattle.beam.specs.Nodes.{nodeOf, nodeAt}
@@ -52,14 +51,14 @@ expandIn bytes w = expand (costsIn bytes) (systemIn bytes) w (systemIn bytes .tr
 -- rule 4's end: a round whose kept nodes are those of the layer before goes on with those of the layer after
 pub record Offered (bytes outline : List ℕ) (w n : ℕ) (has : Bool) (best : ℕ) (child layer layer′ : List ℕ) (x : Inserted) : Type 0 where
   pub held : Indexed outline w (x .count) layer′
-  pub same : (path : ℕ → List ℕ) (r : Round State ℕ) → r .kept ≡ nodesOf w layer (modelOf bytes .variables) path n → BestIs has best (r .progress .best)
-      → offer (costsIn bytes) (systemIn bytes) w (nodeOf (modelOf bytes .variables) path child) r ≡ roundWith (nodesOf w layer′ (modelOf bytes .variables) path (x .count)) (x .cut) r
+  pub same : (path : ℕ → List ℕ) (r : Round State ℕ) → r .kept ≡ nodesOf w layer bytes path n → BestIs has best (r .progress .best)
+      → offer (costsIn bytes) (systemIn bytes) w (nodeOf bytes path child) r ≡ roundWith (nodesOf w layer′ bytes path (x .count)) (x .cut) r
 
 -- rule: what the definition does with the node in slot i, its words being `node`, and a round whose kept nodes are the n of the layer
 -- before; it goes on with those of the layer after. path: the path to each slot of the node's layer
 pub record Grows (bytes outline : List ℕ) (w n i : ℕ) (has : Bool) (best : ℕ) (node layer layer′ : List ℕ) (x : Expanded) (rule : Node State ℕ → Round State ℕ → Result (Round State ℕ) ℕ) : Type 0 where
   pub held : Indexed outline w (x .count) layer′
   pub numbered : Numbered (x .trial)
-  pub same : (path : ℕ → List ℕ) (r : Round State ℕ) → r .kept ≡ nodesOf w layer (modelOf bytes .variables) path n → BestIs has best (r .progress .best)
-      → rule (nodeAt (modelOf bytes .variables) path i node) r
-      ≡ trialResult (x .trial) (nodeAt (modelOf bytes .variables) path i node) (roundWith (nodesOf w layer′ (modelOf bytes .variables) path (x .count)) (x .cut) r)
+  pub same : (path : ℕ → List ℕ) (r : Round State ℕ) → r .kept ≡ nodesOf w layer bytes path n → BestIs has best (r .progress .best)
+      → rule (nodeAt bytes path i node) r
+      ≡ trialResult (x .trial) (nodeAt bytes path i node) (roundWith (nodesOf w layer′ bytes path (x .count)) (x .cut) r)

@@ -17,13 +17,12 @@ use beam_order::BACK_AT;
 use beam_order::F_AT;
 use beam_order::G_AT;
 use beam_order::H_AT;
-use outline::layout::TRANSITION_COUNT;
-use outline::word_at;
 use steps::answers::BoundAnswer;
 use steps::answers::MoveAnswer;
 use steps::bounds::bound;
 use steps::check::combine;
 use steps::moves::step;
+use steps::moves::transitions;
 
 // Whether f is below the best cost.
 pub fn below_best(found: bool, best: u64, f: u64) -> bool
@@ -168,11 +167,11 @@ pub fn expand(
     requires { ⌜ Indexed (now outline) w n (now layer) × (Outlined (now model) (now outline) × ((length (now node) ≡ slotWords) × ((getD (now node) gAt 0 < 2 ^ 63) × (i < 2 ^ 32)))) ⌝ }
     ensures { λ r. ⌜ Grows (now (model .entry)) (now (outline .entry)) w n i found best (now (node .entry)) (now (layer .entry)) (now (layer .exit)) r (expandIn (now (model .entry)) w) ⌝ }
 {
-    let transitions = word_at(outline, TRANSITION_COUNT) as usize;
+    let all = transitions(model, outline);
     let mut count = n;
     let mut cut = false;
     let mut t: usize = 0;
-    while t < transitions {
+    while t < all {
         let x = try_transition(layer, model, outline, w, count, found, best, node, i, t);
         count = x.count;
         cut = either(cut, x.cut);

@@ -8,16 +8,11 @@ use native.Mathlib.Nat.{mod-lt, mod-eq-of-lt}
 use native.Mathlib.Numerals.{add-one}
 use lib.ListN.{length, take, drop, getD, set, length-take, length-append, length-drop, length-set}
 use lib.Seq.{ext-getD, take-at, take-all, take-nil, drop-nil, take-take, getD-take, getD-drop, drop-length, getD-set-same, getD-set-other}
-use Rattle.model.specs.Syntax.{Variable}
 use Rattle.model.specs.Meaning.{State}
 use Rattle.model.specs.Numbers.{mostVariables}
-use Rattle.model.specs.Steps.{target, costsOf, originOf}
-use Rattle.model.proofs.Costs.{cost-laws}
-use Rattle.words.specs.States.{stateOf}
-use Rattle.outline.specs.Outline.{modelOf}
-use Rattle.steps.specs.InBytes.{Outlined, stateIn, systemIn}
+use Rattle.steps.specs.InBytes.{Outlined, stateIn, systemIn, targetIn, originIn}
 use Rattle.steps.specs.Follow.{costsIn}
-use Rattle.steps.proofs.StateWords.{state-alike}
+use Rattle.steps.proofs.Promises.{cost-laws, cost-empty, origin-start, origin-spent, same-state}
 use Rattle.search.specs.Search.{Node, root}
 use Rattle.beam_order.specs.Slots.{slotWords, gAt, hAt, fAt, backAt, wordsIn}
 use Rattle.beam_order.proofs.Arrays.{word-in}
@@ -83,11 +78,11 @@ pub paths-same : (words words′ : List ℕ) (w k : ℕ) → 0 < w → Same word
 paths-same words words′ w k pos same = fun-ext (path-same words words′ w k pos same)
 
 -- a current layer's: its slots, and its paths
-nodes-same : (vs : List Variable) (path path′ : ℕ → List ℕ) (words words′ : List ℕ) → path′ ≡ path → (n i : ℕ) → ((j : ℕ) → j < i + n → wordsIn words′ j ≡ wordsIn words j) → nodesFrom vs path′ words′ n i ≡ nodesFrom vs path words n i
+nodes-same : (bytes : List ℕ) (path path′ : ℕ → List ℕ) (words words′ : List ℕ) → path′ ≡ path → (n i : ℕ) → ((j : ℕ) → j < i + n → wordsIn words′ j ≡ wordsIn words j) → nodesFrom bytes path′ words′ n i ≡ nodesFrom bytes path words n i
 unfolding nodesFrom
-nodes-same vs path path′ words words′ e zero i same = refl
-nodes-same vs path path′ words words′ e (suc n) i same =
-    let rest : nodesFrom vs path′ words′ n (suc i) ≡ nodesFrom vs path words n (suc i) = nodes-same vs path path′ words words′ e n (suc i) (λ j h. same j (omega arith)) in
+nodes-same bytes path path′ words words′ e zero i same = refl
+nodes-same bytes path path′ words words′ e (suc n) i same =
+    let rest : nodesFrom bytes path′ words′ n (suc i) ≡ nodesFrom bytes path words n (suc i) = nodes-same bytes path path′ words words′ e n (suc i) (λ j h. same j (omega arith)) in
     rw (same i (omega arith), rest, e)
 
 -- ---- only the layer in the making is written
@@ -112,7 +107,7 @@ module _ (words words′ : List ℕ) (w : ℕ) (pos : 0 < w) (first : take (20 *
 
   pub current-kept : (bytes : List ℕ) (k n : ℕ) → n ≤ w → currentOf bytes words′ w k n ≡ currentOf bytes words w k n
   current-kept bytes k n few =
-      nodes-same (modelOf bytes .variables) (pathBy words w k) (pathBy words′ w k) words words′ (paths-kept k) n 0 (λ j h. slot-first words words′ (20 * w) j first (omega arith))
+      nodes-same bytes (pathBy words w k) (pathBy words′ w k) words words′ (paths-kept k) n 0 (λ j h. slot-first words words′ (20 * w) j first (omega arith))
 
 -- which holds where the layer in the making was lent
 module _ (words ys : List ℕ) (w : ℕ) (room : 46 * w ≤ length words) (same : length ys ≡ length (nextOf w words)) where
@@ -240,9 +235,9 @@ module _ (words₀ : List ℕ) {w n : ℕ} (la : Layer w n (nextOf w words₀)) 
       let few : n ≤ w = few-in la in
       rw (g .rest (40 * w + i) (omega arith) (omega arith)) (place-inside i h)
 
-node-same : (vs : List Variable) (path parent : ℕ → List ℕ) (j : ℕ) (ws us : List ℕ) → ws ≡ us → path j ≡ (getD us backAt 0 % 256) ∷ parent (getD us backAt 0 / 256) → nodeAt vs path j ws ≡ nodeOf vs parent us
+node-same : (bytes : List ℕ) (path parent : ℕ → List ℕ) (j : ℕ) (ws us : List ℕ) → ws ≡ us → path j ≡ (getD us backAt 0 % 256) ∷ parent (getD us backAt 0 / 256) → nodeAt bytes path j ws ≡ nodeOf bytes parent us
 unfolding nodeAt nodeOf
-node-same vs path parent j ws us e p = rw (e, p)
+node-same bytes path parent j ws us e p = rw (e, p)
 
 module _ (words₀ words ys : List ℕ) (w k n : ℕ) (pos : 0 < w) (la : Layer w n (nextOf w words₀)) (long : 64 * w + (k + 2) * w ≤ length words₀)
     (g : Gathered words₀ words w (k + 1) n) (same : length ys ≡ length (part (20 * w) (46 * w) words)) where
@@ -284,29 +279,29 @@ module _ (words₀ words ys : List ℕ) (w k n : ℕ) (pos : 0 < w) (la : Layer 
   unfolding pathBy
   path-taken j h = rw (back-taken j h, parents)
 
-  node-taken : (vs : List Variable) (j : ℕ) → j < n → nodeAt vs (pathBy after w (suc k)) j (wordsIn after j) ≡ nodeIn vs (pathBy words₀ w k) (nextOf w words₀) (getD (nextOf w words₀) (20 * w + j) 0)
-  node-taken vs j h =
-      node-same vs (pathBy after w (suc k)) (pathBy words₀ w k) j (wordsIn after j) (wordsIn words₀ (w + slot-of j)) (slot-taken j h) (path-taken j h)
-      ∙ ap (nodeOf vs (pathBy words₀ w k)) (sym (next-slot w words₀ (slot-of j) (place-inside words₀ la j h) (omega arith)))
-      ∙ ap (nodeIn vs (pathBy words₀ w k) (nextOf w words₀)) (sym (next-place w words₀ j (omega (arith, few-in la))))
+  node-taken : (bytes : List ℕ) (j : ℕ) → j < n → nodeAt bytes (pathBy after w (suc k)) j (wordsIn after j) ≡ nodeIn bytes (pathBy words₀ w k) (nextOf w words₀) (getD (nextOf w words₀) (20 * w + j) 0)
+  node-taken bytes j h =
+      node-same bytes (pathBy after w (suc k)) (pathBy words₀ w k) j (wordsIn after j) (wordsIn words₀ (w + slot-of j)) (slot-taken j h) (path-taken j h)
+      ∙ ap (nodeOf bytes (pathBy words₀ w k)) (sym (next-slot w words₀ (slot-of j) (place-inside words₀ la j h) (omega arith)))
+      ∙ ap (nodeIn bytes (pathBy words₀ w k) (nextOf w words₀)) (sym (next-place w words₀ j (omega (arith, few-in la))))
 
-  nodes-taken : (vs : List Variable) (m i : ℕ) → i + m ≡ n → nodesFrom vs (pathBy after w (suc k)) after m i ≡ drop i (nodesOf w (nextOf w words₀) vs (pathBy words₀ w k) n)
+  nodes-taken : (bytes : List ℕ) (m i : ℕ) → i + m ≡ n → nodesFrom bytes (pathBy after w (suc k)) after m i ≡ drop i (nodesOf w (nextOf w words₀) bytes (pathBy words₀ w k) n)
   unfolding nodesFrom
-  nodes-taken vs zero i e =
-      let kept = nodesOf w (nextOf w words₀) vs (pathBy words₀ w k) n in
-      let z : length kept ≡ i = nodes-length vs (pathBy words₀ w k) la ∙ omega arith in
+  nodes-taken bytes zero i e =
+      let kept = nodesOf w (nextOf w words₀) bytes (pathBy words₀ w k) n in
+      let z : length kept ≡ i = nodes-length bytes (pathBy words₀ w k) la ∙ omega arith in
       sym (ap (λ (y : ℕ). drop y kept) (sym z) ∙ drop-length kept)
-  nodes-taken vs (suc m) i e =
-      let kept = nodesOf w (nextOf w words₀) vs (pathBy words₀ w k) n in
-      let rest : nodesFrom vs (pathBy after w (suc k)) after m (suc i) ≡ drop (i + 1) kept = nodes-taken vs m (suc i) (omega arith) ∙ ap (λ (y : ℕ). drop y kept) (sym (add-one i)) in
-      rw (node-taken vs i (omega arith), rest) (sym (nodes-from vs (pathBy words₀ w k) la i (omega arith)))
+  nodes-taken bytes (suc m) i e =
+      let kept = nodesOf w (nextOf w words₀) bytes (pathBy words₀ w k) n in
+      let rest : nodesFrom bytes (pathBy after w (suc k)) after m (suc i) ≡ drop (i + 1) kept = nodes-taken bytes m (suc i) (omega arith) ∙ ap (λ (y : ℕ). drop y kept) (sym (add-one i)) in
+      rw (node-taken bytes i (omega arith), rest) (sym (nodes-from bytes (pathBy words₀ w k) la i (omega arith)))
 
   -- the layer in the making is emptied, and its nodes are current
   pub all-taken : Emptied w ys → Taken words₀ after w k n
   all-taken e =
       record {
         held = λ outline. subst (Indexed outline w 0) (sym (put-in (20 * w) (46 * w) words ys low room same)) (e .held outline);
-        nodes = λ bytes. nodes-taken (modelOf bytes .variables) n 0 (omega arith);
+        nodes = λ bytes. nodes-taken bytes n 0 (omega arith);
       }
 
 -- ---- the start
@@ -322,22 +317,21 @@ target-word state h v l =
     ∙ getD-set-other (set state gAt 0) hAt v h 0 (λ q. omega arith)
     ∙ getD-set-other state gAt v 0 0 (λ q. omega arith)
 
-target-node : {bytes outline : List ℕ} (path : ℕ → List ℕ) (state : List ℕ) (h : ℕ) → Outlined bytes outline → length state ≡ slotWords → stateIn bytes state ≡ target (modelOf bytes) → path 0 ≡ []
-    → nodeAt (modelOf bytes .variables) path 0 (targetWords state h) ≡ root (costsIn bytes) (systemIn bytes) (originOf (modelOf bytes)) h
-unfolding nodeAt root originOf costsOf
+target-node : {bytes outline : List ℕ} (path : ℕ → List ℕ) (state : List ℕ) (h : ℕ) → Outlined bytes outline → length state ≡ slotWords → stateIn bytes state ≡ targetIn bytes → path 0 ≡ []
+    → nodeAt bytes path 0 (targetWords state h) ≡ root (costsIn bytes) (systemIn bytes) (originIn bytes) h
+unfolding nodeAt root
 target-node {bytes} path state h o l e none =
-    let vs = modelOf bytes .variables in
-    let s : stateOf vs (take mostVariables (targetWords state h)) ≡ target (modelOf bytes) = state-alike vs (take mostVariables (targetWords state h)) state (λ v i. target-word state h v (omega (arith, o .outlines .few-variables))) ∙ e in
+    let s : stateIn bytes (take mostVariables (targetWords state h)) ≡ targetIn bytes = same-state o (take mostVariables (targetWords state h)) state (target-word state h) ∙ e in
     let lg : length (set state gAt 0) ≡ slotWords = length-set state gAt 0 ∙ l in
     let lh : length (set (set state gAt 0) hAt h) ≡ slotWords = length-set (set state gAt 0) hAt h ∙ lg in
     let g : getD (targetWords state h) gAt 0 ≡ 0 = getD-set-other (set (set state gAt 0) hAt h) fAt gAt h 0 (λ q. omega arith) ∙ getD-set-other (set state gAt 0) hAt gAt h 0 (λ q. omega arith) ∙ getD-set-same state gAt 0 0 (omega arith) in
     let b : getD (targetWords state h) hAt 0 ≡ h = getD-set-other (set (set state gAt 0) hAt h) fAt hAt h 0 (λ q. omega arith) ∙ getD-set-same (set state gAt 0) hAt h 0 (omega arith) in
     let f : getD (targetWords state h) fAt 0 ≡ h = getD-set-same (set (set state gAt 0) hAt h) fAt h 0 (omega arith) in
-    rw (s, g, b, f, none, cost-laws (modelOf bytes .rule) .left-unit h)
+    rw (s, g, b, f, none, origin-start bytes, origin-spent bytes, ← (cost-empty bytes), cost-laws bytes .left-unit h)
 
 -- rule 1: the target's words in slot 0, and the layer in the making emptied
 pub round-started : {bytes outline : List ℕ} (words state first ys : List ℕ) (w h : ℕ) → Outlined bytes outline → 0 < w → 64 * w ≤ length words
-    → length state ≡ slotWords → stateIn bytes state ≡ target (modelOf bytes) → first ≡ targetWords state h → length ys ≡ length (part (20 * w) (46 * w) (first ++ drop slotWords words)) → Emptied w ys
+    → length state ≡ slotWords → stateIn bytes state ≡ targetIn bytes → first ≡ targetWords state h → length ys ≡ length (part (20 * w) (46 * w) (first ++ drop slotWords words)) → Emptied w ys
     → Started bytes outline (put (20 * w) (46 * w) (first ++ drop slotWords words) ys) w h
 unfolding nodesFrom pathBy wordsIn
 round-started {bytes} {outline} words state first ys w h o pos long l e eq same em =
@@ -349,5 +343,5 @@ round-started {bytes} {outline} words state first ys w h o pos long l e eq same 
     put-first (20 * w) (46 * w) (first ++ drop slotWords words) ys low room same slotWords (omega arith) ∙ take-at first (drop slotWords words) slotWords lf ∙ eq in
     record {
       held = subst (Indexed outline w 0) (sym (put-in (20 * w) (46 * w) (first ++ drop slotWords words) ys low room same)) (em .held outline);
-      target-alone = ap (λ (n : Node State ℕ). n ∷ []) (ap (nodeAt (modelOf bytes .variables) (pathBy (put (20 * w) (46 * w) (first ++ drop slotWords words) ys) w 0) 0) slot ∙ target-node (pathBy (put (20 * w) (46 * w) (first ++ drop slotWords words) ys) w 0) state h o l e refl);
+      target-alone = ap (λ (n : Node State ℕ). n ∷ []) (ap (nodeAt bytes (pathBy (put (20 * w) (46 * w) (first ++ drop slotWords words) ys) w 0) 0) slot ∙ target-node (pathBy (put (20 * w) (46 * w) (first ++ drop slotWords words) ys) w 0) state h o l e refl);
     }

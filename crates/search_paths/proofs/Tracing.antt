@@ -4,7 +4,7 @@ use mathlib.Core.Path.{_≡_, refl, sym, ap, _∙_}
 use mathlib.Core.List.{List, [], _∷_, _++_, append-assoc, reverse, reverse-cons}
 use native.Mathlib.Omega.{arith}
 use native.Mathlib.Nat.{mod-lt, mul-le-mul}
-use lib.ListN.{length, take, drop, getD, set}
+use lib.ListN.{length, take, drop, set}
 use lib.Seq.{set-split, drop-at, length-take-le}
 use Rattle.search_paths.specs.Routes.{backIn, pathBy}
 
@@ -26,19 +26,19 @@ moved-over : (x : ℕ) (path rest : List ℕ) → reverse (x ∷ path) ++ rest �
 moved-over x path rest = ap (λ (l : List ℕ). l ++ rest) (reverse-cons x path) ∙ append-assoc (reverse path) (x ∷ []) rest
 
 step-written : (words : List ℕ) (w left slot : ℕ) (plan : List ℕ) → 0 < left → left ≤ length plan
-    → (let back = getD words (64 * w + (left * w + slot % w)) 0 in
+    → (let back = backIn words w left slot in
     reverse (pathBy words w left slot) ++ drop left plan ≡ reverse (pathBy words w (left - 1) (back / 256)) ++ drop (left - 1) (set plan (left - 1) (back % 256)))
-unfolding pathBy backIn
+unfolding pathBy
 step-written words w zero slot plan h l = absurd (omega arith)
 step-written words w (suc n) slot plan h l =
-    let back = getD words (64 * w + (suc n * w + slot % w)) 0 in
+    let back = backIn words w (suc n) slot in
     let z : suc n - 1 ≡ n = omega arith in
     rw z
     (moved-over (back % 256) (pathBy words w n (back / 256)) (drop (suc n) plan)
     ∙ ap (λ (r : List ℕ). reverse (pathBy words w n (back / 256)) ++ r) (sym (stored plan n (back % 256) (omega arith))))
 
 -- so that the whole stays the same
-pub step-on : {path : List ℕ} (words : List ℕ) (w left slot back : ℕ) (plan : List ℕ) → 0 < left → left ≤ length plan → back ≡ getD words (64 * w + (left * w + slot % w)) 0
+pub step-on : {path : List ℕ} (words : List ℕ) (w left slot back : ℕ) (plan : List ℕ) → 0 < left → left ≤ length plan → back ≡ backIn words w left slot
     → path ≡ reverse (pathBy words w left slot) ++ drop left plan → path ≡ reverse (pathBy words w (left - 1) (back / 256)) ++ drop (left - 1) (set plan (left - 1) (back % 256))
 step-on words w left slot back plan h l e whole = rw e (whole ∙ step-written words w left slot plan h l)
 

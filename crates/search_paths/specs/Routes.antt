@@ -4,13 +4,10 @@ use Prim.Native.Nat.{ℕ, zero, suc, _+_, _*_, _/_, _%_, _≤_, _<_}
 use mathlib.Core.Path.{_≡_}
 use mathlib.Core.List.{List, [], _∷_}
 use lib.ListN.{getD}
-use Rattle.model.specs.Syntax.{Variable}
 use Rattle.model.specs.Meaning.{State}
-use Rattle.model.specs.Steps.{originOf}
 use Rattle.search.specs.Search.{Node, root}
 use Rattle.beam_order.specs.Slots.{slotWords, backAt, wordsIn}
-use Rattle.outline.specs.Outline.{modelOf}
-use Rattle.steps.specs.InBytes.{systemIn}
+use Rattle.steps.specs.InBytes.{systemIn, originIn}
 use Rattle.steps.specs.Follow.{costsIn}
 use Rattle.beam.specs.Nodes.{nodeAt}
 use Rattle.beam.specs.Layers.{part, nodesOf, Indexed}
@@ -29,23 +26,23 @@ abbrev pub nextOf : (w : ℕ) (words : List ℕ) → List ℕ
 nextOf w words = part (20 * w) (46 * w) words
 
 -- n nodes from slot i on
-unfoldable pub nodesFrom : (vs : List Variable) (path : ℕ → List ℕ) (words : List ℕ) (n i : ℕ) → List (Node State ℕ)
-nodesFrom vs path words zero i = []
-nodesFrom vs path words (suc n) i = nodeAt vs path i (wordsIn words i) ∷ nodesFrom vs path words n (suc i)
+unfoldable pub nodesFrom : (bytes : List ℕ) (path : ℕ → List ℕ) (words : List ℕ) (n i : ℕ) → List (Node State ℕ)
+nodesFrom bytes path words zero i = []
+nodesFrom bytes path words (suc n) i = nodeAt bytes path i (wordsIn words i) ∷ nodesFrom bytes path words n (suc i)
 
 -- the n nodes of the current layer, which is layer k
 abbrev pub currentOf : (bytes words : List ℕ) (w k n : ℕ) → List (Node State ℕ)
-currentOf bytes words w k n = nodesFrom (modelOf bytes .variables) (pathBy words w k) words n 0
+currentOf bytes words w k n = nodesFrom bytes (pathBy words w k) words n 0
 
 -- rule 1: the target alone, h being its bound
 pub record Started (bytes outline words′ : List ℕ) (w h : ℕ) : Type 0 where
   pub held : Indexed outline w 0 (nextOf w words′)
-  pub target-alone : currentOf bytes words′ w 0 1 ≡ root (costsIn bytes) (systemIn bytes) (originOf (modelOf bytes)) h ∷ []
+  pub target-alone : currentOf bytes words′ w 0 1 ≡ root (costsIn bytes) (systemIn bytes) (originIn bytes) h ∷ []
 
 -- the n nodes of the layer in the making, the children of layer k, are current
 pub record Taken (words words′ : List ℕ) (w k n : ℕ) : Type 0 where
   pub held : (outline : List ℕ) → Indexed outline w 0 (nextOf w words′)
-  pub nodes : (bytes : List ℕ) → currentOf bytes words′ w (suc k) n ≡ nodesOf w (nextOf w words) (modelOf bytes .variables) (pathBy words w k) n
+  pub nodes : (bytes : List ℕ) → currentOf bytes words′ w (suc k) n ≡ nodesOf w (nextOf w words) bytes (pathBy words w k) n
 
 -- the node at place i of the layer in the making is in slot i of the current layer, which becomes layer k, and its back pointer in that layer's row
 pub record NodeTaken (words words′ : List ℕ) (w k i : ℕ) : Type 0 where

@@ -4,9 +4,17 @@ ghost use mathlib.Core.Path.{_≡_};
 ghost use mathlib.Core.List.{_++_, reverse};
 ghost use Prim.Native.Nat.{_≤_, _<_};
 ghost use lib.ListN.{length, drop};
-ghost use Rattle.search_paths.specs.Routes.{pathBy};
+ghost use Rattle.search_paths.specs.Routes.{backIn, pathBy};
 use crate::BACKS_AT;
-use outline::word_at;
+
+// The back pointer of slot i of layer k, or 0 where there is none.
+fn back_at(words: &[u64], w: usize, k: usize, i: usize) -> u64
+    requires { ⌜ (0 < w) × ((w ≤ 4096) × (k ≤ 256)) ⌝ }
+    ensures { λ r. ⌜ r ≡ backIn (now (words .entry)) w k i ⌝ }
+{
+    let at = BACKS_AT * w + (k * w + i % w);
+    if at < words.len() { words[at] } else { 0 }
+}
 
 // Writes the path to slot i of layer k, the first step first.
 pub fn trace(words: &[u64], w: usize, k: usize, i: usize, plan: &mut [u8])
@@ -16,7 +24,7 @@ pub fn trace(words: &[u64], w: usize, k: usize, i: usize, plan: &mut [u8])
     let mut slot = i;
     let mut left = k;
     while 0 < left {
-        let back = word_at(words, BACKS_AT * w + (left * w + slot % w));
+        let back = back_at(words, w, left, slot);
         left -= 1;
         plan[left] = (back % 256) as u8;
         slot = (back / 256) as usize;

@@ -1,2 +1,3 @@
 -- Laws of the report of a run, and of its numbers.
 pub mod Reporting
+pub mod Numbers

@@ -14,7 +14,7 @@ use Rattle.steps.specs.Follow.{costsIn}
 use Rattle.search_paths.specs.Routes.{pathBy}
 use Rattle.search_paths.proofs.Tracing.{path-length}
 use Rattle.search_visits.specs.Work.{verdictOf, bestOf, progressOf, endingOf, EndsInside}
-use Rattle.search_report.specs.Answers.{outcomeOf, AnswerIs, InNumbers, Reports}
+use Rattle.search_report.specs.Answers.{outcomeOf, AnswerIs, Reports}
 use Rattle.search_report.specs.Reported.{BoundIs, decidedAnswer, Decides, Refuses}
 use Rattle.search_visits.specs.declared.work.Verdict.{Verdict}
 use Rattle.search_visits.specs.declared.work.Verdict.the-variants as W
@@ -53,26 +53,6 @@ module _ (v : Verdict) (p : Progress) where
   pub bound-without : v ≡ W.Cheapest → p .best .found ≡ false → BoundIs v p 0
   unfolding verdictOf boundAt progressOf bestOf bestCost Rattle.model.specs.Steps.costsOf
   bound-without e f = record { same = λ bytes best. rw (e, f) }
-
-  pub bound-none : v ≡ W.NoPlan → BoundIs v p 0
-  unfolding verdictOf boundAt Rattle.model.specs.Steps.costsOf
-  bound-none e = record { same = λ bytes best. rw e }
-
-  pub bound-width : v ≡ W.WidthStop → BoundIs v p (p .low)
-  unfolding verdictOf boundAt progressOf
-  bound-width e = record { same = λ bytes best. rw e }
-
-  pub bound-length : v ≡ W.LengthStop → BoundIs v p (p .low)
-  unfolding verdictOf boundAt progressOf
-  bound-length e = record { same = λ bytes best. rw e }
-
-  pub bound-budget : v ≡ W.BudgetSpent → BoundIs v p (p .low)
-  unfolding verdictOf boundAt progressOf
-  bound-budget e = record { same = λ bytes best. rw e }
-
-  pub bound-contradicted : v ≡ W.Contradicted → BoundIs v p (p .low)
-  unfolding verdictOf boundAt progressOf
-  bound-contradicted e = record { same = λ bytes best. rw e }
 
 -- ---- the answer
 
@@ -165,23 +145,3 @@ module _ (words best plan : List ℕ) (stop : Stop) (x : Answer) where
         answer = λ bytes. rw eq (d .answer bytes best (t ∷ pathBy words (stop .progress .tally .width) (stop .layer) i) more);
         plan-after = λ bytes. rw eq (ap (λ (l : List ℕ). set l (stop .layer) t) p ∙ step-written plan (pathBy words (stop .progress .tally .width) (stop .layer) i) t (stop .layer) long room);
       }
-
--- ---- the answer in numbers
-
-pub in-numbers : (a : Answer) (refused-number verdict-number flag-number : ℕ) → refused-number ≡ cond (isRefusal (outcomeOf (a .outcome))) 1 0 → verdict-number ≡ outcomeNumber (outcomeOf (a .outcome)) → flag-number ≡ cond (a .flag) 1 0
-    → InNumbers a (record { refused = refused-number; verdict = verdict-number; flag = flag-number; cost = a .cost; bound = a .bound; length = a .length; expansions = a .tally .expansions; rounds = a .tally .rounds; width = a .tally .width })
-in-numbers a r v f er ev ef =
-    record {
-      same = λ d is.
-          record {
-            refused = er ∙ ap (λ (o : A.Outcome). cond (isRefusal o) 1 0) (is .outcome);
-            verdict-number = ev ∙ ap outcomeNumber (is .outcome);
-            flag = ef ∙ ap (λ (b : Bool). cond b 1 0) (is .flag);
-            cost = is .cost;
-            bound = is .bound;
-            length-of = is .length-of;
-            expansions = is .expansions;
-            rounds = is .rounds;
-            width = is .width;
-          };
-    }

@@ -4,9 +4,10 @@ use mathlib.Core.Path.{_≡_}
 use mathlib.Core.Bool.{cond}
 use mathlib.Core.List.{List}
 use lib.ListN.{length}
+use lib.Dec.{eqb}
 use Rattle.model.specs.Numbers.{mostSteps}
 use Rattle.search.specs.Answer as A
-use Rattle.search.specs.Answer.{verdict, byState, byInput, outcomeNumber, isRefusal, bufferAfter}
+use Rattle.search.specs.Answer.{verdict, byState, byInput, outcomeNumber, isRefusal, outcomeNumbered, bufferAfter, handedBack}
 use Rattle.search.specs.Search.{answerOf}
 use Rattle.steps.specs.InBytes.{systemIn}
 use Rattle.steps.specs.Follow.{costsIn}
@@ -46,9 +47,32 @@ pub record FieldsAre (a : A.Answer ℕ) (x : Fields) : Type 0 where
   pub rounds : x .rounds ≡ a .tally .rounds
   pub width : x .width ≡ a .tally .width
 
--- whatever the definition's answer is, the numbers are those of its fields
-pub record InNumbers (a : Answer) (x : Fields) : Type 0 where
-  pub same : (d : A.Answer ℕ) → AnswerIs d a → FieldsAre d x
+-- the answer's fields as numbers
+abbrev pub numbersOf : Answer → Fields
+numbersOf x =
+    record {
+      refused = cond (isRefusal (outcomeOf (x .outcome))) 1 0;
+      verdict = outcomeNumber (outcomeOf (x .outcome));
+      flag = cond (x .flag) 1 0;
+      cost = x .cost;
+      bound = x .bound;
+      length = x .length;
+      expansions = x .tally .expansions;
+      rounds = x .tally .rounds;
+      width = x .tally .width;
+    }
+
+-- the answer that stands in the numbers and in the plan buffer
+abbrev pub answerIn : Fields → (plan : List ℕ) → A.Answer ℕ
+answerIn x plan =
+    record {
+      outcome = outcomeNumbered (x .refused) (x .verdict);
+      flag = eqb (x .flag) 1;
+      cost = x .cost;
+      bound = x .bound;
+      steps = handedBack (x .length) plan;
+      tally = record { expansions = x .expansions; rounds = x .rounds; width = x .width };
+    }
 
 -- the answer of a run that is over
 abbrev pub stopAnswer : (bytes words best : List ℕ) → Stop → A.Answer ℕ

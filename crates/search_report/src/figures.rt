@@ -4,7 +4,7 @@ ghost use mathlib.Core.Path.{_≡_};
 ghost use mathlib.Core.Bool.{cond};
 ghost use Rattle.search.specs.Answer.{verdictNumber, outcomeNumber, isRefusal};
 ghost use Rattle.search_visits.specs.Work.{verdictOf};
-ghost use Rattle.search_report.specs.Answers.{outcomeOf, InNumbers};
+ghost use Rattle.search_report.specs.Answers.{outcomeOf, numbersOf};
 use crate::answers::Answer;
 use crate::answers::Fields;
 use crate::answers::Outcome;
@@ -55,7 +55,7 @@ pub fn flag_number(flag: bool) -> u64
 
 // The answer in numbers.
 pub fn fields(answer: Answer) -> Fields
-    ensures { λ r. ⌜ InNumbers answer r ⌝ }
+    ensures { λ r. ⌜ r ≡ numbersOf answer ⌝ }
 {
     let outcome = answer.outcome;
     let refused = refused_number(outcome);

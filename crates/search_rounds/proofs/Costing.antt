@@ -13,14 +13,11 @@ use Rattle.laws.proofs.Lists.{all-filter, all-dropLast}
 use Rattle.model.specs.Numbers.{rangeEnd}
 use Rattle.model.specs.System.{Costs, System, moved}
 use Rattle.model.specs.Meaning.{State}
-use Rattle.model.specs.Steps.{costsOf}
-use Rattle.model.proofs.Costs.{combine-at-most-sum}
-use Rattle.model.proofs.Ranges.{step-cost-below}
 use Rattle.search.specs.Search.{Node, Round, on, belowBest, before, place, beats, cut, insert, offer, child, counted, atLimit, improvedBy, layer, layerEnd, nextLayer}
 use Rattle.search.proofs.Induction.{Holds, Point, taking, expanding, Changes, layer-holds}
-use Rattle.outline.specs.Outline.{modelOf}
 use Rattle.steps.specs.InBytes.{systemIn}
 use Rattle.steps.specs.Follow.{costsIn}
+use Rattle.steps.proofs.Promises.{combined-at-most, step-cost-below}
 use Rattle.search_visits.specs.Work.{Within}
 
 -- ---- what holds of each kept node and of a child, holds of each after the child was offered
@@ -56,8 +53,8 @@ abbrev Costing : (k left : ℕ) → Point State ℕ → Round State ℕ → Type
 Costing k left point r = All (Within (suc k)) (r .kept) × Ahead k point
 
 child-within : (bytes : List ℕ) (k : ℕ) (n : Node State ℕ) (t : ℕ) {c : ℕ} (h : ℕ) {u : State} → Within k n → systemIn bytes .move (n .state) t ≡ moved c u → Within (suc k) (child (costsIn bytes) (systemIn bytes) n t c u h)
-unfolding child costsOf
-child-within bytes k n t {c} h a e = omega (arith, a, step-cost-below rangeEnd (modelOf bytes) (n .state) t e, combine-at-most-sum (modelOf bytes .rule) (n .g) c, suc-mul k rangeEnd)
+unfolding child
+child-within bytes k n t {c} h a e = omega (arith, a, step-cost-below bytes (n .state) t e, combined-at-most bytes (n .g) c, suc-mul k rangeEnd)
 
 costing : (bytes : List ℕ) (budget width : ℕ) → Changes (costsIn bytes) (systemIn bytes) budget width Costing (λ s. Unit {0})
 unfolding improvedBy atLimit counted layerEnd nextLayer

@@ -9,12 +9,8 @@ use borrow.Author.Tests.{le-leb, lt-leb}
 use lib.ListN.{length, getD, drop, length-take, length-drop}
 use Rattle.laws.specs.Lists.{filter}
 use Rattle.laws.proofs.Bools.{not-both}
-use Rattle.model.specs.System.{System}
-use Rattle.model.specs.Syntax.{Rule, Variable}
 use Rattle.model.specs.Meaning.{State}
-use Rattle.model.specs.Steps.{costsOf}
 use Rattle.search.specs.Search.{Node, Route, belowBest, raisedLow, layerEnd}
-use Rattle.outline.specs.Outline.{modelOf}
 use Rattle.beam_order.specs.Slots.{slotWords, fAt}
 use Rattle.steps.specs.InBytes.{systemIn}
 use Rattle.steps.specs.Follow.{costsIn}
@@ -36,30 +32,30 @@ module _ {layer : List ℕ} {w n : ℕ} where
   pub remains-below : (has : Bool) (best count : ℕ) → has ≡ true → Below w n count best layer → Remains layer w has best n count
   remains-below has best count found b = record { fewer = b .fewer; still = b .layer; left = by-best }
     where
-      by-best : (rule : Rule) (M : System State ℕ) (vs : List Variable) (path : ℕ → List ℕ) (o : Option (Route ℕ)) → BestIs has best o → nodesOf w layer vs path count ≡ filter (λ m. belowBest (costsOf rule) M (m .f) o) (nodesOf w layer vs path n)
-      by-best rule M vs path none is = absurd (not-both found is)
-      by-best rule M vs path (some r) is = b .left rule M vs path r (is .1)
+      by-best : (bytes : List ℕ) (path : ℕ → List ℕ) (o : Option (Route ℕ)) → BestIs has best o → nodesOf w layer bytes path count ≡ filter (λ m. belowBest (costsIn bytes) (systemIn bytes) (m .f) o) (nodesOf w layer bytes path n)
+      by-best bytes path none is = absurd (not-both found is)
+      by-best bytes path (some r) is = b .left bytes path r (is .1)
 
   pub remains-all : (has : Bool) (best : ℕ) → has ≡ false → Layer w n layer → Remains layer w has best n n
   remains-all has best missing la = record { fewer = omega arith; still = la; left = by-best }
     where
-      by-best : (rule : Rule) (M : System State ℕ) (vs : List Variable) (path : ℕ → List ℕ) (o : Option (Route ℕ)) → BestIs has best o → nodesOf w layer vs path n ≡ filter (λ m. belowBest (costsOf rule) M (m .f) o) (nodesOf w layer vs path n)
-      by-best rule M vs path none is = sym (filter-no-best rule M (nodesOf w layer vs path n))
-      by-best rule M vs path (some r) is = absurd (not-both (is .0) missing)
+      by-best : (bytes : List ℕ) (path : ℕ → List ℕ) (o : Option (Route ℕ)) → BestIs has best o → nodesOf w layer bytes path n ≡ filter (λ m. belowBest (costsIn bytes) (systemIn bytes) (m .f) o) (nodesOf w layer bytes path n)
+      by-best bytes path none is = sym (filter-no-best bytes (nodesOf w layer bytes path n))
+      by-best bytes path (some r) is = absurd (not-both (is .0) missing)
 
 -- ---- low
 
 pub raises-marked : (layer : List ℕ) (w n low : ℕ) (marked : Bool) → marked ≡ true → Raises layer w marked n low low
 unfolding raisedLow
-raises-marked layer w n low marked stands = record { same = λ rule M vs path. rw stands }
+raises-marked layer w n low marked stands = record { same = λ bytes path. rw stands }
 
 pub raises-none : (layer : List ℕ) (w n low : ℕ) (marked : Bool) → n ≡ 0 → Raises layer w marked n low low
 unfolding raisedLow
-raises-none layer w n low marked none-left = record { same = λ rule M vs path. rw none-left (rw (nodes-none w layer vs path) (by-mark rule M marked)) }
+raises-none layer w n low marked none-left = record { same = λ bytes path. rw none-left (rw (nodes-none w layer bytes path) (by-mark bytes marked)) }
   where
-    by-mark : (rule : Rule) (M : System State ℕ) (m : Bool) → raisedLow (costsOf rule) M m [] low ≡ low
-    by-mark rule M true = refl
-    by-mark rule M false = refl
+    by-mark : (bytes : List ℕ) (m : Bool) → raisedLow (costsIn bytes) (systemIn bytes) m [] low ≡ low
+    by-mark bytes true = refl
+    by-mark bytes false = refl
 
 module _ {layer : List ℕ} {w n : ℕ} (la : Layer w n layer) (low : ℕ) (marked : Bool) (unmarked : marked ≡ false) (pos : 0 < n) where
   -- f of the first
@@ -67,10 +63,10 @@ module _ {layer : List ℕ} {w n : ℕ} (la : Layer w n layer) (low : ℕ) (mark
   first = getD layer (getD layer (20 * w) 0 * slotWords + fAt) 0
 
   pub raises-first : low < first → Raises layer w marked n low first
-  raises-first h = record { same = λ rule M vs path. rw unmarked (raised-low vs path la rule M low pos ∙ rw (lt-leb first low h)) }
+  raises-first h = record { same = λ bytes path. rw unmarked (raised-low bytes path la low pos ∙ rw (lt-leb first low h)) }
 
   pub raises-not : first ≤ low → Raises layer w marked n low low
-  raises-not h = record { same = λ rule M vs path. rw unmarked (raised-low vs path la rule M low pos ∙ rw (le-leb first low h)) }
+  raises-not h = record { same = λ bytes path. rw unmarked (raised-low bytes path la low pos ∙ rw (le-leb first low h)) }
 
 -- ---- the layer's end
 
@@ -83,9 +79,9 @@ layer-ends words w x count low remains raises = record { fewer = remains .fewer;
     ends bytes plan k =
         unfold layerEnd roundOf progressOf in
         ap (λ (l : List (Node State ℕ)). record { kept = l; widthMark = x .marks .width; lengthMark = x .marks .length; improved = x .improved; progress = record { best = bestOf plan (x .progress .best); low = raisedLow (costsIn bytes) (systemIn bytes) (x .marks .width) l (x .progress .low); expansions = x .progress .tally .expansions } })
-        (sym (remains .left (modelOf bytes .rule) (systemIn bytes) (modelOf bytes .variables) (pathBy words w k) (bestOf plan (x .progress .best)) (best-is plan (x .progress .best))))
-        ∙ ap (λ (v : ℕ). record { kept = nodesOf w (nextOf w words) (modelOf bytes .variables) (pathBy words w k) count; widthMark = x .marks .width; lengthMark = x .marks .length; improved = x .improved; progress = record { best = bestOf plan (x .progress .best); low = v; expansions = x .progress .tally .expansions } })
-        (raises .same (modelOf bytes .rule) (systemIn bytes) (modelOf bytes .variables) (pathBy words w k))
+        (sym (remains .left bytes (pathBy words w k) (bestOf plan (x .progress .best)) (best-is plan (x .progress .best))))
+        ∙ ap (λ (v : ℕ). record { kept = nodesOf w (nextOf w words) bytes (pathBy words w k) count; widthMark = x .marks .width; lengthMark = x .marks .length; improved = x .improved; progress = record { best = bestOf plan (x .progress .best); low = v; expansions = x .progress .tally .expansions } })
+        (raises .same bytes (pathBy words w k))
 
 -- the slot of the first
 pub first-below : {layer : List ℕ} {w n : ℕ} → Layer w n layer → 0 < n → getD layer (20 * w) 0 < w

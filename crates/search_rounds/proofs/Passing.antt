@@ -11,7 +11,6 @@ use Rattle.laws.proofs.Bools.{not-both, or-first, or-second}
 use Rattle.model.specs.Meaning.{State}
 use Rattle.search.specs.Search.{Node, Result, on, andThen, layerEnd, nextLayer, unlessEnded, layers}
 use Rattle.search.specs.Search as S
-use Rattle.outline.specs.Outline.{modelOf}
 use Rattle.steps.specs.InBytes.{systemIn}
 use Rattle.steps.specs.Follow.{costsIn}
 use Rattle.beam.specs.Layers.{nodesOf, Layer}
@@ -86,7 +85,7 @@ module _ (words : List ℕ) (w limit k : ℕ) (x : Round) where
   stops-at-none la e =
       stops la
       (λ bytes plan budget. at-end bytes w budget (limit - k) (roundIn bytes words plan w k x)
-      (or-first _ _ (none-left (nodesOf w (nextOf w words) (modelOf bytes .variables) (pathBy words w k) (x .count)) (rw e (nodes-none w (nextOf w words) (modelOf bytes .variables) (pathBy words w k))))))
+      (or-first _ _ (none-left (nodesOf w (nextOf w words) bytes (pathBy words w k) (x .count)) (rw e (nodes-none w (nextOf w words) bytes (pathBy words w k))))))
 
   pub stops-improved : Layer w (x .count) (nextOf w words) → x .improved ≡ true → EntersNext words words w limit k x (stopped x)
   unfolding roundOf
@@ -108,12 +107,12 @@ module _ (words : List ℕ) (w limit k : ℕ) (x : Round) where
       onward : (bytes plan : List ℕ) (budget : ℕ) → behindEnd bytes w budget (limit - k) (roundIn bytes words plan w k x)
           ≡ layersFrom bytes words′ plan w budget limit (suc k) (x .count) (record { count = 0; marks = x .marks; improved = x .improved; progress = x .progress })
       onward bytes plan budget =
-          let nodes : List (Node State ℕ) = nodesOf w (nextOf w words) (modelOf bytes .variables) (pathBy words w k) (x .count) in
+          let nodes : List (Node State ℕ) = nodesOf w (nextOf w words) bytes (pathBy words w k) (x .count) in
           let z : limit - k ≡ suc (limit - suc k) = omega arith in
           ap (λ (left : ℕ). behindEnd bytes w budget left (roundIn bytes words plan w k x)) z
           ∙ not-at-end bytes w budget (limit - suc k) (roundIn bytes words plan w k x)
-          (rw (some-left nodes (omega (arith, nodes-length (modelOf bytes .variables) (pathBy words w k) la))) not-yet)
-          ∙ rw (taken .nodes bytes, nodes-none w (nextOf w words′) (modelOf bytes .variables) (pathBy words′ w (suc k)))
+          (rw (some-left nodes (omega (arith, nodes-length bytes (pathBy words w k) la))) not-yet)
+          ∙ rw (taken .nodes bytes, nodes-none w (nextOf w words′) bytes (pathBy words′ w (suc k)))
 
 -- ---- a turn
 
@@ -127,7 +126,7 @@ module _ (budget : ℕ) {bytes outline words words₁ plan plan₁ : List ℕ} {
         best-fits = leaves .best-fits;
         round-same = leaves .round-same;
         inside = subst (Inside w limit k) is-over (leaves .inside);
-        counted = nodes-length (modelOf bytes .variables) (pathBy words₁ w k) (layer-of (leaves .held));
+        counted = nodes-length bytes (pathBy words₁ w k) (layer-of (leaves .held));
         goes-on = λ m. absurd (not-both m refl);
         ends = λ m. over-still;
       }
@@ -160,7 +159,7 @@ module _ (budget : ℕ) {bytes outline words words₁ plan plan₁ : List ℕ} {
     unfolding roundOf
     kept-within none-yet =
         end-within bytes budget w k (limit - k) (currentOf bytes words w k n) (roundIn bytes words plan w k x) (roundIn bytes words₁ plan₁ w k (v .round)) (roundIn bytes words₁ plan₁ w k z) (ready .costs)
-        (rw none-yet (nodes-none w (nextOf w words) (modelOf bytes .variables) (pathBy words w k)))
+        (rw none-yet (nodes-none w (nextOf w words) bytes (pathBy words w k)))
         layer-same (end .same bytes plan₁ k)
 
     pub passes-on : x .count ≡ 0 → length plan₁ ≡ length plan → {words₂ : List ℕ} {y : Passed} → EntersNext words₁ words₂ w limit k z y → PassesLayer bytes outline words words₂ plan plan₁ w budget limit k n x y
@@ -171,7 +170,7 @@ module _ (budget : ℕ) {bytes outline words words₁ plan plan₁ : List ℕ} {
           best-fits = fits;
           round-same = moved .round-same ∙ end .round-same ∙ leaves .round-same;
           inside = subst (Inside w limit k) (sym (moved .still-on)) tt;
-          counted = nodes-length (modelOf bytes .variables) (pathBy words₂ w k) (moved .layer);
+          counted = nodes-length bytes (pathBy words₂ w k) (moved .layer);
           goes-on = λ m. onward (moved .goes-on m) fits;
           ends = λ m. layers-same ∙ moved .ends m bytes plan₁ budget ∙ sym (ap (λ (q : Next). resultOf (pathBy words₂ w k) q (roundIn bytes words₂ plan₁ w k (y .round))) (moved .still-on) ∙ unfold resultOf in refl);
         }

@@ -8,12 +8,11 @@ use native.Mathlib.Numerals.{add-one}
 use lib.ListN.{length}
 use Rattle.laws.specs.Lists.{All}
 use Rattle.model.specs.Meaning.{State}
-use Rattle.model.specs.Steps.{originOf}
 use Rattle.search.specs.Search.{Result, freshRound, root}
 use Rattle.search.specs.Search as S
-use Rattle.outline.specs.Outline.{modelOf}
-use Rattle.steps.specs.InBytes.{Outlined, systemIn}
+use Rattle.steps.specs.InBytes.{Outlined, systemIn, originIn}
 use Rattle.steps.specs.Follow.{costsIn}
+use Rattle.steps.proofs.Promises.{origin-spent}
 use Rattle.beam.proofs.Nodes.{nodes-none}
 use Rattle.search_paths.specs.Routes.{pathBy, nextOf, Started}
 use Rattle.search_visits.specs.Work.{Within, Ready, progressOf, roundOf, roundBegun, roundIn, resultOf, Inside}
@@ -78,9 +77,9 @@ ready-next {bytes} {outline} {words = words} {plan} {w = w} {limit = limit} {k =
 abbrev fresh : Progress → Round
 fresh p = record { count = 0; marks = record { width = false; length = false }; improved = false; progress = p }
 
-root-within : (bytes : List ℕ) (h : ℕ) → Within 0 (root (costsIn bytes) (systemIn bytes) (originOf (modelOf bytes)) h)
-unfolding root originOf
-root-within bytes h = omega arith
+root-within : (bytes : List ℕ) (h : ℕ) → Within 0 (root (costsIn bytes) (systemIn bytes) (originIn bytes) h)
+unfolding root
+root-within bytes h = omega (arith, origin-spent bytes)
 
 module _ (plan : List ℕ) (limit : ℕ) (p : Progress) {bytes outline words : List ℕ} {w h : ℕ} (started : Started bytes outline words w h) where
   pub ready-first : {words₀ : List ℕ} → Outlined bytes outline → RoomFor words₀ plan w limit → p .best .length ≤ limit → Ready bytes outline words plan w limit 0 1 (fresh p)
@@ -97,11 +96,11 @@ module _ (plan : List ℕ) (limit : ℕ) (p : Progress) {bytes outline words : L
         costs = subst (All (Within 0)) (sym (started .target-alone)) (root-within bytes h, tt);
       }
 
-  round-same : (budget : ℕ) → S.round (costsIn bytes) (systemIn bytes) budget limit w (root (costsIn bytes) (systemIn bytes) (originOf (modelOf bytes)) h) (progressOf plan p) ≡ layersFrom bytes words plan w budget limit 0 1 (fresh p)
+  round-same : (budget : ℕ) → S.round (costsIn bytes) (systemIn bytes) budget limit w (root (costsIn bytes) (systemIn bytes) (originIn bytes) h) (progressOf plan p) ≡ layersFrom bytes words plan w budget limit 0 1 (fresh p)
   unfolding S.round freshRound roundOf
   round-same budget =
       let z : limit - 0 ≡ limit = omega arith in
-      sym (rw (z, started .target-alone, nodes-none w (nextOf w words) (modelOf bytes .variables) (pathBy words w 0)))
+      sym (rw (z, started .target-alone, nodes-none w (nextOf w words) bytes (pathBy words w 0)))
 
   pub round-ends : (budget : ℕ) {words₁ plan₁ words₂ plan₂ : List ℕ} {x y : Passed} {k : ℕ} → PassesLayer bytes outline words words₁ plan plan₁ w budget limit 0 1 (fresh p) x
       → Going bytes outline words₁ plan₁ words₂ plan₂ w budget limit 0 k x y → y .more ≡ false → RoundEnds bytes outline words₂ plan plan₂ w budget limit h p (record { round = y .round; next = y .next; layer = k })

@@ -5,10 +5,7 @@ use mathlib.Core.Bool.{Bool, true, false}
 use mathlib.Core.List.{List}
 use mathlib.Core.Option.{Option}
 use Rattle.laws.specs.Lists.{filter}
-use Rattle.model.specs.System.{System}
-use Rattle.model.specs.Syntax.{Rule, Variable}
 use Rattle.model.specs.Meaning.{State}
-use Rattle.model.specs.Steps.{costsOf}
 use Rattle.search.specs.Search as S
 use Rattle.steps.specs.InBytes.{systemIn}
 use Rattle.steps.specs.Follow.{costsIn}
@@ -25,12 +22,12 @@ use Rattle.search_rounds.specs.declared.ends.Passed.{Passed}
 pub record Remains (layer : List ℕ) (w : ℕ) (has : Bool) (best n count : ℕ) : Type 0 where
   pub fewer : count ≤ n
   pub still : Layer w count layer
-  pub left : (rule : Rule) (M : System State ℕ) (vs : List Variable) (path : ℕ → List ℕ) (b : Option (S.Route ℕ)) → BestIs has best b
-      → nodesOf w layer vs path count ≡ filter (λ m. S.belowBest (costsOf rule) M (m .f) b) (nodesOf w layer vs path n)
+  pub left : (bytes : List ℕ) (path : ℕ → List ℕ) (b : Option (S.Route ℕ)) → BestIs has best b
+      → nodesOf w layer bytes path count ≡ filter (λ m. S.belowBest (costsIn bytes) (systemIn bytes) (m .f) b) (nodesOf w layer bytes path n)
 
 -- rule 6: low rises
 pub record Raises (layer : List ℕ) (w : ℕ) (marked : Bool) (n low r : ℕ) : Type 0 where
-  pub same : (rule : Rule) (M : System State ℕ) (vs : List Variable) (path : ℕ → List ℕ) → S.raisedLow (costsOf rule) M marked (nodesOf w layer vs path n) low ≡ r
+  pub same : (bytes : List ℕ) (path : ℕ → List ℕ) → S.raisedLow (costsIn bytes) (systemIn bytes) marked (nodesOf w layer bytes path n) low ≡ r
 
 -- behind a layer's end, `left` layers before the limit: the layers after it, unless the round is at its end
 unfoldable pub behindEnd : (bytes : List ℕ) (w budget left : ℕ) → S.Round State ℕ → S.Result (S.Round State ℕ) ℕ

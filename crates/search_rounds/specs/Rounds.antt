@@ -6,11 +6,9 @@ use mathlib.Core.List.{List}
 use lib.ListN.{length}
 use Rattle.model.specs.Numbers.{mostSteps}
 use Rattle.model.specs.Meaning.{State}
-use Rattle.model.specs.Steps.{originOf}
 use Rattle.search.specs.Search.{root}
 use Rattle.search.specs.Search as S
-use Rattle.outline.specs.Outline.{modelOf}
-use Rattle.steps.specs.InBytes.{systemIn}
+use Rattle.steps.specs.InBytes.{systemIn, originIn}
 use Rattle.steps.specs.Follow.{costsIn}
 use Rattle.beam.specs.Layers.{Layer}
 use Rattle.search_paths.specs.Routes.{pathBy, nextOf, currentOf}
@@ -58,5 +56,5 @@ pub record RoundEnds (bytes outline words′ plan plan′ : List ℕ) (w budget 
   pub round-same : roundBegun (y .round .progress) ≡ roundBegun p
   pub inside : Inside w limit (y .layer) (y .next)
   pub counted : length (roundIn bytes words′ plan′ w (y .layer) (y .round) .kept) ≡ y .round .count
-  pub same : S.round (costsIn bytes) (systemIn bytes) budget limit w (root (costsIn bytes) (systemIn bytes) (originOf (modelOf bytes)) h) (progressOf plan p)
+  pub same : S.round (costsIn bytes) (systemIn bytes) budget limit w (root (costsIn bytes) (systemIn bytes) (originIn bytes) h) (progressOf plan p)
       ≡ resultOf (pathBy words′ w (y .layer)) (y .next) (roundIn bytes words′ plan′ w (y .layer) (y .round))

@@ -15,12 +15,10 @@ use Rattle.laws.proofs.Bools.{and-both}
 use Rattle.laws.proofs.Lists.{some-all, any-some}
 use Rattle.model.specs.System.{Costs, System}
 use Rattle.model.specs.Meaning.{State}
-use Rattle.model.specs.Steps.{originOf}
 use Rattle.search.specs.Answer as A
 use Rattle.search.specs.Search as S
 use Rattle.search.specs.Run.{widerWidths, isWidth, widerUpTo}
-use Rattle.outline.specs.Outline.{modelOf}
-use Rattle.steps.specs.InBytes.{systemIn}
+use Rattle.steps.specs.InBytes.{systemIn, originIn}
 use Rattle.steps.specs.Follow.{costsIn}
 use Rattle.beam.specs.Layers.{nodesOf}
 use Rattle.search_visits.specs.declared.work.Verdict.{Verdict}
@@ -56,7 +54,7 @@ module _ {bytes outline words′ plan plan′ : List ℕ} {w budget limit h : �
   judge-same : {b : Bool} {j : Judgement} → Judges b (y .round) j
       → S.judge (costsIn bytes) (systemIn bytes) b (roundIn bytes words′ plan′ w (y .layer) (y .round)) ≡ judgementOf (costsIn bytes) (systemIn bytes) j (progressOf plan′ (y .round .progress))
   unfolding roundOf
-  judge-same judged = judged .same bytes plan′ (nodesOf w (nextOf w words′) (modelOf bytes .variables) (pathBy words′ w (y .layer)) (y .round .count)) (r .counted)
+  judge-same judged = judged .same bytes plan′ (nodesOf w (nextOf w words′) bytes (pathBy words′ w (y .layer)) (y .round .count)) (r .counted)
 
   -- another round follows
   pub round-again : {widest : ℕ} {j : Judgement} → y .next ≡ N.On → Judges (eqb w widest) (y .round) j → j ≡ J.Again
@@ -148,7 +146,7 @@ room-for {widest = widest} {limit = limit} {w = w} r a b pos le =
 -- the rounds from round k on, the widths behind this one being `wider`
 abbrev roundsFrom : (bytes plan : List ℕ) (budget limit h most width : ℕ) (wider : List ℕ) (k : ℕ) → Progress → A.Answer ℕ
 roundsFrom bytes plan budget limit h most width wider k p =
-    S.rounds (costsIn bytes) (systemIn bytes) most budget limit width wider k (S.root (costsIn bytes) (systemIn bytes) (originOf (modelOf bytes)) h) (progressOf plan p)
+    S.rounds (costsIn bytes) (systemIn bytes) most budget limit width wider k (S.root (costsIn bytes) (systemIn bytes) (originIn bytes) h) (progressOf plan p)
 
 -- in the round that the tally tells, the rounds that are left give the run's answer
 pub record Widening (bytes words₀ words plan₀ plan : List ℕ) (widest budget limit h : ℕ) (p : Progress) (most : ℕ) : Type 0 where
@@ -160,7 +158,7 @@ pub record Widening (bytes words₀ words plan₀ plan : List ℕ) (widest budge
   pub counted : p .tally .rounds + most ≡ budget + 2
   pub wider : List ℕ
   pub ladder : climbs widest (p .tally .width) wider ≡ true
-  pub same : S.rounds (costsIn bytes) (systemIn bytes) (suc budget) budget limit 1 (widerUpTo widest) 1 (S.root (costsIn bytes) (systemIn bytes) (originOf (modelOf bytes)) h) (record { best = none; low = h; expansions = 0 })
+  pub same : S.rounds (costsIn bytes) (systemIn bytes) (suc budget) budget limit 1 (widerUpTo widest) 1 (S.root (costsIn bytes) (systemIn bytes) (originIn bytes) h) (record { best = none; low = h; expansions = 0 })
       ≡ roundsFrom bytes plan budget limit h most (p .tally .width) wider (p .tally .rounds) p
 
 -- before any round
@@ -198,7 +196,7 @@ module _ {bytes words₀ words plan₀ plan : List ℕ} {widest budget limit h :
   one-more : {words′ plan′ : List ℕ} {left : ℕ} {y : Judged} → most ≡ suc left → RoundJudged bytes words′ plan plan′ widest budget limit h width p y
       → roundsFrom bytes plan budget limit h most width (s .wider) k p
       ≡ S.unlessOver (costsIn bytes) (systemIn bytes) k width (afterOf (costsIn bytes) (systemIn bytes) (pathBy words′ width (y .layer)) (y .next) (progressOf plan′ (y .progress)))
-      (λ q. S.rounds (costsIn bytes) (systemIn bytes) left budget limit (S.nextWidth (costsIn bytes) (systemIn bytes) width (s .wider)) (S.laterWidths (costsIn bytes) (systemIn bytes) (s .wider)) (suc k) (S.root (costsIn bytes) (systemIn bytes) (originOf (modelOf bytes)) h) q)
+      (λ q. S.rounds (costsIn bytes) (systemIn bytes) left budget limit (S.nextWidth (costsIn bytes) (systemIn bytes) width (s .wider)) (S.laterWidths (costsIn bytes) (systemIn bytes) (s .wider)) (suc k) (S.root (costsIn bytes) (systemIn bytes) (originIn bytes) h) q)
   unfolding S.rounds
   one-more e r = rw (e, last-empty (costsIn bytes) (systemIn bytes) widest width (s .wider) (s .ladder) (s .some-width), r .same)
 

@@ -7,12 +7,10 @@ use mathlib.Core.Option.{none}
 use lib.ListN.{length}
 use Rattle.model.specs.System.{Costs, System}
 use Rattle.model.specs.Meaning.{State}
-use Rattle.model.specs.Steps.{originOf}
 use Rattle.search.specs.Search.{Node, After, again, ended, decided, root}
 use Rattle.search.specs.Search as S
 use Rattle.search.specs.Run.{widerUpTo}
-use Rattle.outline.specs.Outline.{modelOf}
-use Rattle.steps.specs.InBytes.{systemIn}
+use Rattle.steps.specs.InBytes.{systemIn, originIn}
 use Rattle.steps.specs.Follow.{costsIn}
 use Rattle.search_paths.specs.Routes.{pathBy}
 use Rattle.search_visits.specs.declared.work.Round.{Round}
@@ -37,5 +35,5 @@ pub record Runs (bytes words′ plan′ : List ℕ) (widest budget limit h : ℕ
   pub some-width : 0 < y .progress .tally .width
   pub narrow : y .progress .tally .width ≤ widest
   pub inside : EndsInside (y .progress .tally .width) limit (y .layer) (y .ending)
-  pub same : S.rounds (costsIn bytes) (systemIn bytes) (suc budget) budget limit 1 (widerUpTo widest) 1 (root (costsIn bytes) (systemIn bytes) (originOf (modelOf bytes)) h) (record { best = none; low = h; expansions = 0 })
+  pub same : S.rounds (costsIn bytes) (systemIn bytes) (suc budget) budget limit 1 (widerUpTo widest) 1 (root (costsIn bytes) (systemIn bytes) (originIn bytes) h) (record { best = none; low = h; expansions = 0 })
       ≡ S.answerOf (costsIn bytes) (systemIn bytes) (endingOf (pathBy words′ (y .progress .tally .width) (y .layer)) (y .ending)) (y .progress .tally .rounds) (y .progress .tally .width) (progressOf plan′ (y .progress))

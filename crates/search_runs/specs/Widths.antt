@@ -6,11 +6,9 @@ use mathlib.Core.List.{List}
 use lib.Dec.{eqb}
 use Rattle.model.specs.System.{Costs, System}
 use Rattle.model.specs.Meaning.{State}
-use Rattle.model.specs.Steps.{originOf}
 use Rattle.search.specs.Search.{After, again, ended, root}
 use Rattle.search.specs.Search as S
-use Rattle.outline.specs.Outline.{modelOf}
-use Rattle.steps.specs.InBytes.{systemIn}
+use Rattle.steps.specs.InBytes.{systemIn, originIn}
 use Rattle.steps.specs.Follow.{costsIn}
 use Rattle.search_paths.specs.Routes.{pathBy}
 use Rattle.search_tally.specs.Tally.{begunAt}
@@ -43,5 +41,5 @@ pub record RoundJudged (bytes words′ plan plan′ : List ℕ) (widest budget l
   pub best-fits : y .progress .best .length ≤ limit
   pub round-same : roundBegun (y .progress) ≡ roundBegun p
   pub inside : Inside width limit (y .layer) (y .next)
-  pub same : S.afterRound (costsIn bytes) (systemIn bytes) (eqb width widest) (S.round (costsIn bytes) (systemIn bytes) budget limit width (root (costsIn bytes) (systemIn bytes) (originOf (modelOf bytes)) h) (progressOf plan p))
+  pub same : S.afterRound (costsIn bytes) (systemIn bytes) (eqb width widest) (S.round (costsIn bytes) (systemIn bytes) budget limit width (root (costsIn bytes) (systemIn bytes) (originIn bytes) h) (progressOf plan p))
       ≡ afterOf (costsIn bytes) (systemIn bytes) (pathBy words′ width (y .layer)) (y .next) (progressOf plan′ (y .progress))

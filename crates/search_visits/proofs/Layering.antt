@@ -10,7 +10,6 @@ use Rattle.model.specs.Meaning.{State}
 use Rattle.search.specs.Search.{Node, Result, andThen, visit, layer}
 use Rattle.search.specs.Search as S
 use Rattle.beam_order.specs.Slots.{wordsIn}
-use Rattle.outline.specs.Outline.{modelOf}
 use Rattle.steps.specs.InBytes.{systemIn}
 use Rattle.steps.specs.Follow.{costsIn}
 use Rattle.beam.specs.Nodes.{nodeAt}
@@ -34,7 +33,7 @@ pub record Halfway (bytes outline words plan words′ plan′ : List ℕ) (w bud
   pub current : take (20 * w) words′ ≡ take (20 * w) words
   pub rows : drop (46 * w) words′ ≡ drop (46 * w) words
   pub same : layer (costsIn bytes) (systemIn bytes) budget w (limit - k) (currentOf bytes words w k n) (roundIn bytes words plan w k x)
-      ≡ layer (costsIn bytes) (systemIn bytes) budget w (limit - k) (nodesFrom (modelOf bytes .variables) (pathBy words w k) words (n - i) i) (roundIn bytes words′ plan′ w k x′)
+      ≡ layer (costsIn bytes) (systemIn bytes) budget w (limit - k) (nodesFrom bytes (pathBy words w k) words (n - i) i) (roundIn bytes words′ plan′ w k x′)
 
 pub halfway-first : (bytes outline words plan : List ℕ) (w budget limit k n : ℕ) (x : Round) → Ready bytes outline words plan w limit k n x → Halfway bytes outline words plan words plan w budget limit k n 0 x x
 halfway-first bytes outline words plan w budget limit k n x r =
@@ -43,7 +42,7 @@ halfway-first bytes outline words plan w budget limit k n x r =
 
 module _ {bytes outline words plan words′ plan′ : List ℕ} {w budget limit k n i : ℕ} {x x′ : Round} (h : Halfway bytes outline words plan words′ plan′ w budget limit k n i x x′) where
   abbrev rest : (m j : ℕ) → S.Round State ℕ → Result (S.Round State ℕ) ℕ
-  rest m j r = layer (costsIn bytes) (systemIn bytes) budget w (limit - k) (nodesFrom (modelOf bytes .variables) (pathBy words w k) words m j) r
+  rest m j r = layer (costsIn bytes) (systemIn bytes) budget w (limit - k) (nodesFrom bytes (pathBy words w k) words m j) r
 
   pub layer-done : n ≤ i → Leaves bytes outline words words′ plan plan′ w limit k x (record { round = x′; next = N.On }) (layer (costsIn bytes) (systemIn bytes) budget w (limit - k) (currentOf bytes words w k n))
   layer-done b =
@@ -64,11 +63,11 @@ module _ {bytes outline words plan words′ plan′ : List ℕ} {w budget limit 
           rw z
 
   module _ (less : i < n) (words″ plan″ : List ℕ) (y : Visited)
-      (l : Leaves bytes outline words′ words″ plan′ plan″ w limit k x′ y (visit (costsIn bytes) (systemIn bytes) budget w (limit - k) (systemIn bytes .status (nodeAt (modelOf bytes .variables) (pathBy words′ w k) i (wordsIn words′ i) .state)) (nodeAt (modelOf bytes .variables) (pathBy words′ w k) i (wordsIn words′ i))))
+      (l : Leaves bytes outline words′ words″ plan′ plan″ w limit k x′ y (visit (costsIn bytes) (systemIn bytes) budget w (limit - k) (systemIn bytes .status (nodeAt bytes (pathBy words′ w k) i (wordsIn words′ i) .state)) (nodeAt bytes (pathBy words′ w k) i (wordsIn words′ i))))
       (words-long : length words″ ≡ length words′) (plan-long : length plan″ ≡ length plan′)
     where
       abbrev next-node : Node State ℕ
-      next-node = nodeAt (modelOf bytes .variables) (pathBy words w k) i (wordsIn words i)
+      next-node = nodeAt bytes (pathBy words w k) i (wordsIn words i)
 
       some-width : 0 < w
       some-width = width-positive (h .ready .held)
@@ -78,9 +77,9 @@ module _ {bytes outline words plan words′ plan′ : List ℕ} {w budget limit 
 
       visited : visit (costsIn bytes) (systemIn bytes) budget w (limit - k) (systemIn bytes .status (next-node .state)) next-node (roundIn bytes words′ plan′ w k x′) ≡ resultOf (pathBy words w k) (y .next) (roundIn bytes words″ plan″ w k (y .round))
       visited =
-          subst (λ (p : ℕ → List ℕ). visit (costsIn bytes) (systemIn bytes) budget w (limit - k) (systemIn bytes .status (nodeAt (modelOf bytes .variables) p i (wordsIn words i) .state)) (nodeAt (modelOf bytes .variables) p i (wordsIn words i)) (roundIn bytes words′ plan′ w k x′) ≡ resultOf p (y .next) (roundIn bytes words″ plan″ w k (y .round)))
+          subst (λ (p : ℕ → List ℕ). visit (costsIn bytes) (systemIn bytes) budget w (limit - k) (systemIn bytes .status (nodeAt bytes p i (wordsIn words i) .state)) (nodeAt bytes p i (wordsIn words i)) (roundIn bytes words′ plan′ w k x′) ≡ resultOf p (y .next) (roundIn bytes words″ plan″ w k (y .round)))
           (paths-kept words words′ w some-width (h .current) (h .rows) k)
-          (subst (λ (s : List ℕ). visit (costsIn bytes) (systemIn bytes) budget w (limit - k) (systemIn bytes .status (nodeAt (modelOf bytes .variables) (pathBy words′ w k) i s .state)) (nodeAt (modelOf bytes .variables) (pathBy words′ w k) i s) (roundIn bytes words′ plan′ w k x′) ≡ resultOf (pathBy words′ w k) (y .next) (roundIn bytes words″ plan″ w k (y .round)))
+          (subst (λ (s : List ℕ). visit (costsIn bytes) (systemIn bytes) budget w (limit - k) (systemIn bytes .status (nodeAt bytes (pathBy words′ w k) i s .state)) (nodeAt bytes (pathBy words′ w k) i s) (roundIn bytes words′ plan′ w k x′) ≡ resultOf (pathBy words′ w k) (y .next) (roundIn bytes words″ plan″ w k (y .round)))
           slots (l .same))
 
       turned : layer (costsIn bytes) (systemIn bytes) budget w (limit - k) (currentOf bytes words w k n) (roundIn bytes words plan w k x) ≡ andThen (resultOf (pathBy words w k) (y .next) (roundIn bytes words″ plan″ w k (y .round))) (λ r. rest (n - suc i) (suc i) r)

@@ -12,18 +12,15 @@ use lib.ListN.{length, take, drop, getD, length-reverse, length-drop, length-tak
 use lib.Seq.{length-take-le, take-at}
 use Rattle.laws.specs.Lists.{All}
 use Rattle.model.specs.Numbers.{rangeEnd}
-use Rattle.model.specs.System.{System}
-use Rattle.model.specs.Syntax.{Rule, Variable}
 use Rattle.model.specs.Meaning.{State}
-use Rattle.model.specs.Steps.{costsOf}
 use Rattle.search.specs.Search.{Node, Result, on, less, belowBest, expand, newBest, improvedBy, routeTo, reached, atLimit, counted, advance, refuse, visit}
 use Rattle.search.specs.Search as S
 use Rattle.beam_order.specs.Slots.{slotWords, gAt, fAt, wordsIn}
-use Rattle.outline.specs.Outline.{modelOf}
 use Rattle.steps.specs.declared.answers.StatusAnswer.the-variants as A
 use Rattle.steps.specs.Answers.{statusAnswer}
 use Rattle.steps.specs.InBytes.{systemIn, stateIn}
 use Rattle.steps.specs.Follow.{costsIn}
+use Rattle.steps.proofs.Promises.{cost-order}
 use Rattle.steps.proofs.Following.{is-base, is-unfinished, no-status}
 use Rattle.beam.specs.Nodes.{nodeAt}
 use Rattle.beam.specs.Layers.{nodesOf, Indexed, roundWith}
@@ -49,14 +46,14 @@ use Rattle.search_visits.specs.declared.work.Visited.{Visited}
 
 -- ---- the best plan
 
-below-best-by : (rule : Rule) (M : System State ℕ) (found : Bool) (c f : ℕ) (p : List ℕ) → belowBest (costsOf rule) M f (cond found (some (record { cost = c; path = p })) none) ≡ belowCost found c f
-unfolding belowBest less costsOf belowCost
-below-best-by rule M true c f p = not-at-most f c
-below-best-by rule M false c f p = refl
+below-best-by : (bytes : List ℕ) (found : Bool) (c f : ℕ) (p : List ℕ) → belowBest (costsIn bytes) (systemIn bytes) f (cond found (some (record { cost = c; path = p })) none) ≡ belowCost found c f
+unfolding belowBest less belowCost
+below-best-by bytes true c f p = rw (cost-order bytes c f) (not-at-most f c)
+below-best-by bytes false c f p = refl
 
-pub below-best-is : (rule : Rule) (M : System State ℕ) (plan : List ℕ) (b : Best) (f : ℕ) → belowBest (costsOf rule) M f (bestOf plan b) ≡ belowCost (b .found) (b .cost) f
+pub below-best-is : (bytes plan : List ℕ) (b : Best) (f : ℕ) → belowBest (costsIn bytes) (systemIn bytes) f (bestOf plan b) ≡ belowCost (b .found) (b .cost) f
 unfolding bestOf
-below-best-is rule M plan b f = below-best-by rule M (b .found) (b .cost) f (reverse (take (b .length) plan))
+below-best-is bytes plan b f = below-best-by bytes (b .found) (b .cost) f (reverse (take (b .length) plan))
 
 best-by : (found : Bool) (c : ℕ) (p : List ℕ) → BestIs found c (cond found (some (record { cost = c; path = p })) none)
 best-by true c p = (refl, refl)
@@ -74,27 +71,27 @@ better k g x = record { count = x .count; marks = x .marks; improved = true; pro
 
 module _ (k g : ℕ) (x : Round) where
   pub best-cheapest : g ≤ x .progress .low → x .progress .low ≤ g → NewBest k g x (record { round = better k g x; next = N.Over (E.Decided W.Cheapest) })
-  unfolding newBest improvedBy routeTo roundOf progressOf bestOf resultOf endingOf verdictOf costsOf
-  best-cheapest a b = record { count = refl; steps = refl; round-same = refl; inside = λ w limit j. tt {0}; same = λ rule M kept plan plan′ path n e p. rw (e, p, le-leb g (x .progress .low) a, le-leb (x .progress .low) g b) }
+  unfolding newBest improvedBy routeTo roundOf progressOf bestOf resultOf endingOf verdictOf
+  best-cheapest a b = record { count = refl; steps = refl; round-same = refl; inside = λ w limit j. tt {0}; same = λ bytes kept plan plan′ path n e p. rw (e, p, cost-order bytes g (x .progress .low), cost-order bytes (x .progress .low) g, le-leb g (x .progress .low) a, le-leb (x .progress .low) g b) }
 
   pub best-contradicted : g ≤ x .progress .low → g < x .progress .low → NewBest k g x (record { round = better k g x; next = N.Over (E.Decided W.Contradicted) })
-  unfolding newBest improvedBy routeTo roundOf progressOf bestOf resultOf endingOf verdictOf costsOf
-  best-contradicted a b = record { count = refl; steps = refl; round-same = refl; inside = λ w limit j. tt {0}; same = λ rule M kept plan plan′ path n e p. rw (e, p, le-leb g (x .progress .low) a, lt-leb (x .progress .low) g b) }
+  unfolding newBest improvedBy routeTo roundOf progressOf bestOf resultOf endingOf verdictOf
+  best-contradicted a b = record { count = refl; steps = refl; round-same = refl; inside = λ w limit j. tt {0}; same = λ bytes kept plan plan′ path n e p. rw (e, p, cost-order bytes g (x .progress .low), cost-order bytes (x .progress .low) g, le-leb g (x .progress .low) a, lt-leb (x .progress .low) g b) }
 
   pub best-on : x .progress .low < g → NewBest k g x (record { round = better k g x; next = N.On })
-  unfolding newBest improvedBy routeTo roundOf progressOf bestOf resultOf costsOf
-  best-on a = record { count = refl; steps = refl; round-same = refl; inside = λ w limit j. tt {0}; same = λ rule M kept plan plan′ path n e p. rw (e, p, lt-leb g (x .progress .low) a) }
+  unfolding newBest improvedBy routeTo roundOf progressOf bestOf resultOf
+  best-on a = record { count = refl; steps = refl; round-same = refl; inside = λ w limit j. tt {0}; same = λ bytes kept plan plan′ path n e p. rw (e, p, cost-order bytes g (x .progress .low), lt-leb g (x .progress .low) a) }
 
 -- ---- rule 3: at the limit, counting, and the answer of an expansion
 
 pub limited : (f : ℕ) (x : Round) (t : Bool) → t ≡ (x .marks .length || belowCost (x .progress .best .found) (x .progress .best .cost) f)
     → Limited f x (record { count = x .count; marks = record { width = x .marks .width; length = t }; improved = x .improved; progress = x .progress })
 unfolding atLimit roundOf progressOf
-limited f x t e = record { count = refl; steps = refl; round-same = refl; same = λ rule M kept plan n q. rw (e, q, below-best-is rule M plan (x .progress .best) f) }
+limited f x t e = record { count = refl; steps = refl; round-same = refl; same = λ bytes kept plan n q. rw (e, q, below-best-is bytes plan (x .progress .best) f) }
 
 pub counted-one : (x : Round) (t : Tally) → t ≡ oneMore (x .progress .tally) → Counted x (record { count = x .count; marks = x .marks; improved = x .improved; progress = record { best = x .progress .best; low = x .progress .low; tally = t } })
 unfolding counted roundOf progressOf
-counted-one x t e = rw e (record { best = refl; round-same = refl; same = λ rule M kept plan. rw (add-one (x .progress .tally .expansions)) })
+counted-one x t e = rw e (record { best = refl; round-same = refl; same = λ bytes kept plan. rw (add-one (x .progress .tally .expansions)) })
 
 module _ (g i : ℕ) (z : Expanded) (x : Round) (t : Bool) (m : t ≡ (x .marks .width || z .cut)) where
   abbrev after : Round
@@ -115,8 +112,8 @@ module _ (g i : ℕ) (z : Expanded) (x : Round) (t : Bool) (m : t ≡ (x .marks 
 -- ---- rule 2: a base state
 
 module _ (words plan : List ℕ) (w k i g : ℕ) (x : Round) where
-  test : (rule : Rule) (M : System State ℕ) (n : Node State ℕ) → n .g ≡ g → {t : Bool} → t ≡ belowCost (x .progress .best .found) (x .progress .best .cost) g → belowBest (costsOf rule) M (n .g) (bestOf plan (x .progress .best)) ≡ t
-  test rule M n p b = below-best-is rule M plan (x .progress .best) (n .g) ∙ ap (belowCost (x .progress .best .found) (x .progress .best .cost)) p ∙ sym b
+  test : (bytes : List ℕ) (n : Node State ℕ) → n .g ≡ g → {t : Bool} → t ≡ belowCost (x .progress .best .found) (x .progress .best .cost) g → belowBest (costsIn bytes) (systemIn bytes) (n .g) (bestOf plan (x .progress .best)) ≡ t
+  test bytes n p b = below-best-is bytes plan (x .progress .best) (n .g) ∙ ap (belowCost (x .progress .best .found) (x .progress .best .cost)) p ∙ sym b
 
   pub reached-best : (plan′ : List ℕ) (y : Visited) → true ≡ belowCost (x .progress .best .found) (x .progress .best .cost) g → take k plan′ ≡ reverse (pathBy words w k i) → NewBest k g x y → Reached words plan plan′ w k i g x y
   unfolding reached roundOf progressOf
@@ -126,9 +123,9 @@ module _ (words plan : List ℕ) (w k i g : ℕ) (x : Round) where
         steps = λ limit a o. omega (arith, h .steps);
         round-same = h .round-same;
         inside = h .inside;
-        same = λ rule M kept n p q.
-            rw (test rule M n p b)
-            (h .same rule M kept plan plan′ (pathBy words w k) n p (q ∙ sym (ap reverse e ∙ reverse-reverse (pathBy words w k i))));
+        same = λ bytes kept n p q.
+            rw (test bytes n p b)
+            (h .same bytes kept plan plan′ (pathBy words w k) n p (q ∙ sym (ap reverse e ∙ reverse-reverse (pathBy words w k i))));
       }
 
   pub reached-worse : false ≡ belowCost (x .progress .best .found) (x .progress .best .cost) g → Reached words plan plan w k i g x (record { round = x; next = N.On })
@@ -139,7 +136,7 @@ module _ (words plan : List ℕ) (w k i g : ℕ) (x : Round) where
         steps = λ limit a o. o;
         round-same = refl;
         inside = λ v limit j. tt {0};
-        same = λ rule M kept n p q. rw (test rule M n p b);
+        same = λ bytes kept n p q. rw (test bytes n p b);
       }
 
 -- ---- the working words
@@ -152,11 +149,11 @@ room {outline} {w} {n} words h = omega (arith, h .long, width-positive h, length
 
 module _ (bytes outline words node : List ℕ) (w limit k i : ℕ) (x : Round) (m : Met bytes outline words node w limit k i x) where
   abbrev here : Node State ℕ
-  here = nodeAt (modelOf bytes .variables) (pathBy words w k) i node
+  here = nodeAt bytes (pathBy words w k) i node
 
   -- the words stay, and so many nodes are in the making
   stays : (plan plan′ : List ℕ) (y : Visited) (rule : S.Round State ℕ → Result (S.Round State ℕ) ℕ) → y .round .count ≡ x .count → y .round .progress .best .length ≤ limit → roundBegun (y .round .progress) ≡ roundBegun (x .progress) → Inside w limit k (y .next)
-      → rule (roundIn bytes words plan w k x) ≡ resultOf (pathBy words w k) (y .next) (roundOf (nodesOf w (nextOf w words) (modelOf bytes .variables) (pathBy words w k) (x .count)) plan′ (y .round))
+      → rule (roundIn bytes words plan w k x) ≡ resultOf (pathBy words w k) (y .next) (roundOf (nodesOf w (nextOf w words) bytes (pathBy words w k) (x .count)) plan′ (y .round))
       → Leaves bytes outline words words plan plan′ w limit k x y rule
   unfolding roundOf
   stays plan plan′ y rule n b o s e = record { held = rw n (m .held); best-fits = b; round-same = o; inside = s; current = refl; rows = refl; same = rw n e }
@@ -168,7 +165,7 @@ module _ (bytes outline words node : List ℕ) (w limit k i : ℕ) (x : Round) (
       let z : limit - k ≡ 0 = omega arith in
       record {
         leaves = λ plan. stays plan plan (record { round = x′; next = N.On }) (advance (costsIn bytes) (systemIn bytes) budget w (limit - k) here) (h .count) (omega (arith, h .steps, m .best-fits)) (h .round-same) (tt {0})
-            (rw z (ap on (h .same (modelOf bytes .rule) (systemIn bytes) (nodesOf w (nextOf w words) (modelOf bytes .variables) (pathBy words w k) (x .count)) plan here refl)));
+            (rw z (ap on (h .same bytes (nodesOf w (nextOf w words) bytes (pathBy words w k) (x .count)) plan here refl)));
       }
 
   -- rule 3: the budget is used up
@@ -202,10 +199,10 @@ module _ (bytes outline words node : List ℕ) (w limit k i : ℕ) (x : Round) (
       path = pathBy words w k
 
       abbrev kept : List (Node State ℕ)
-      kept = nodesOf w (nextOf w words) (modelOf bytes .variables) path (x .count)
+      kept = nodesOf w (nextOf w words) bytes path (x .count)
 
       abbrev kept′ : List (Node State ℕ)
-      kept′ = nodesOf w ys (modelOf bytes .variables) path (z .count)
+      kept′ = nodesOf w ys bytes path (z .count)
 
       inside-it : nextOf w words′ ≡ ys
       inside-it = put-in (20 * w) (46 * w) words ys (omega arith) (room words (m .held)) l
@@ -220,7 +217,7 @@ module _ (bytes outline words node : List ℕ) (w limit k i : ℕ) (x : Round) (
       unfolding counted roundOf progressOf nodeAt
       grown plan =
           grows .same path (counted (costsIn bytes) (systemIn bytes) (roundOf kept plan x)) refl (best-is plan (x .progress .best))
-          ∙ ap (λ (r : S.Round State ℕ). trialResult (z .trial) here (roundWith kept′ (z .cut) r)) (one .same (modelOf bytes .rule) (systemIn bytes) kept plan)
+          ∙ ap (λ (r : S.Round State ℕ). trialResult (z .trial) here (roundWith kept′ (z .cut) r)) (one .same bytes kept plan)
           ∙ told .same kept kept′ plan path here refl refl
 
       pub grown-leaves : Keeps bytes outline words words′ w limit k x y (λ q. expand (costsIn bytes) (systemIn bytes) w (systemIn bytes .transitions) 0 here (counted (costsIn bytes) (systemIn bytes) q))
@@ -248,7 +245,7 @@ module _ (bytes outline words node : List ℕ) (w limit k i : ℕ) (x : Round) (
   unfolding visit nodeAt
   base-leaves budget plan plan′ y e h =
       stays plan plan′ y (rest budget) (h .count) (h .steps limit (m .depth) (m .best-fits)) (h .round-same) (h .inside w limit k)
-      (rw (is-base _ (sym e)) (h .same (modelOf bytes .rule) (systemIn bytes) (nodesOf w (nextOf w words) (modelOf bytes .variables) (pathBy words w k) (x .count)) here refl refl))
+      (rw (is-base _ (sym e)) (h .same bytes (nodesOf w (nextOf w words) bytes (pathBy words w k) (x .count)) here refl refl))
 
   pub advance-leaves : (budget : ℕ) (words′ plan : List ℕ) (y : Visited) → A.Unfinished ≡ statusAnswer (systemIn bytes .status (stateIn bytes (take 16 node)))
       → Keeps bytes outline words words′ w limit k x y (advance (costsIn bytes) (systemIn bytes) budget w (limit - k) here) → Leaves bytes outline words words′ plan plan w limit k x y (rest budget)
@@ -268,14 +265,14 @@ traced words plan plan′ w k i e = ap (take k) e ∙ take-at (reverse (pathBy w
 
 -- ---- the node in slot i
 
-module _ (vs : List Variable) (path : ℕ → List ℕ) (words : List ℕ) where
+module _ (bytes : List ℕ) (path : ℕ → List ℕ) (words : List ℕ) where
   -- what holds of n nodes from slot j on
-  pub all-from : (P : Node State ℕ → Type 0) (n j i : ℕ) → j ≤ i → i < j + n → All P (nodesFrom vs path words n j) → P (nodeAt vs path i (wordsIn words i))
+  pub all-from : (P : Node State ℕ → Type 0) (n j i : ℕ) → j ≤ i → i < j + n → All P (nodesFrom bytes path words n j) → P (nodeAt bytes path i (wordsIn words i))
   unfolding nodesFrom
   all-from P zero j i lo hi a = absurd (omega arith)
   all-from P (suc n) j i lo hi a = by-place (decLt j i) (λ h. all-from P n (suc j) i h (omega arith) (a .1))
     where
-      by-place : Dec (j < i) → (j < i → P (nodeAt vs path i (wordsIn words i))) → P (nodeAt vs path i (wordsIn words i))
+      by-place : Dec (j < i) → (j < i → P (nodeAt bytes path i (wordsIn words i))) → P (nodeAt bytes path i (wordsIn words i))
       by-place (yes h) later = later h
       by-place (no h) later =
           let z : i ≡ j = omega arith in
@@ -292,7 +289,7 @@ module _ {bytes outline words plan : List ℕ} {w limit k n : ℕ} {x : Round} (
   slot-small : getD (wordsIn words i) gAt 0 < 2 ^ 63
   unfolding nodeAt
   slot-small =
-      let s : getD (wordsIn words i) gAt 0 ≤ k * rangeEnd = all-from (modelOf bytes .variables) (pathBy words w k) words (Within k) n 0 i (omega arith) (omega arith) (r .costs) in
+      let s : getD (wordsIn words i) gAt 0 ≤ k * rangeEnd = all-from bytes (pathBy words w k) words (Within k) n 0 i (omega arith) (omega arith) (r .costs) in
       omega (arith, s, r .depth, r .few-steps)
 
   pub met-at : (node : List ℕ) → node ≡ wordsIn words i → Met bytes outline words node w limit k i x
@@ -310,7 +307,7 @@ module _ {bytes outline words plan : List ℕ} {w limit k n : ℕ} {x : Round} (
       }
 
 pub visited-at : (bytes outline words words′ plan plan′ : List ℕ) (w budget limit k i : ℕ) (x : Round) (y : Visited) (node : List ℕ) → node ≡ wordsIn words i
-    → Leaves bytes outline words words′ plan plan′ w limit k x y (visit (costsIn bytes) (systemIn bytes) budget w (limit - k) (systemIn bytes .status (nodeAt (modelOf bytes .variables) (pathBy words w k) i node .state)) (nodeAt (modelOf bytes .variables) (pathBy words w k) i node))
-    → Leaves bytes outline words words′ plan plan′ w limit k x y (visit (costsIn bytes) (systemIn bytes) budget w (limit - k) (systemIn bytes .status (nodeAt (modelOf bytes .variables) (pathBy words w k) i (wordsIn words i) .state)) (nodeAt (modelOf bytes .variables) (pathBy words w k) i (wordsIn words i)))
+    → Leaves bytes outline words words′ plan plan′ w limit k x y (visit (costsIn bytes) (systemIn bytes) budget w (limit - k) (systemIn bytes .status (nodeAt bytes (pathBy words w k) i node .state)) (nodeAt bytes (pathBy words w k) i node))
+    → Leaves bytes outline words words′ plan plan′ w limit k x y (visit (costsIn bytes) (systemIn bytes) budget w (limit - k) (systemIn bytes .status (nodeAt bytes (pathBy words w k) i (wordsIn words i) .state)) (nodeAt bytes (pathBy words w k) i (wordsIn words i)))
 visited-at bytes outline words words′ plan plan′ w budget limit k i x y node e l =
-    subst (λ (s : List ℕ). Leaves bytes outline words words′ plan plan′ w limit k x y (visit (costsIn bytes) (systemIn bytes) budget w (limit - k) (systemIn bytes .status (nodeAt (modelOf bytes .variables) (pathBy words w k) i s .state)) (nodeAt (modelOf bytes .variables) (pathBy words w k) i s))) e l
+    subst (λ (s : List ℕ). Leaves bytes outline words words′ plan plan′ w limit k x y (visit (costsIn bytes) (systemIn bytes) budget w (limit - k) (systemIn bytes .status (nodeAt bytes (pathBy words w k) i s .state)) (nodeAt bytes (pathBy words w k) i s))) e l

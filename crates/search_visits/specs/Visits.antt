@@ -4,14 +4,12 @@ use mathlib.Core.Path.{_≡_}
 use mathlib.Core.List.{List, reverse}
 use lib.ListN.{length, take, getD}
 use Rattle.model.specs.Numbers.{mostSteps}
-use Rattle.model.specs.System.{System}
-use Rattle.model.specs.Syntax.{Rule}
 use Rattle.model.specs.Meaning.{State}
-use Rattle.model.specs.Steps.{costsOf}
 use Rattle.search.specs.Search.{Node, Result, newBest, reached, atLimit, counted}
 use Rattle.search.specs.Search as S
 use Rattle.beam_order.specs.Slots.{slotWords, gAt}
-use Rattle.steps.specs.InBytes.{Outlined}
+use Rattle.steps.specs.InBytes.{Outlined, systemIn}
+use Rattle.steps.specs.Follow.{costsIn}
 use Rattle.beam.specs.Layers.{Indexed, roundWith}
 use Rattle.search_expansion.specs.Expansion.{trialResult, Numbered}
 use Rattle.search_paths.specs.Routes.{pathBy, nextOf}
@@ -26,8 +24,8 @@ pub record NewBest (k g : ℕ) (x : Round) (y : Visited) : Type 0 where
   pub steps : y .round .progress .best .length ≡ k
   pub round-same : roundBegun (y .round .progress) ≡ roundBegun (x .progress)
   pub inside : (w limit j : ℕ) → Inside w limit j (y .next)
-  pub same : (rule : Rule) (M : System State ℕ) (kept : List (Node State ℕ)) (plan plan′ : List ℕ) (path : ℕ → List ℕ) (n : Node State ℕ) → n .g ≡ g → n .path ≡ reverse (take k plan′)
-      → newBest (costsOf rule) M n (roundOf kept plan x) ≡ resultOf path (y .next) (roundOf kept plan′ (y .round))
+  pub same : (bytes : List ℕ) (kept : List (Node State ℕ)) (plan plan′ : List ℕ) (path : ℕ → List ℕ) (n : Node State ℕ) → n .g ≡ g → n .path ≡ reverse (take k plan′)
+      → newBest (costsIn bytes) (systemIn bytes) n (roundOf kept plan x) ≡ resultOf path (y .next) (roundOf kept plan′ (y .round))
 
 -- the node in slot i of layer k is a base state, and its g is known
 pub record Reached (words plan plan′ : List ℕ) (w k i g : ℕ) (x : Round) (y : Visited) : Type 0 where
@@ -35,21 +33,21 @@ pub record Reached (words plan plan′ : List ℕ) (w k i g : ℕ) (x : Round) (
   pub steps : (limit : ℕ) → k ≤ limit → x .progress .best .length ≤ limit → y .round .progress .best .length ≤ limit
   pub round-same : roundBegun (y .round .progress) ≡ roundBegun (x .progress)
   pub inside : (v limit j : ℕ) → Inside v limit j (y .next)
-  pub same : (rule : Rule) (M : System State ℕ) (kept : List (Node State ℕ)) (n : Node State ℕ) → n .g ≡ g → n .path ≡ pathBy words w k i
-      → reached (costsOf rule) M n (roundOf kept plan x) ≡ resultOf (pathBy words w k) (y .next) (roundOf kept plan′ (y .round))
+  pub same : (bytes : List ℕ) (kept : List (Node State ℕ)) (n : Node State ℕ) → n .g ≡ g → n .path ≡ pathBy words w k i
+      → reached (costsIn bytes) (systemIn bytes) n (roundOf kept plan x) ≡ resultOf (pathBy words w k) (y .next) (roundOf kept plan′ (y .round))
 
 -- a node with this f is not expanded
 pub record Limited (f : ℕ) (x y : Round) : Type 0 where
   pub count : y .count ≡ x .count
   pub steps : y .progress .best .length ≡ x .progress .best .length
   pub round-same : roundBegun (y .progress) ≡ roundBegun (x .progress)
-  pub same : (rule : Rule) (M : System State ℕ) (kept : List (Node State ℕ)) (plan : List ℕ) (n : Node State ℕ) → n .f ≡ f → atLimit (costsOf rule) M n (roundOf kept plan x) ≡ roundOf kept plan y
+  pub same : (bytes : List ℕ) (kept : List (Node State ℕ)) (plan : List ℕ) (n : Node State ℕ) → n .f ≡ f → atLimit (costsIn bytes) (systemIn bytes) n (roundOf kept plan x) ≡ roundOf kept plan y
 
 -- an expansion counts
 pub record Counted (x y : Round) : Type 0 where
   pub best : y .progress .best ≡ x .progress .best
   pub round-same : roundBegun (y .progress) ≡ roundBegun (x .progress)
-  pub same : (rule : Rule) (M : System State ℕ) (kept : List (Node State ℕ)) (plan : List ℕ) → counted (costsOf rule) M (roundOf kept plan x) ≡ roundOf kept plan y
+  pub same : (bytes : List ℕ) (kept : List (Node State ℕ)) (plan : List ℕ) → counted (costsIn bytes) (systemIn bytes) (roundOf kept plan x) ≡ roundOf kept plan y
 
 -- an expansion of the node in slot i, with its g, has answered z. kept: the nodes of the layer in the making then
 pub record Told (g i : ℕ) (z : Expanded) (x : Round) (y : Visited) : Type 0 where

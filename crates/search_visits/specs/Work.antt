@@ -11,7 +11,6 @@ use Rattle.model.specs.Meaning.{State}
 use Rattle.search.specs.Answer as A
 use Rattle.search.specs.Search.{Node, Route, Result, on, over, decided, refused}
 use Rattle.search.specs.Search as S
-use Rattle.outline.specs.Outline.{modelOf}
 use Rattle.steps.specs.InBytes.{Outlined, systemIn}
 use Rattle.steps.specs.Follow.{costsIn}
 use Rattle.beam.specs.Nodes.{nodeAt}
@@ -63,11 +62,11 @@ roundBegun p = (p .tally .rounds, p .tally .width)
 
 -- the round that the working words and the code's record stand for, in layer k of a round of width w
 abbrev pub roundIn : (bytes words plan : List ℕ) (w k : ℕ) → Round → S.Round State ℕ
-roundIn bytes words plan w k x = roundOf (nodesOf w (nextOf w words) (modelOf bytes .variables) (pathBy words w k) (x .count)) plan x
+roundIn bytes words plan w k x = roundOf (nodesOf w (nextOf w words) bytes (pathBy words w k) (x .count)) plan x
 
 -- the node with these words, in slot i of layer k
 abbrev pub nodeIn : (bytes words : List ℕ) (w k i : ℕ) (node : List ℕ) → Node State ℕ
-nodeIn bytes words w k i node = nodeAt (modelOf bytes .variables) (pathBy words w k) i node
+nodeIn bytes words w k i node = nodeAt bytes (pathBy words w k) i node
 
 -- rules 2 to 4 in the model that stands in the bytes, `left` being the steps left to the limit: an expansion, which counts from its
 -- start; an unfinished state; any state; the nodes of a layer

@@ -24,24 +24,26 @@ use Rattle.model.proofs.Costs.{cost-laws}
 use Rattle.model.proofs.Reading.{model-refusal}
 use Rattle.outline.specs.Outline.{modelOf, readModel, refusalOf}
 use Rattle.search.specs.Answer as A
-use Rattle.search.specs.Answer.{bufferAfter}
+use Rattle.search.specs.Answer.{byInput, bufferAfter}
 use Rattle.search.specs.Search as S
-use Rattle.search.specs.Search.{root, search, begin, answer, answerOf}
+use Rattle.search.specs.Search.{root, search, searchWithin, begin, answer, answerOf}
+use Rattle.search.specs.Demands.{Demands}
 use Rattle.search.specs.Run.{widerWidths, isWidth, widerUpTo, settingsFit, wordsNeeded, lentFits, refusedByInput, searchModel, runRead, run}
 use Rattle.search.proofs.Counts.{never-by-input}
-use Rattle.search.proofs.Mission.{run-guarantee}
+use Rattle.search.proofs.Mission.{run-meets-demands, steps-fit-buffer, refusal-changes-no-buffer}
 use Rattle.steps.specs.InBytes.{systemIn, stateIn}
 use Rattle.steps.specs.Follow.{costsIn}
 use Rattle.steps.specs.Answers.{boundAnswer}
 use Rattle.steps.specs.declared.answers.BoundAnswer.{BoundAnswer}
 use Rattle.steps.specs.declared.answers.BoundAnswer.the-variants as B
 use Rattle.search_runs.specs.Runs.{Runs}
-use Rattle.search_report.specs.Answers.{AnswerIs, stopAnswer, Reports}
-use Rattle.solver.specs.Searches.{SearchSays, settings, lentOf, lent, runOf, BuffersAre, Guaranteed}
+use Rattle.search_report.specs.Answers.{AnswerIs, stopAnswer, Reports, numbersOf}
+use Rattle.solver.specs.Searches.{SearchSays, settings, lentOf, lent, runOf, Searched}
 use Rattle.search_report.specs.Reported.{RefusesStart}
 use Rattle.search_report.specs.declared.answers.Answer.{Answer}
 use Rattle.search_runs.specs.declared.Stop.{Stop}
 use Rattle.search_report.proofs.Reporting.{answer-same}
+use Rattle.search_report.proofs.Numbers.{in-numbers, read-back}
 
 -- ---- the widths
 
@@ -174,12 +176,12 @@ module _ (bytes : List ℕ) (widest limit budget : ℕ) where
 
   with-bound : (h : ℕ) → systemIn bytes .bound (target (modelOf bytes)) ≡ value h
       → searched ≡ S.rounds (costsIn bytes) (systemIn bytes) (suc budget) budget limit 1 (widerUpTo widest) 1 (root (costsIn bytes) (systemIn bytes) (originOf (modelOf bytes)) h) (record { best = none; low = h; expansions = 0 })
-  unfolding search begin originOf
+  unfolding search searchWithin begin originOf
   with-bound h e = rw (e, nothing-spent h)
 
   without-bound : (t : ℕ) → systemIn bytes .bound (target (modelOf bytes)) ≡ trouble t
       → searched ≡ answerOf (costsIn bytes) (systemIn bytes) (S.refused t (record { cost = 0; path = [] })) 1 1 (record { best = none; low = 0; expansions = 0 })
-  unfolding search begin originOf answer costsOf
+  unfolding search searchWithin begin originOf answer costsOf
   without-bound t e = rw e
 
   module _ (plan plan′ : List ℕ) (x : Answer) where
@@ -196,11 +198,27 @@ module _ (bytes : List ℕ) (widest limit budget : ℕ) where
 
 -- ---- the run, test by test
 
-pub refused-says : (a : A.Answer ℕ) (t : ℕ) (plan words : List ℕ) (x : Answer) → a ≡ refusedByInput t → AnswerIs (refusedByInput t) x → AnswerIs a x × BuffersAre a plan plan words words
-unfolding refusedByInput bufferAfter
-refused-says a t plan words x e h = (answer-same x e h, record { plan-after = rw e; words-kept = λ u f. refl })
-
 module _ (most : ℕ) (bytes plan words : List ℕ) (w l b : ℕ) where
+  -- what the code has shown of an answer, with what is known of every run
+  told : (plan′ words′ : List ℕ) (x : Answer) → AnswerIs (runOf most bytes plan words w l b) x → plan′ ≡ bufferAfter (runOf most bytes plan words w l b) plan
+      → ((t : ℕ) → runOf most bytes plan words w l b .outcome ≡ byInput t → words′ ≡ words) → Searched most bytes plan plan′ words words′ w l b (numbersOf x)
+  told plan′ words′ x is after kept =
+      let q = settings w l b in
+      let meets = run-meets-demands most bytes q (lent plan words) in
+      let fields = in-numbers (runOf most bytes plan words w l b) x is in
+      let same = read-back (runOf most bytes plan words w l b) (numbersOf x) plan plan′ (meets .ends) (steps-fit-buffer most bytes q (lent plan words)) fields after in
+      let outcome = ap (λ (a : A.Answer ℕ). a .outcome) same in
+      record {
+        fields = fields;
+        plan-after = after;
+        kept = λ t e. (after ∙ refusal-changes-no-buffer most bytes q (lent plan words) plan (sym outcome ∙ e), kept t (sym outcome ∙ e));
+        demands = subst (Demands bytes q) (sym same) meets;
+      }
+
+  pub refused-says : (t : ℕ) (x : Answer) → runOf most bytes plan words w l b ≡ refusedByInput t → AnswerIs (refusedByInput t) x → Searched most bytes plan plan words words w l b (numbersOf x)
+  unfolding refusedByInput bufferAfter
+  refused-says t x e h = told plan words x (answer-same x e h) (rw e) (λ u f. refl)
+
   pub run-long : most < length bytes → runOf most bytes plan words w l b ≡ refusedByInput 1
   unfolding run
   run-long h = rw (lt-ltb most (length bytes) h)
@@ -243,15 +261,8 @@ module _ (most : ℕ) (bytes plan words : List ℕ) (w l b : ℕ) where
         run-read e = run-within ∙ read-well (model bytes) refl (sym e)
 
         pub run-says : 0 ≡ refusalOf (model bytes) → (plan′ words′ : List ℕ) (x : Answer) → SearchSays bytes plan plan′ w l b x
-            → AnswerIs (runOf most bytes plan words w l b) x × BuffersAre (runOf most bytes plan words w l b) plan plan′ words words′
+            → Searched most bytes plan plan′ words words′ w l b (numbersOf x)
         run-says e plan′ words′ x says =
-            let same = run-read e in (
-              answer-same x same (says .answer),
-              record {
-                plan-after = says .plan-after ∙ ap (λ (a : A.Answer ℕ). bufferAfter a plan) (sym same);
-                words-kept = λ t f. absurd (never-by-input (costsIn bytes) (systemIn bytes) (originOf (modelOf bytes)) b l 1 (widerUpTo w) t (ap (λ (a : A.Answer ℕ). a .outcome) (sym same) ∙ f));
-              },
-            )
-
-pub guaranteed : (most : ℕ) (bytes plan words : List ℕ) (w l b : ℕ) → Guaranteed bytes w l (runOf most bytes plan words w l b)
-guaranteed most bytes plan words w l b = λ m n e. run-guarantee most bytes (settings w l b) (lent plan words) m n e
+            let same = run-read e in
+            told plan′ words′ x (answer-same x same (says .answer)) (says .plan-after ∙ ap (λ (a : A.Answer ℕ). bufferAfter a plan) (sym same))
+            (λ t f. absurd (never-by-input (costsIn bytes) (systemIn bytes) (originOf (modelOf bytes)) b l 1 (widerUpTo w) t (ap (λ (a : A.Answer ℕ). a .outcome) (sym same) ∙ f)))

@@ -3,12 +3,12 @@
 ghost use mathlib.Core.Path.{_≡_};
 ghost use Rattle.search.specs.Answer.{handedBack};
 
-// The first part of the caller's own buffer, where the plan stands; the empty part where the length is beyond the buffer.
-pub fn plan_part(plan: &mut [u8], length: usize) -> &mut [u8]
-    ensures { λ r. ⌜ now r ≡ handedBack length (now (plan .entry)) ⌝ }
+// The first part of the caller's own buffer, where the plan stands; the empty part where that is beyond the buffer.
+pub fn plan_part(plan: &mut [u8], steps: usize) -> &mut [u8]
+    ensures { λ r. ⌜ now r ≡ handedBack steps (now (plan .entry)) ⌝ }
 {
-    if length <= plan.len() {
-        &mut plan[..length]
+    if steps <= plan.len() {
+        &mut plan[..steps]
     } else {
         &mut plan[..0]
     }

@@ -6,8 +6,8 @@ ghost use Prim.Native.Nat.{_≤_, _<_, _^_};
 ghost use Rattle.search.specs.Run.{isWidth, settingsFit, lentFits, refusedByInput};
 ghost use Rattle.steps.specs.InBytes.{Outlined};
 ghost use Rattle.search_rounds.specs.Rounds.{RoomFor};
-ghost use Rattle.search_report.specs.Answers.{AnswerIs};
-ghost use Rattle.solver.specs.Searches.{BuffersAre, Guaranteed, settings, lentOf, runOf, SearchSays};
+ghost use Rattle.search_report.specs.Answers.{AnswerIs, numbersOf};
+ghost use Rattle.solver.specs.Searches.{Searched, settings, lentOf, SearchSays};
 ghost use Rattle.search_report.specs.Reported.{RefusesStart};
 use read_model::read_model;
 use search_report::answers::Answer;
@@ -15,6 +15,7 @@ use search_report::answers::Outcome;
 use search_report::report::report;
 use search_runs::rounds;
 use search_tally::Tally;
+use search_tally::begun;
 use steps::answers::BoundAnswer;
 use steps::bounds::bound;
 use steps::states::start;
@@ -51,17 +52,19 @@ fn search_model(
 fn refusal_at_start(number: u8) -> Answer
     ensures { λ r. ⌜ RefusesStart number r ⌝ }
 {
+    let fresh = Tally {
+        expansions: 0,
+        rounds: 0,
+        width: 0,
+    };
+    let tally = begun(fresh, 1);
     Answer {
         outcome: Outcome::ByState(number),
         flag: false,
         cost: 0,
         bound: 0,
         length: 0,
-        tally: Tally {
-            expansions: 0,
-            rounds: 1,
-            width: 1,
-        },
+        tally: tally,
     }
 }
 
@@ -97,28 +100,28 @@ fn is_width(width: u32) -> bool
     false
 }
 
-// Whether the widest beam and the length are within their limits.
-fn settings_fit(width: u32, length: u32) -> bool
-    ensures { λ r. ⌜ r ≡ settingsFit (settings width length 0) ⌝ }
+// Whether the widest beam and the length limit are within their ranges.
+fn settings_fit(width: u32, limit: u32) -> bool
+    ensures { λ r. ⌜ r ≡ settingsFit (settings width limit 0) ⌝ }
 {
-    if length < 1 {
+    if limit < 1 {
         return false;
     }
-    if 256 < length {
+    if 256 < limit {
         return false;
     }
     is_width(width)
 }
 
 // Whether the caller lends enough: plan bytes, and working words.
-fn lent_fits(width: usize, length: usize, bytes: usize, words: usize) -> bool
-    requires { ⌜ (width ≤ 4096) × (length ≤ 256) ⌝ }
-    ensures { λ r. ⌜ r ≡ lentFits (settings width length 0) (lentOf bytes words) ⌝ }
+fn lent_fits(width: usize, limit: usize, bytes: usize, words: usize) -> bool
+    requires { ⌜ (width ≤ 4096) × (limit ≤ 256) ⌝ }
+    ensures { λ r. ⌜ r ≡ lentFits (settings width limit 0) (lentOf bytes words) ⌝ }
 {
-    if bytes < length {
+    if bytes < limit {
         return false;
     }
-    64 * width + width * (length + 1) <= words
+    64 * width + width * (limit + 1) <= words
 }
 
 // The search of a model of at most so many bytes.
@@ -126,21 +129,20 @@ pub fn search_up_to(
     most: usize,
     model: &[u8],
     width: u32,
-    length: u32,
+    limit: u32,
     budget: u32,
     plan: &mut [u8],
     words: &mut [u64],
 ) -> Answer
     requires { ⌜ most ≤ 65536 ⌝ }
-    ensures answer { λ r. ⌜ AnswerIs (runOf most (now (model .entry)) (now (plan .entry)) (now (words .entry)) width length budget) r ⌝ }
-    ensures buffers { λ r. ⌜ BuffersAre (runOf most (now (model .entry)) (now (plan .entry)) (now (words .entry)) width length budget) (now (plan .entry)) (now (plan .exit)) (now (words .entry)) (now (words .exit)) ⌝ }
+    ensures { λ r. ⌜ Searched most (now (model .entry)) (now (plan .entry)) (now (plan .exit)) (now (words .entry)) (now (words .exit)) width limit budget (numbersOf r) ⌝ }
 {
     if most < model.len() {
         return refusal(1);
     }
-    if settings_fit(width, length) {
+    if settings_fit(width, limit) {
         let w = width as usize;
-        let l = length as usize;
+        let l = limit as usize;
         if lent_fits(w, l, plan.len(), words.len()) {
             let mut outline = [0u64; 424];
             let number = read_model(model, &mut outline);
@@ -158,14 +160,12 @@ pub fn search_up_to(
 pub fn search(
     model: &[u8],
     width: u32,
-    length: u32,
+    limit: u32,
     budget: u32,
     plan: &mut [u8],
     words: &mut [u64],
 ) -> Answer
-    ensures answer { λ r. ⌜ AnswerIs (runOf 65536 (now (model .entry)) (now (plan .entry)) (now (words .entry)) width length budget) r ⌝ }
-    ensures buffers { λ r. ⌜ BuffersAre (runOf 65536 (now (model .entry)) (now (plan .entry)) (now (words .entry)) width length budget) (now (plan .entry)) (now (plan .exit)) (now (words .entry)) (now (words .exit)) ⌝ }
-    ensures guaranteed { λ r. ⌜ Guaranteed (now (model .entry)) width length (runOf 65536 (now (model .entry)) (now (plan .entry)) (now (words .entry)) width length budget) ⌝ }
+    ensures { λ r. ⌜ Searched 65536 (now (model .entry)) (now (plan .entry)) (now (plan .exit)) (now (words .entry)) (now (words .exit)) width limit budget (numbersOf r) ⌝ }
 {
-    search_up_to(65536, model, width, length, budget, plan, words)
+    search_up_to(65536, model, width, limit, budget, plan, words)
 }

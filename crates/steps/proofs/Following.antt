@@ -16,8 +16,6 @@ use Rattle.model.specs.Syntax.{Rule, sum, largest}
 use Rattle.model.specs.Meaning.{State}
 use Rattle.model.specs.Steps.{target, combine, costsOf, systemOf, move, moveBy}
 use Rattle.model.specs.Check.{final, afterMove, afterStatus, follow, answerNumber, answerCost}
-use Rattle.model.proofs.Costs.{combine-at-most-sum}
-use Rattle.model.proofs.Ranges.{step-cost-below}
 use Rattle.outline.specs.Outline.{modelOf, ruleNumber}
 use Rattle.steps.specs.declared.answers.StatusAnswer.the-variants as S
 use Rattle.steps.specs.declared.answers.MoveAnswer.{MoveAnswer}
@@ -30,6 +28,7 @@ use Rattle.steps.specs.Answers.{statusAnswer, moveAnswer}
 use Rattle.steps.specs.Says.{MoveSays}
 use Rattle.steps.specs.Follow.{costsIn, followIn, stepTried, finished, FollowsOn, CheckedIs}
 use Rattle.steps.proofs.Items.{none-beyond}
+use Rattle.steps.proofs.Promises.{combined-at-most, step-cost-below}
 
 -- ---- answers taken apart
 
@@ -104,10 +103,6 @@ module _ (bytes words : List ℕ) (o : Outlined bytes words) (g c w : ℕ) (k : 
   unfolding costsOf
   combine-first e l = let m : max g c ≡ g = omega arith in sym m ∙ largest-rule (modelOf bytes .rule) g c (λ i. e (k ∙ (o .outlines .rule ∙ i)))
 
-pub combined-small : (bytes : List ℕ) (g c : ℕ) → costsIn bytes .combine g c ≤ g + c
-unfolding costsOf
-combined-small bytes g c = combine-at-most-sum (modelOf bytes .rule) g c
-
 -- ---- one transition
 
 module _ (bytes state : List ℕ) (t g : ℕ) (child : List ℕ) (q : MoveAnswer) (says : MoveSays bytes state t child q) where
@@ -128,14 +123,14 @@ module _ (bytes state : List ℕ) (t g : ℕ) (child : List ℕ) (q : MoveAnswer
 
   -- the cost of a step is below the range's end
   pub step-small : {c : ℕ} → q ≡ M.Moved c → c < rangeEnd
-  step-small e = let m = is-moved _ (sym (says .answer) ∙ e) in step-cost-below rangeEnd (modelOf bytes) here t (m .1)
+  step-small e = let m = is-moved _ (sym (says .answer) ∙ e) in step-cost-below bytes here t (m .1)
 
   pub checked-moved : {c h : ℕ} → q ≡ M.Moved c → h ≡ costsIn bytes .combine g c → FollowsOn bytes (stepTried bytes here t g) child g (T.On h)
   unfolding afterMove
   checked-moved {c} {h} e f =
       let m = is-moved _ (sym (says .answer) ∙ e) in
       let w : stateIn bytes child ≡ m .0 = says .arrives c (m .0) (m .1) in
-      (λ plan. rw (m .1, f, w), omega (arith, f, combined-small bytes g c, step-small e))
+      (λ plan. rw (m .1, f, w), omega (arith, f, combined-at-most bytes g c, step-small e))
 
 -- ---- one turn: the status of the state, then the transition
 

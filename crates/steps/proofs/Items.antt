@@ -1,10 +1,12 @@
--- Items of a list by their number: the one at k, and those from k on.
+-- Items of a list by their number: the one at k, those from k on, and what an outline says of them.
 use Prim.Native.Nat.{ℕ, zero, suc, _+_, _≤_, _<_}
 use mathlib.Core.Path.{_≡_, refl, ap, _∙_}
 use mathlib.Core.List.{List, [], _∷_}
 use mathlib.Core.Option.{some, none}
 use native.Mathlib.Omega.{arith}
-use lib.ListN.{length, getElem?, drop}
+use lib.ListN.{length, getD, getElem?, drop}
+use Rattle.model.specs.Readers.{Reader, read}
+use Rattle.outline.specs.Outline.{Items}
 
 module _ {A : Type 0} where
   pub record Nth (l : List A) (k : ℕ) : Type 0 where
@@ -26,3 +28,18 @@ module _ {A : Type 0} where
   none-beyond [] k h = refl
   none-beyond (x ∷ xs) zero h = let z : ⊥ = omega arith in absurd z
   none-beyond (x ∷ xs) (suc k) h = none-beyond xs k (omega arith)
+
+-- item k stands at a place in the bytes
+pub record Item {A : Type 0} (r : Reader A) (bytes : List ℕ) (l : List A) (k at : ℕ) : Type 0 where
+  pub item : A
+  pub used : ℕ
+  pub found : getElem? l k ≡ some item
+  pub rest : drop k l ≡ item ∷ drop (k + 1) l
+  pub inside : at ≤ length bytes
+  pub reads : r (drop at bytes) ≡ read item used
+
+pub item-at : {A : Type 0} {r : Reader A} {bytes words : List ℕ} {from : ℕ} {l : List A} → Items r bytes words from l → {k at : ℕ} → k < length l → at ≡ getD words (from + k) 0 → Item r bytes l k at
+item-at {l = l} items {k} h stands =
+    let n = nth-of l k h in
+    let i = items k (n .nth) (n .found) in
+    record { item = n .nth; used = i .used; found = n .found; rest = n .rest; inside = rw stands (i .inside); reads = rw stands (i .reads) }

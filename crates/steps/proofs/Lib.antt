@@ -3,6 +3,7 @@ pub mod Items
 pub mod StateWords
 pub mod Outlined
 pub mod Dominance
+pub mod Hashing
 pub mod Readings
 pub mod Evaluated
 pub mod Holding
@@ -10,4 +11,5 @@ pub mod Trials
 pub mod Signs
 pub mod Writing
 pub mod Moving
+pub mod Promises
 pub mod Following

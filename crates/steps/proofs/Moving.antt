@@ -11,6 +11,7 @@ use Rattle.model.specs.Numbers.{rangeEnd}
 use Rattle.model.specs.Values.{Value, value, trouble, _>>=_}
 use Rattle.model.specs.System.{blocked, moved, troubleBefore}
 use Rattle.model.specs.Syntax.{Transition, Model}
+use Rattle.model.specs.Commands.{transition}
 use Rattle.model.specs.Meaning.{State, numberValue, allHold}
 use Rattle.model.specs.Steps.{costOf, effects, Attempt, notTaken, taken, attempt, constrained, moveOf, moveBy, move, systemOf}
 use Rattle.outline.specs.Outline.{modelOf, transitionsFrom}
@@ -27,7 +28,7 @@ use Rattle.steps.specs.declared.answers.MoveAnswer.the-variants as M
 use Rattle.steps.specs.InBytes.{Outlined, stateIn, systemIn}
 use Rattle.steps.specs.Answers.{heldAnswer, costAnswer, effectsAnswer, attemptAnswer, moveAnswer}
 use Rattle.steps.specs.Says.{HeldSays, CostSays, EffectsRead, EffectsSays, AttemptSay, TakenSays, TakenRead, TransitionRead, AttemptSays, Tried, MoveSays}
-use Rattle.steps.proofs.Items.{nth-of, none-beyond}
+use Rattle.steps.proofs.Items.{Item, item-at, none-beyond}
 use Rattle.steps.proofs.Readings.{PartsAt, parts-at}
 use Rattle.steps.proofs.Trials.{constraintsIn, all-held, one-fails, one-troubles}
 
@@ -199,17 +200,14 @@ module _ (bytes words : List ℕ) (o : Outlined bytes words) (state : List ℕ) 
   move-undeclared child h = let n = none-beyond (modelOf bytes .transitions) t h in record { answer = rw n; arrives = λ c u i. let z : _≡_ {A = ℕ} 0 1 = cc (rw n at i) in absurd (omega arith) }
 
   module _ (h : t < length (modelOf bytes .transitions)) (at : ℕ) (stands : at ≡ getD words (transitionsFrom + t) 0) where
+    there : Item (transition (modelOf bytes .variables) (modelOf bytes .tables)) bytes (modelOf bytes .transitions) t at
+    there = item-at (o .outlines .transitions) h stands
+
     pub transition-read : TransitionRead bytes at
-    transition-read =
-        let n = nth-of (modelOf bytes .transitions) t h in
-        let i = o .outlines .transitions t (n .nth) (n .found) in
-        record { item = n .nth; used = i .used; reads = rw stands (i .reads) }
+    transition-read = record { item = there .item; used = there .used; reads = there .reads }
 
     pub tried : (child : List ℕ) (q : AttemptAnswer) → AttemptSays bytes at state child q → Tried bytes state t child q
-    tried child q says =
-        let n = nth-of (modelOf bytes .transitions) t h in
-        let i = o .outlines .transitions t (n .nth) (n .found) in
-        record { transition-of = n .nth; declared = n .found; says = says (n .nth) (i .used) (rw stands (i .reads)) }
+    tried child q says = record { transition-of = there .item; declared = there .found; says = says (there .item) (there .used) (there .reads) }
 
 module _ (bytes state : List ℕ) (t : ℕ) (child : List ℕ) (q : AttemptAnswer) (a : Tried bytes state t child q) where
   the-move : systemIn bytes .move (stateIn bytes state) t ≡ moveOf rangeEnd (modelOf bytes) (attempt rangeEnd (modelOf bytes) (a .transition-of) (stateIn bytes state))

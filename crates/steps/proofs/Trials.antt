@@ -1,14 +1,17 @@
 -- Base cases, constraints and bounds by their number: what is left of them, and the answers at the end.
 use Prim.Native.Nat.{ℕ, _+_, _≤_, _<_}
-use mathlib.Core.Path.{_≡_, refl, sym, _∙_}
-use mathlib.Core.Bool.{Bool, true, false}
-use mathlib.Core.List.{List}
+use mathlib.Core.Path.{_≡_, refl, sym, ap, _∙_}
+use mathlib.Core.Bool.{Bool, true, false, cond}
+use mathlib.Core.List.{List, [], _∷_}
 use native.Mathlib.Omega.{arith}
 use lib.ListN.{length, getD, drop, drop-of-length-le}
 use lib.IntN.{ℤ}
 use lib.Signed.{mag}
-use Rattle.model.specs.Numbers.{rangeEnd}
+use Rattle.model.specs.Numbers.{rangeEnd, mostNesting}
 use Rattle.model.specs.Values.{Value, value, trouble, _>>=_}
+use Rattle.model.specs.Syntax.{Number, Condition}
+use Rattle.model.specs.Expressions as reading
+use Rattle.model.specs.Commands.{conditions}
 use Rattle.model.specs.Meaning.{numberValue, conditionValue, allHold, someHolds}
 use Rattle.model.specs.Steps.{statusOf, status, raise, greatest, bound, systemOf}
 use Rattle.outline.specs.Outline.{modelOf, baseCasesFrom, constraintsFrom, boundsFrom}
@@ -26,7 +29,7 @@ use Rattle.steps.specs.declared.answers.BoundAnswer.the-variants as B
 use Rattle.steps.specs.InBytes.{Outlined, stateIn, systemIn}
 use Rattle.steps.specs.Answers.{heldAnswer, statusAnswer, boundAnswer}
 use Rattle.steps.specs.Says.{ConditionSays, NumberSays, HeldSays}
-use Rattle.steps.proofs.Items.{Nth, nth-of}
+use Rattle.steps.proofs.Items.{Item, item-at}
 use Rattle.steps.proofs.Holding.{condition-holds, condition-troubles}
 
 -- ---- answers taken apart
@@ -62,43 +65,110 @@ number-troubles (trouble t) n e = cc
 pub value-within : (l : ℕ) {r : NumberValue} {z : ℤ} {k : ℕ} → r ≡ N.Value z k → NumberWithin l r → (mag z < rangeEnd) × (k ≤ l)
 value-within l e w = rw e at w
 
+-- ---- items tried in order, to the first that decides
+
+-- an item's value; what it comes to, those behind it given; and the whole list
+record Trial (A B R : Type 0) : Type 0 where
+  value-of : A → Value B
+  then-on : B → List A → Value R
+  tried : List A → Value R
+  one : (x : A) (xs : List A) → tried (x ∷ xs) ≡ (value-of x >>= λ b. then-on b xs)
+
+module _ {A B R : Type 0} (t : Trial A B R) (l : List A) (k : ℕ) {whole : Value R} (left : whole ≡ t .tried (drop k l)) where
+  none-left : length l ≤ k → whole ≡ t .tried []
+  none-left h = left ∙ ap (t .tried) (drop-of-length-le l h)
+
+  module _ {x : A} (rest : drop k l ≡ x ∷ drop (k + 1) l) where
+    one-left : whole ≡ (t .value-of x >>= λ b. t .then-on b (drop (k + 1) l))
+    one-left = left ∙ ap (t .tried) rest ∙ t .one x (drop (k + 1) l)
+
+    with-value : {b : B} → t .value-of x ≡ value b → whole ≡ t .then-on b (drop (k + 1) l)
+    unfolding _>>=_
+    with-value e = one-left ∙ rw e
+
+    with-trouble : {n : ℕ} → t .value-of x ≡ trouble n → whole ≡ trouble n
+    unfolding _>>=_
+    with-trouble e = one-left ∙ rw e
+
+module _ (bytes state : List ℕ) where
+  base-cases : Trial (List Condition) Bool Bool
+  base-cases = record {
+    value-of = λ c. allHold rangeEnd (modelOf bytes .tables) c (stateIn bytes state);
+    then-on = λ holds cs. cond holds (value true) (someHolds rangeEnd (modelOf bytes .tables) cs (stateIn bytes state));
+    tried = λ cs. someHolds rangeEnd (modelOf bytes .tables) cs (stateIn bytes state);
+    one = λ c cs. unfold someHolds in refl;
+  }
+
+  constraints : Trial Condition Bool Bool
+  constraints = record {
+    value-of = λ c. conditionValue rangeEnd (modelOf bytes .tables) c (stateIn bytes state);
+    then-on = λ holds cs. cond holds (allHold rangeEnd (modelOf bytes .tables) cs (stateIn bytes state)) (value false);
+    tried = λ cs. allHold rangeEnd (modelOf bytes .tables) cs (stateIn bytes state);
+    one = λ c cs. unfold allHold in refl;
+  }
+
+  -- h: the greatest so far
+  bounds-from : (h : ℕ) → Trial Number ℤ ℕ
+  bounds-from h = record {
+    value-of = λ b. numberValue rangeEnd (modelOf bytes .tables) b (stateIn bytes state);
+    then-on = λ z bs. greatest rangeEnd (modelOf bytes) bs (stateIn bytes state) (raise h z);
+    tried = λ bs. greatest rangeEnd (modelOf bytes) bs (stateIn bytes state) h;
+    one = λ b bs. unfold greatest in refl;
+  }
+
 -- ---- base cases
+
+module _ (bytes : List ℕ) where
+  -- base case, constraint and bound k stand at a place
+  abbrev pub CaseAt : (k at : ℕ) → Type 0
+  CaseAt k at = Item (conditions (modelOf bytes .variables) (modelOf bytes .tables)) bytes (modelOf bytes .baseCases) k at
+
+  abbrev pub ConstraintAt : (k at : ℕ) → Type 0
+  ConstraintAt k at = Item (reading.condition (modelOf bytes .variables) (modelOf bytes .tables) mostNesting) bytes (modelOf bytes .constraints) k at
+
+  abbrev pub BoundAt : (k at : ℕ) → Type 0
+  BoundAt k at = Item (reading.number (modelOf bytes .variables) (modelOf bytes .tables) mostNesting) bytes (modelOf bytes .bounds) k at
+
+module _ {bytes words : List ℕ} (o : Outlined bytes words) {k at : ℕ} where
+  pub case-at : k < length (modelOf bytes .baseCases) → at ≡ getD words (baseCasesFrom + k) 0 → CaseAt bytes k at
+  case-at = item-at (o .outlines .base-cases)
+
+  pub constraint-at : k < length (modelOf bytes .constraints) → at ≡ getD words (constraintsFrom + k) 0 → ConstraintAt bytes k at
+  constraint-at = item-at (o .outlines .constraints)
+
+  pub bound-at : k < length (modelOf bytes .bounds) → at ≡ getD words (boundsFrom + k) 0 → BoundAt bytes k at
+  bound-at = item-at (o .outlines .bounds)
 
 -- those before k do not hold
 abbrev pub Seeking : (bytes state : List ℕ) (k : ℕ) → Type 0
 Seeking bytes state k = someHolds rangeEnd (modelOf bytes .tables) (modelOf bytes .baseCases) (stateIn bytes state) ≡ someHolds rangeEnd (modelOf bytes .tables) (drop k (modelOf bytes .baseCases)) (stateIn bytes state)
 
-module _ (bytes words : List ℕ) (o : Outlined bytes words) (state : List ℕ) where
-  module _ (k : ℕ) (passed : Seeking bytes state k) where
-    pub seeking-last : length (modelOf bytes .baseCases) ≤ k → S.Unfinished ≡ statusAnswer (systemIn bytes .status (stateIn bytes state))
-    unfolding systemOf status statusOf statusAnswer someHolds
-    seeking-last h = rw (passed, drop-of-length-le (modelOf bytes .baseCases) h)
+module _ (bytes state : List ℕ) (k : ℕ) (passed : Seeking bytes state k) where
+  pub seeking-last : length (modelOf bytes .baseCases) ≤ k → S.Unfinished ≡ statusAnswer (systemIn bytes .status (stateIn bytes state))
+  unfolding systemOf status statusOf statusAnswer someHolds base-cases
+  seeking-last h = rw (none-left (base-cases bytes state) (modelOf bytes .baseCases) k passed h)
 
-    module _ (h : k < length (modelOf bytes .baseCases)) (at : ℕ) (stands : at ≡ getD words (baseCasesFrom + k) 0) (r : HeldAnswer) (says : HeldSays bytes at state r) where
-      case-at : (n : Nth (modelOf bytes .baseCases) k)
-          → r ≡ heldAnswer (allHold rangeEnd (modelOf bytes .tables) (n .nth) (stateIn bytes state)) (at + o .outlines .base-cases k (n .nth) (n .found) .used)
-      case-at n = let i = o .outlines .base-cases k (n .nth) (n .found) in says (n .nth) (i .used) (rw stands (i .reads))
+  module _ {at : ℕ} (i : CaseAt bytes k at) (r : HeldAnswer) (says : HeldSays bytes at state r) where
+    abbrev case : Value Bool
+    case = allHold rangeEnd (modelOf bytes .tables) (i .item) (stateIn bytes state)
 
-      pub seeking-more : r ≡ H.Fails → Seeking bytes state (k + 1)
-      unfolding someHolds _>>=_
-      seeking-more e =
-          let n = nth-of (modelOf bytes .baseCases) k h in
-          let f = one-fails _ _ (sym (case-at n) ∙ e) in
-          passed ∙ rw (n .rest, f)
+    case-said : heldAnswer case (at + i .used) ≡ r
+    case-said = sym (says (i .item) (i .used) (i .reads))
 
-      pub seeking-base : {i : ℕ} → r ≡ H.All i → S.Base ≡ statusAnswer (systemIn bytes .status (stateIn bytes state))
-      unfolding someHolds _>>=_ systemOf status statusOf statusAnswer
-      seeking-base e =
-          let n = nth-of (modelOf bytes .baseCases) k h in
-          let f = all-held _ _ (sym (case-at n) ∙ e) in
-          rw (passed, n .rest, f .0)
+    with-case : {b : Bool} → case ≡ value b → someHolds rangeEnd (modelOf bytes .tables) (modelOf bytes .baseCases) (stateIn bytes state) ≡ cond b (value true) (someHolds rangeEnd (modelOf bytes .tables) (drop (k + 1) (modelOf bytes .baseCases)) (stateIn bytes state))
+    unfolding base-cases
+    with-case = with-value (base-cases bytes state) (modelOf bytes .baseCases) k passed (i .rest)
 
-      pub seeking-troubles : {t : ℕ} → r ≡ H.Trouble t → S.Trouble t ≡ statusAnswer (systemIn bytes .status (stateIn bytes state))
-      unfolding someHolds _>>=_ systemOf status statusOf statusAnswer
-      seeking-troubles e =
-          let n = nth-of (modelOf bytes .baseCases) k h in
-          let f = one-troubles _ _ (sym (case-at n) ∙ e) in
-          rw (passed, n .rest, f)
+    pub seeking-more : r ≡ H.Fails → Seeking bytes state (k + 1)
+    seeking-more e = with-case (one-fails case (at + i .used) (case-said ∙ e))
+
+    pub seeking-base : {n : ℕ} → r ≡ H.All n → S.Base ≡ statusAnswer (systemIn bytes .status (stateIn bytes state))
+    unfolding systemOf status statusOf statusAnswer
+    seeking-base e = rw (with-case (all-held case (at + i .used) (case-said ∙ e) .0))
+
+    pub seeking-troubles : {t : ℕ} → r ≡ H.Trouble t → S.Trouble t ≡ statusAnswer (systemIn bytes .status (stateIn bytes state))
+    unfolding systemOf status statusOf statusAnswer base-cases
+    seeking-troubles e = rw (with-trouble (base-cases bytes state) (modelOf bytes .baseCases) k passed (i .rest) (one-troubles case (at + i .used) (case-said ∙ e)))
 
 -- ---- constraints
 
@@ -109,43 +179,32 @@ constraintsIn bytes state = allHold rangeEnd (modelOf bytes .tables) (modelOf by
 abbrev pub Meeting : (bytes state : List ℕ) (k : ℕ) → Type 0
 Meeting bytes state k = constraintsIn bytes state ≡ allHold rangeEnd (modelOf bytes .tables) (drop k (modelOf bytes .constraints)) (stateIn bytes state)
 
-module _ (bytes words : List ℕ) (o : Outlined bytes words) where
-  pub constraint-inside : (k at : ℕ) → k < length (modelOf bytes .constraints) → at ≡ getD words (constraintsFrom + k) 0 → at ≤ length bytes
-  constraint-inside k at h e = let n = nth-of (modelOf bytes .constraints) k h in rw e (o .outlines .constraints k (n .nth) (n .found) .inside)
+module _ (bytes state : List ℕ) (k : ℕ) (passed : Meeting bytes state k) where
+  pub meeting-last : length (modelOf bytes .constraints) ≤ k → H.All 0 ≡ heldAnswer (constraintsIn bytes state) 0
+  unfolding heldAnswer allHold constraints
+  meeting-last h = rw (none-left (constraints bytes state) (modelOf bytes .constraints) k passed h)
 
-  pub bound-inside : (k at : ℕ) → k < length (modelOf bytes .bounds) → at ≡ getD words (boundsFrom + k) 0 → at ≤ length bytes
-  bound-inside k at h e = let n = nth-of (modelOf bytes .bounds) k h in rw e (o .outlines .bounds k (n .nth) (n .found) .inside)
+  module _ {at : ℕ} (i : ConstraintAt bytes k at) (r : ConditionValue) (says : ConditionSays bytes at state r) where
+    abbrev constraint : Value Bool
+    constraint = conditionValue rangeEnd (modelOf bytes .tables) (i .item) (stateIn bytes state)
 
-module _ (bytes words : List ℕ) (o : Outlined bytes words) (state : List ℕ) where
-  module _ (k : ℕ) (passed : Meeting bytes state k) where
-    pub meeting-last : length (modelOf bytes .constraints) ≤ k → H.All 0 ≡ heldAnswer (constraintsIn bytes state) 0
-    unfolding heldAnswer allHold
-    meeting-last h = rw (passed, drop-of-length-le (modelOf bytes .constraints) h)
+    constraint-said : stopped (conditionAnswer constraint (i .used)) ≡ r
+    constraint-said = sym (says (i .item) (i .used) (i .reads))
 
-    module _ (h : k < length (modelOf bytes .constraints)) (at : ℕ) (stands : at ≡ getD words (constraintsFrom + k) 0) (r : ConditionValue) (says : ConditionSays bytes at state r) where
-      constraint-at : (n : Nth (modelOf bytes .constraints) k) → stopped (conditionAnswer (conditionValue rangeEnd (modelOf bytes .tables) (n .nth) (stateIn bytes state)) (o .outlines .constraints k (n .nth) (n .found) .used)) ≡ r
-      constraint-at n = let i = o .outlines .constraints k (n .nth) (n .found) in sym (says (n .nth) (i .used) (rw stands (i .reads)))
+    with-constraint : {b : Bool} {n : ℕ} → r ≡ C.Holds b n → constraintsIn bytes state ≡ cond b (allHold rangeEnd (modelOf bytes .tables) (drop (k + 1) (modelOf bytes .constraints)) (stateIn bytes state)) (value false)
+    unfolding constraints
+    with-constraint e = with-value (constraints bytes state) (modelOf bytes .constraints) k passed (i .rest) (condition-holds constraint (i .used) (constraint-said ∙ e) .0)
 
-      pub meeting-more : {b : Bool} {i : ℕ} → r ≡ C.Holds b i → b ≡ true → Meeting bytes state (k + 1)
-      unfolding allHold _>>=_
-      meeting-more e y =
-          let n = nth-of (modelOf bytes .constraints) k h in
-          let f = condition-holds _ _ (constraint-at n ∙ e) in
-          passed ∙ rw (n .rest, f .0, y)
+    pub meeting-more : {b : Bool} {n : ℕ} → r ≡ C.Holds b n → b ≡ true → Meeting bytes state (k + 1)
+    meeting-more e y = rw y at (with-constraint e)
 
-      pub meeting-fails : {b : Bool} {i : ℕ} → r ≡ C.Holds b i → b ≡ false → H.Fails ≡ heldAnswer (constraintsIn bytes state) 0
-      unfolding allHold _>>=_ heldAnswer
-      meeting-fails e y =
-          let n = nth-of (modelOf bytes .constraints) k h in
-          let f = condition-holds _ _ (constraint-at n ∙ e) in
-          rw (passed, n .rest, f .0, y)
+    pub meeting-fails : {b : Bool} {n : ℕ} → r ≡ C.Holds b n → b ≡ false → H.Fails ≡ heldAnswer (constraintsIn bytes state) 0
+    unfolding heldAnswer
+    meeting-fails e y = rw (with-constraint e, y)
 
-      pub meeting-troubles : {t : ℕ} → r ≡ C.Trouble t → H.Trouble t ≡ heldAnswer (constraintsIn bytes state) 0
-      unfolding allHold _>>=_ heldAnswer
-      meeting-troubles e =
-          let n = nth-of (modelOf bytes .constraints) k h in
-          let f = condition-troubles _ _ (constraint-at n ∙ e) in
-          rw (passed, n .rest, f)
+    pub meeting-troubles : {t : ℕ} → r ≡ C.Trouble t → H.Trouble t ≡ heldAnswer (constraintsIn bytes state) 0
+    unfolding heldAnswer constraints
+    meeting-troubles e = rw (with-trouble (constraints bytes state) (modelOf bytes .constraints) k passed (i .rest) (condition-troubles constraint (i .used) (constraint-said ∙ e)))
 
 -- ---- bounds
 
@@ -153,30 +212,26 @@ module _ (bytes words : List ℕ) (o : Outlined bytes words) (state : List ℕ) 
 abbrev pub Raising : (bytes state : List ℕ) (k h : ℕ) → Type 0
 Raising bytes state k h = systemIn bytes .bound (stateIn bytes state) ≡ greatest rangeEnd (modelOf bytes) (drop k (modelOf bytes .bounds)) (stateIn bytes state) h
 
-module _ (bytes words : List ℕ) (o : Outlined bytes words) (state : List ℕ) where
-  pub raising-first : Raising bytes state 0 0
-  unfolding systemOf bound
-  raising-first = refl
+pub raising-first : (bytes state : List ℕ) → Raising bytes state 0 0
+unfolding systemOf bound
+raising-first bytes state = refl
 
-  module _ (k h : ℕ) (passed : Raising bytes state k h) where
-    pub raising-last : length (modelOf bytes .bounds) ≤ k → B.Value h ≡ boundAnswer (systemIn bytes .bound (stateIn bytes state))
-    unfolding boundAnswer greatest
-    raising-last l = rw (passed, drop-of-length-le (modelOf bytes .bounds) l)
+module _ (bytes state : List ℕ) (k h : ℕ) (passed : Raising bytes state k h) where
+  pub raising-last : length (modelOf bytes .bounds) ≤ k → B.Value h ≡ boundAnswer (systemIn bytes .bound (stateIn bytes state))
+  unfolding boundAnswer greatest bounds-from
+  raising-last l = rw (none-left (bounds-from bytes state h) (modelOf bytes .bounds) k passed l)
 
-    module _ (l : k < length (modelOf bytes .bounds)) (at : ℕ) (stands : at ≡ getD words (boundsFrom + k) 0) (r : NumberValue) (says : NumberSays bytes at state r) where
-      bound-at : (n : Nth (modelOf bytes .bounds) k) → numberAnswer (numberValue rangeEnd (modelOf bytes .tables) (n .nth) (stateIn bytes state)) (o .outlines .bounds k (n .nth) (n .found) .used) ≡ r
-      bound-at n = let i = o .outlines .bounds k (n .nth) (n .found) in sym (says (n .nth) (i .used) (rw stands (i .reads)))
+  module _ {at : ℕ} (i : BoundAt bytes k at) (r : NumberValue) (says : NumberSays bytes at state r) where
+    abbrev number : Value ℤ
+    number = numberValue rangeEnd (modelOf bytes .tables) (i .item) (stateIn bytes state)
 
-      pub raising-more : {z : ℤ} {i : ℕ} → r ≡ N.Value z i → Raising bytes state (k + 1) (raise h z)
-      unfolding greatest _>>=_
-      raising-more e =
-          let n = nth-of (modelOf bytes .bounds) k l in
-          let f = number-is _ _ (bound-at n ∙ e) in
-          passed ∙ rw (n .rest, f .0)
+    number-said : numberAnswer number (i .used) ≡ r
+    number-said = sym (says (i .item) (i .used) (i .reads))
 
-      pub raising-troubles : {t : ℕ} → r ≡ N.Trouble t → B.Trouble t ≡ boundAnswer (systemIn bytes .bound (stateIn bytes state))
-      unfolding greatest _>>=_ boundAnswer
-      raising-troubles e =
-          let n = nth-of (modelOf bytes .bounds) k l in
-          let f = number-troubles _ _ (bound-at n ∙ e) in
-          rw (passed, n .rest, f)
+    pub raising-more : {z : ℤ} {n : ℕ} → r ≡ N.Value z n → Raising bytes state (k + 1) (raise h z)
+    unfolding bounds-from
+    raising-more e = with-value (bounds-from bytes state h) (modelOf bytes .bounds) k passed (i .rest) (number-is number (i .used) (number-said ∙ e) .0)
+
+    pub raising-troubles : {t : ℕ} → r ≡ N.Trouble t → B.Trouble t ≡ boundAnswer (systemIn bytes .bound (stateIn bytes state))
+    unfolding boundAnswer bounds-from
+    raising-troubles e = rw (with-trouble (bounds-from bytes state h) (modelOf bytes .bounds) k passed (i .rest) (number-troubles number (i .used) (number-said ∙ e)))

@@ -3,9 +3,9 @@ use Prim.Native.Nat.{ℕ, _≤_}
 use mathlib.Core.List.{List}
 use lib.ListN.{length}
 use Rattle.model.specs.Numbers.{rangeEnd, mostVariables}
-use Rattle.model.specs.System.{System}
+use Rattle.model.specs.System.{System, Origin}
 use Rattle.model.specs.Meaning.{State}
-use Rattle.model.specs.Steps.{systemOf}
+use Rattle.model.specs.Steps.{systemOf, target, originOf}
 use Rattle.words.specs.States.{stateOf}
 use Rattle.outline.specs.Outline.{outlineWords, modelOf, Outlines}
 
@@ -23,3 +23,10 @@ StateRoom words = mostVariables ≤ length words
 
 abbrev pub stateIn : (bytes words : List ℕ) → State
 stateIn bytes words = stateOf (modelOf bytes .variables) words
+
+-- the target, and the search's start there, with nothing spent
+abbrev pub targetIn : (bytes : List ℕ) → State
+targetIn bytes = target (modelOf bytes)
+
+abbrev pub originIn : (bytes : List ℕ) → Origin State ℕ
+originIn bytes = originOf (modelOf bytes)

@@ -4,9 +4,7 @@ ghost use mathlib.Core.Path.{_≡_};
 ghost use mathlib.Core.List.{_∷_};
 ghost use Prim.Native.Nat.{_+_, _≤_, _<_, _^_};
 ghost use lib.ListN.{length};
-ghost use Rattle.model.specs.Steps.{target};
-ghost use Rattle.outline.specs.Outline.{modelOf};
-ghost use Rattle.steps.specs.InBytes.{Outlined, StateRoom, stateIn};
+ghost use Rattle.steps.specs.InBytes.{Outlined, StateRoom, stateIn, targetIn};
 ghost use Rattle.steps.specs.Follow.{costsIn, followIn, stepTried, finished, FollowsOn, CheckedIs};
 use crate::answers::Checked;
 use crate::answers::FollowAnswer;
@@ -87,7 +85,7 @@ fn finish(model: &[u8], outline: &[u64], state: &[u64], g: u64) -> Checked
 // Follows a plan from the target: 0 and its cost, or the number of the first trouble.
 pub fn follow(model: &[u8], outline: &[u64], plan: &[u8]) -> Checked
     requires { ⌜ Outlined (now model) (now outline) × (length (now plan) ≤ 256) ⌝ }
-    ensures { λ r. ⌜ CheckedIs (followIn (now (model .entry)) (now (plan .entry)) (target (modelOf (now (model .entry)))) 0) r ⌝ }
+    ensures { λ r. ⌜ CheckedIs (followIn (now (model .entry)) (now (plan .entry)) (targetIn (now (model .entry))) 0) r ⌝ }
 {
     let mut state = [0u64; 16];
     let mut child = [0u64; 16];

@@ -7,7 +7,7 @@ ghost use Rattle.model.specs.Numbers.{rangeEnd};
 ghost use Rattle.model.specs.Meaning.{allHold};
 ghost use Rattle.model.specs.Steps as steps;
 ghost use Rattle.outline.specs.Outline.{modelOf};
-ghost use Rattle.steps.specs.InBytes.{Outlined, StateRoom, stateIn};
+ghost use Rattle.steps.specs.InBytes.{Outlined, StateRoom, stateIn, systemIn};
 ghost use Rattle.steps.specs.Answers.{moveAnswer};
 ghost use Rattle.steps.specs.Says.{CostSays, CostWithin, NumberWordSays, WordSays, WordWithin, EffectsRead, EffectsSays, TakenRead, TakenSays, TransitionRead, AttemptSays, Tried, MoveSays};
 use crate::answers::AttemptAnswer;
@@ -166,12 +166,20 @@ fn settle(
     }
 }
 
+// How many transitions there are.
+pub fn transitions(model: &[u8], outline: &[u64]) -> usize
+    requires { ⌜ Outlined (now model) (now outline) ⌝ }
+    ensures { λ r. ⌜ r ≡ systemIn (now (model .entry)) .transitions ⌝ }
+{
+    word_at(outline, TRANSITION_COUNT) as usize
+}
+
 // Tries transition t in a state, and writes the new state's words. A number that is not declared is blocked.
 pub fn step(model: &[u8], outline: &[u64], state: &[u64], t: usize, child: &mut [u64]) -> MoveAnswer
     requires { ⌜ Outlined (now model) (now outline) × StateRoom (now state) × StateRoom (now child) ⌝ }
     ensures { λ r. ⌜ MoveSays (now (model .entry)) (now (state .entry)) t (now (child .exit)) r ⌝ }
 {
-    if word_at(outline, TRANSITION_COUNT) as usize <= t {
+    if transitions(model, outline) <= t {
         return MoveAnswer::Blocked;
     }
     let at = word_at(outline, TRANSITIONS + t) as usize;

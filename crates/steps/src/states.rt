@@ -4,9 +4,7 @@ ghost use mathlib.Core.Path.{_≡_};
 ghost use mathlib.Core.List.{_++_};
 ghost use Prim.Native.Nat.{_<_};
 ghost use lib.ListN.{take, drop};
-ghost use Rattle.model.specs.Steps.{target};
-ghost use Rattle.outline.specs.Outline.{modelOf};
-ghost use Rattle.steps.specs.InBytes.{Outlined, StateRoom, stateIn, systemIn};
+ghost use Rattle.steps.specs.InBytes.{Outlined, StateRoom, stateIn, systemIn, targetIn};
 ghost use Rattle.steps.specs.Order.{comparedWord, noWorseBy, noWorseAt};
 use laws::copy_words;
 use outline::layout::KINDS;
@@ -27,7 +25,7 @@ pub fn copy_state(from: &[u64], to: &mut [u64])
 // Writes the target's words.
 pub fn start(model: &[u8], outline: &[u64], state: &mut [u64])
     requires { ⌜ Outlined (now model) (now outline) × StateRoom (now state) ⌝ }
-    ensures { λ r. ⌜ stateIn (now (model .entry)) (now (state .exit)) ≡ target (modelOf (now (model .entry))) ⌝ }
+    ensures { λ r. ⌜ stateIn (now (model .entry)) (now (state .exit)) ≡ targetIn (now (model .entry)) ⌝ }
 {
     copy_state(&outline[STARTS..], state);
 }

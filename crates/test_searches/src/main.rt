@@ -68,12 +68,12 @@ fn write_name(i: usize) {
 fn write_search(
     model: &[u8],
     width: u32,
-    length: u32,
+    limit: u32,
     budget: u32,
     plan: &mut [u8],
     words: &mut [u64],
 ) {
-    let answer = search(model, width, length, budget, plan, words);
+    let answer = search(model, width, limit, budget, plan, words);
     write_answer(answer, plan);
     let outcome = answer.outcome;
     match outcome {

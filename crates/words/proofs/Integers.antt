@@ -1,7 +1,7 @@
 -- Laws of whole numbers in 64 bits: what fits, the range's tests, the quotient rounded down, a number variable's word.
 use mathlib.Core.Path.{_≡_, refl, sym, ap, _∙_}
 use mathlib.Core.Bool.{Bool, true, false, cond, true≢false, false≢true}
-use Prim.Native.Nat.{ℕ, zero, suc, _+_, _-_, _*_, _%_, _^_, _<_, _≤_}
+use Prim.Native.Nat.{ℕ, zero, suc, _+_, _-_, _*_, _/_, _%_, _^_, _<_, _≤_}
 use native.Mathlib.Nat.{zero-add, div-le-self, le-trans, lt-of-le-of-lt, mul-le-mul}
 use native.Mathlib.Omega.{arith}
 use lib.Dec.{ltb}
@@ -99,13 +99,17 @@ divisor-bits (pos zero) p = absurd p
 divisor-bits (pos (suc m)) p = omega arith
 divisor-bits (negsuc m) p = absurd p
 
--- a dividend that is not negative
-pub quotient-fits : (a m : ℤ) → ltZ a (pos 0) ≡ false → Positive m → SFits w64 a → SFits w64 (quotZ a m)
-quotient-fits a (pos zero) h p f = absurd p
-quotient-fits (pos a) (pos (suc m)) h p f = record { sfits = lt-of-le-of-lt (div-le-self a (suc m)) (f .sfits) }
-quotient-fits (negsuc a) (pos (suc m)) h p f = absurd (true≢false h)
-quotient-fits a (negsuc m) h p f = absurd p
+neg-mag : (k a : ℕ) → k ≤ suc a → mag (negℤ (pos k)) ≤ a
+neg-mag zero a h = omega arith
+neg-mag (suc k) a h = omega arith
 
+pub quotient-fits : (a m : ℤ) → Positive m → SFits w64 a → SFits w64 (quotZ a m)
+quotient-fits a (pos zero) p f = absurd p
+quotient-fits (pos a) (pos (suc m)) p f = record { sfits = lt-of-le-of-lt (div-le-self a (suc m)) (f .sfits) }
+quotient-fits (negsuc a) (pos (suc m)) p f = record { sfits = lt-of-le-of-lt (neg-mag (suc a / suc m) a (div-le-self (suc a) (suc m))) (f .sfits) }
+quotient-fits a (negsuc m) p f = absurd p
+
+-- a dividend that is not negative
 pub quotient-is : (a m : ℤ) → ltZ a (pos 0) ≡ false → Positive m → quotZ a m ≡ floorBy a (natAbs m)
 unfolding floorBy
 quotient-is a (pos zero) h p = absurd p
@@ -114,10 +118,6 @@ quotient-is (negsuc a) (pos (suc m)) h p = absurd (true≢false h)
 quotient-is a (negsuc m) h p = absurd p
 
 -- a negative one, by its mirror image
-pub mirror-sign : (a : ℤ) → ltZ a (pos 0) ≡ true → ltZ (mirrored a) (pos 0) ≡ false
-mirror-sign (pos a) h = negative-pos a h
-mirror-sign (negsuc a) h = ltb-zero a
-
 pub mirror-quotient : (a m : ℤ) → ltZ a (pos 0) ≡ true → Positive m → mirrored (quotZ (mirrored a) m) ≡ floorBy a (natAbs m)
 unfolding floorBy
 mirror-quotient a (pos zero) h p = absurd p

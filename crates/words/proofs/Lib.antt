@@ -4,3 +4,4 @@ pub mod Literal
 pub mod Members
 pub mod Entries
 pub mod Sums
+pub mod Bytes

@@ -1,11 +1,11 @@
 -- Laws of the readers of words and integers: what they read where the bytes are there, and where they end.
-use mathlib.Core.Path.{_≡_, refl, ap, _∙_}
+use mathlib.Core.Path.{_≡_, refl, sym, ap, _∙_}
 use mathlib.Core.Bool.{Bool, true, false}
 use mathlib.Core.List.{List, [], _∷_}
 use Prim.Native.Nat.{ℕ, zero, suc, _+_, _-_, _*_, _^_, _<_, _≤_}
 use native.Mathlib.Omega.{arith}
-use lib.ListN.{length, take, drop, getD, length-drop}
-use lib.Seq.{drop-drop, getD-drop, take-all}
+use lib.ListN.{length, take, drop, getD, length-drop, drop-of-length-le}
+use lib.Seq.{drop-drop, drop-length, getD-drop, take-all}
 use lib.IntN.{ℤ, pos, _-ℤ_}
 use lib.Signed.{mag}
 use lib.Dec.{leb}
@@ -18,6 +18,10 @@ use Rattle.model.specs.Readers.{read, refused, after, continue, _>>=_, give, by
 -- the part of a slice from n on
 pub suffix : (n : ℕ) (e : List ℕ) → take (length e - n) (drop n e) ≡ drop n e
 suffix n e = take-all (length e - n) (drop n e) (rw length-drop (omega arith))
+
+-- beyond the end
+pub no-suffix : (n : ℕ) (e : List ℕ) → length e ≤ n → take (length e - length e) (drop (length e) e) ≡ drop n e
+no-suffix n e h = suffix (length e) e ∙ drop-length e ∙ sym (drop-of-length-le e h)
 
 -- the first k bytes as one number
 unfoldable pub number : (k : ℕ) → List ℕ → ℕ

@@ -10,7 +10,7 @@ ghost use Rattle.words.specs.Tables.{cellAt, entryIn, columnsOf, cellsOf
 use crate::literals::integer;
 
 // The entry in cell k of the table whose entries begin at `at`.
-pub fn cell(model: &[u8], at: usize, k: usize) -> i64
+fn cell(model: &[u8], at: usize, k: usize) -> i64
     requires { ⌜ (at ≤ 131071) × (k < 8192) ⌝ }
     ensures { λ r. ⌜ (r ≡ cellAt (now (model .entry)) at k) × (mag r < rangeEnd) ⌝ }
 {

@@ -1,12 +1,13 @@
-//! The arguments behind a command: options with values, flags, and at most one file.
+//! The arguments behind a command: options with values, flags, and files.
 
 use super::Complaint;
 use std::ffi::{OsStr, OsString};
+use std::os::unix::ffi::OsStrExt;
 
 /// Arguments by option. An option is written `--width 16` or `--width=16`; behind `--` there are files only.
 #[derive(Default)]
 pub struct Arguments {
-    pub file: Option<OsString>,
+    files: Vec<OsString>,
     values: Vec<(&'static str, OsString)>,
     flags: Vec<&'static str>,
 }
@@ -17,44 +18,57 @@ pub fn asks_help(arguments: &[OsString]) -> bool {
     options.any(|argument| argument == "--help" || argument == "-h")
 }
 
-/// An option's name and the value written in the same argument; nothing if it is a file.
-fn option(argument: &OsStr) -> Option<(&str, Option<&str>)> {
-    let text = argument.to_str()?;
-    if !text.starts_with('-') || text == "-" {
+/// An option's name and the value written in the same argument, which may be any bytes; nothing if it is a file.
+fn option(argument: &OsStr) -> Option<(String, Option<OsString>)> {
+    let bytes = argument.as_bytes();
+    if !bytes.starts_with(b"-") || bytes == b"-" {
         return None;
     }
-    match text.split_once('=') {
-        Some((name, value)) => Some((name, Some(value))),
-        None => Some((text, None)),
+    let name = |bytes: &[u8]| String::from_utf8_lossy(bytes).into_owned();
+    match bytes.iter().position(|byte| *byte == b'=') {
+        Some(end) => {
+            let value = OsStr::from_bytes(&bytes[end + 1..]).to_owned();
+            Some((name(&bytes[..end]), Some(value)))
+        }
+        None => Some((name(bytes), None)),
     }
 }
 
 impl Arguments {
-    /// Reads the arguments of a command that has these options with a value and these flags.
+    /// Reads the arguments of a command that has these options with a value and these flags, and one file.
     pub fn read(
         arguments: &[OsString],
         valued: &[&'static str],
         flags: &[&'static str],
+    ) -> Result<Arguments, Complaint> {
+        Arguments::read_files(arguments, valued, flags, 1)
+    }
+
+    /// The same with as many files.
+    pub fn read_files(
+        arguments: &[OsString],
+        valued: &[&'static str],
+        flags: &[&'static str],
+        most: usize,
     ) -> Result<Arguments, Complaint> {
         let mut read = Arguments::default();
         let mut rest = arguments.iter();
         while let Some(argument) = rest.next() {
             if argument == "--" {
                 for file in rest.by_ref() {
-                    read.put_file(file)?;
+                    read.put_file(file, most)?;
                 }
                 break;
             }
             let Some((name, value)) = option(argument) else {
-                read.put_file(argument)?;
+                read.put_file(argument, most)?;
                 continue;
             };
             if let Some(name) = valued.iter().find(|known| **known == name) {
-                let value = value.map(OsString::from);
                 let value = value.or_else(|| rest.next().cloned());
                 read.put_value(name, value)?;
             } else if let Some(name) = flags.iter().find(|known| **known == name) {
-                read.put_flag(name, value)?;
+                read.put_flag(name, value.is_some())?;
             } else {
                 return Err(Complaint::new(format!("`{name}` is no option here")));
             }
@@ -64,7 +78,7 @@ impl Arguments {
 
     /// For what takes no arguments at all.
     pub fn none(arguments: &[OsString]) -> Result<(), Complaint> {
-        match Arguments::read(arguments, &[], &[])?.file {
+        match Arguments::read(arguments, &[], &[])?.file() {
             None => Ok(()),
             Some(file) => Err(Complaint::new(format!(
                 "`{}` is one argument too many",
@@ -73,14 +87,25 @@ impl Arguments {
         }
     }
 
-    fn put_file(&mut self, file: &OsStr) -> Result<(), Complaint> {
-        match self.file.replace(file.to_owned()) {
-            None => Ok(()),
-            Some(_) => Err(Complaint::new(format!(
-                "`{}` is a second file; one is read",
-                file.to_string_lossy()
-            ))),
+    fn put_file(&mut self, file: &OsStr, most: usize) -> Result<(), Complaint> {
+        if self.files.len() < most {
+            self.files.push(file.to_owned());
+            return Ok(());
         }
+        let name = file.to_string_lossy();
+        Err(Complaint::new(match most {
+            1 => format!("`{name}` is a second file; one is read"),
+            _ => format!("`{name}` is one file more than the {most} that are read"),
+        }))
+    }
+
+    /// The first file, if one is given.
+    pub fn file(&self) -> Option<&OsStr> {
+        self.files.first().map(OsString::as_os_str)
+    }
+
+    pub fn files(&self) -> &[OsString] {
+        &self.files
     }
 
     fn put_value(&mut self, name: &'static str, value: Option<OsString>) -> Result<(), Complaint> {
@@ -94,8 +119,8 @@ impl Arguments {
         Ok(())
     }
 
-    fn put_flag(&mut self, name: &'static str, value: Option<&str>) -> Result<(), Complaint> {
-        if value.is_some() {
+    fn put_flag(&mut self, name: &'static str, valued: bool) -> Result<(), Complaint> {
+        if valued {
             return Err(Complaint::new(format!("{name} takes no value")));
         }
         self.flags.push(name);

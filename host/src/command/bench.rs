@@ -13,8 +13,5 @@ pub fn run(arguments: &[OsString], _input: &mut dyn Read) -> Result<Done, Compla
         .collect();
     let mut output = Vec::new();
     bench::run(&names, &mut output).map_err(Complaint::new)?;
-    Ok(Done {
-        output,
-        status: ANSWERED,
-    })
+    Ok(Done::new(output, ANSWERED))
 }

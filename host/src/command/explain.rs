@@ -1,96 +1,61 @@
 //! `repgypsum explain`: what an answer stands on, in sentences, and the plan as a chart.
 
+mod along;
 mod chart;
+mod chart_file;
 mod declarations;
-mod refusals;
 mod trouble;
 mod verdicts;
 mod walk;
 
 use super::arguments::Arguments;
 use super::input::{source, Source};
+use super::known::Known;
+use super::long_runs::{self, Watch};
+use super::part::Part;
 use super::plan::status;
 use super::settings::{Run, Settings, OPTIONS};
 use super::words::{by_state, counted, grouped, refusal_name, verdict_name};
-use super::{Complaint, Done};
+use super::{refusals, warnings, Complaint, Done};
 use crate::numbers::limit;
 use crate::reference::syntax::CostRule;
-use crate::reference::{read_model, Model};
-use crate::text::{Listing, Names};
 use std::ffi::{OsStr, OsString};
 use std::io::Read;
 use std::path::Path;
 
 const SVG: &str = "--svg";
 
-/// A model that the reader accepts, with its names and its expressions as text.
-struct Known {
-    model: Model,
-    names: Names,
-    listing: Listing,
-}
-
-impl Known {
-    /// By the independent reader; the text's names, or numbers where there is no text.
-    fn of(source: &Source) -> Result<Known, u8> {
-        let model = read_model(&source.model)?;
-        let names = source.names.clone();
-        let names = names.unwrap_or_else(|| Names::by_number(&model));
-        let listing = Listing::of(&source.model, &names)?;
-        Ok(Known {
-            model,
-            names,
-            listing,
-        })
-    }
-}
-
-/// A heading and the sentences under it.
-struct Part {
-    heading: &'static str,
-    lines: Vec<String>,
-}
-
-impl Part {
-    fn new(heading: &'static str) -> Part {
-        let lines = Vec::new();
-        Part { heading, lines }
-    }
-
-    fn say(&mut self, line: impl Into<String>) {
-        self.lines.push(line.into());
-    }
-
-    /// The part as text, its sentences indented under the heading.
-    fn text(&self) -> String {
-        let lines = self.lines.iter().map(|line| format!("  {line}\n"));
-        format!("\n{}\n{}", self.heading, lines.collect::<String>())
-    }
-}
-
 pub fn run(arguments: &[OsString], input: &mut dyn Read) -> Result<Done, Complaint> {
-    let mut valued = OPTIONS.to_vec();
-    valued.push(SVG);
-    let arguments = Arguments::read(arguments, &valued, &[])?;
-    let settings = Settings::read(&arguments)?;
-    let source = source(arguments.file.as_deref(), input)?;
-    let run = settings.search(&source.model);
-    let known = if refused_by_input(&run) {
+    let valued = [&OPTIONS[..], &long_runs::VALUED, &[SVG]].concat();
+    let arguments = Arguments::read(arguments, &valued, &long_runs::FLAGS)?;
+    let mut settings = Settings::read(&arguments)?;
+    let watch = Watch::read(&arguments, &mut settings)?;
+    let source = source(arguments.file(), input)?;
+    let finished = watch.search(&source.model, settings);
+    let (run, settings) = (&finished.run, &finished.settings);
+    let known = if refused_by_input(run) {
         None
     } else {
         Known::of(&source).ok()
     };
-    let mut text = head(&source, &settings, &run, known.as_ref());
-    for part in parts(&source, &settings, &run, known.as_ref()) {
+    let mut text = head(&source, settings, run, known.as_ref());
+    if let Some(line) = finished.stopped() {
+        text += &format!("It was {line}.\n");
+    }
+    for part in parts(&source, settings, run, known.as_ref()) {
         text += &part.text();
     }
-    if let Some(out) = arguments.value(SVG) {
-        text += &write_chart(out, &source.title, &run, known.as_ref())?.text();
-    }
-    Ok(Done {
-        output: text.into_bytes(),
-        status: status(&run),
-    })
+    let drawn = match arguments.value(SVG) {
+        Some(out) => {
+            let drawing = drawing(&source.title, run, known.as_ref());
+            let (part, wrong) = chart_file::put(out, drawing);
+            text += &part.text();
+            wrong
+        }
+        None => None,
+    };
+    let done = Done::new(text.into_bytes(), status(run));
+    Ok(done.failed(drawn))
 }
 
 fn refused_by_input(run: &Run) -> bool {
@@ -165,11 +130,13 @@ fn parts(source: &Source, settings: &Settings, run: &Run, known: Option<&Known>)
             parts.push(declarations::part(known));
         }
         parts.extend(verdicts::more(known, settings, run));
+        parts.extend(along::part(known, run));
         if run.answer.flag {
             parts.push(walk::part("The plan, step by step", known, &run.steps));
             parts.push(verdicts::checked_again(source, run));
         }
     }
+    parts.extend(warnings::part(warnings::of_model(known)));
     parts.push(work(run));
     parts
 }
@@ -194,35 +161,12 @@ fn work(run: &Run) -> Part {
     part
 }
 
-/// Writes the plan as a chart, if there is one, and says what was done.
-fn write_chart(
-    out: &OsStr,
-    title: &str,
-    run: &Run,
-    known: Option<&Known>,
-) -> Result<Part, Complaint> {
-    let mut part = Part::new("The chart");
-    let plan = run.answer.flag.then_some(run.steps.as_slice());
-    let stages = known.zip(plan).and_then(|(known, plan)| {
-        let stages = walk::follow(&known.model, plan)?;
-        Some((known, stages))
-    });
-    let Some((known, stages)) = stages else {
-        part.say("No plan is given, so none is drawn.");
-        return Ok(part);
-    };
+/// The plan as a chart, if there is one.
+fn drawing(title: &str, run: &Run, known: Option<&Known>) -> Option<String> {
+    let known = known.filter(|_| run.answer.flag)?;
+    let stages = walk::follow(&known.model, &run.steps)?;
     let model = Path::new(title).file_name().unwrap_or(OsStr::new(title));
     let verdict = verdict_name(run.answer.verdict);
     let heading = format!("{}: {verdict}", model.to_string_lossy());
-    let chart = chart::svg(&heading, known, &stages);
-    let name = out.to_string_lossy();
-    match std::fs::write(out, chart) {
-        Ok(()) => {
-            part.say(format!("The plan is drawn in {name}."));
-            Ok(part)
-        }
-        Err(error) => Err(Complaint::new(format!(
-            "{name}: cannot be written: {error}"
-        ))),
-    }
+    Some(chart::svg(&heading, known, &stages))
 }

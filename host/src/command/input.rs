@@ -2,23 +2,21 @@
 
 use super::Complaint;
 use crate::numbers::limit;
-use crate::text::{assemble_with_names, Error, Names, Place};
+use crate::text::{assemble_sources, Listing, Names, Sources, LONGEST_TEXT};
 use std::ffi::OsStr;
 use std::fs::File;
 use std::io::{self, Read};
 use std::path::Path;
 
-/// The longest text that is read, in bytes.
-const LONGEST_TEXT: usize = 16 << 20;
-
 /// The ending of files with text models.
 const TEXT_ENDING: &str = ".dp";
 
-/// A model's bytes, what it is called, and the names that its text gives.
+/// A model's bytes, what it is called, and of a text the names and the expressions as they are written.
 pub struct Source {
     pub title: String,
     pub model: Vec<u8>,
     pub names: Option<Names>,
+    pub listing: Option<Listing>,
 }
 
 /// The file's path, if the input is a file.
@@ -35,7 +33,7 @@ pub fn title(file: Option<&OsStr>) -> String {
 }
 
 /// The first bytes of the input, at most one more than the limit.
-fn first_bytes(
+pub fn first_bytes(
     file: Option<&OsStr>,
     input: &mut dyn Read,
     limit: usize,
@@ -58,46 +56,60 @@ pub fn model_bytes(file: Option<&OsStr>, input: &mut dyn Read) -> Result<Vec<u8>
     first_bytes(file, input, limit::MODEL_BYTES)
 }
 
-/// The model that a text describes.
-pub fn text_model(file: Option<&OsStr>, input: &mut dyn Read) -> Result<Source, Complaint> {
+/// The model that a text describes, and the text without loops. Names of other files start from the text's folder.
+pub fn text_model(
+    file: Option<&OsStr>,
+    input: &mut dyn Read,
+) -> Result<(Source, String), Complaint> {
     let title = title(file);
     let bytes = first_bytes(file, input, LONGEST_TEXT)?;
     if bytes.len() > LONGEST_TEXT {
         let message = format!("{title}: the text has more than {LONGEST_TEXT} bytes");
         return Err(Complaint::new(message));
     }
-    let assembled = text(&bytes).and_then(assemble_with_names);
-    match assembled {
-        Ok((model, names)) => Ok(Source {
-            title,
-            model,
-            names: Some(names),
-        }),
-        Err(error) => Err(Complaint::new(format!("{title}: {error}"))),
+    if bytes.first() == Some(&1) {
+        let message = format!("{title}: these are the bytes of a model, where its text is due");
+        return Err(Complaint::new(message));
     }
-}
-
-/// The bytes as text, or the place of the first that is none.
-fn text(bytes: &[u8]) -> Result<&str, Error> {
-    std::str::from_utf8(bytes).map_err(|error| {
-        let before = String::from_utf8_lossy(&bytes[..error.valid_up_to()]);
-        let line = before.matches('\n').count() + 1;
-        let start = before.rfind('\n').map_or(0, |end| end + 1);
-        let column = before[start..].chars().count() + 1;
-        let place = Place { line, column };
-        Error::new(place, "the text is not UTF-8 from here on")
-    })
+    let folder = path(file).and_then(Path::parent).unwrap_or(Path::new(""));
+    let (mut sources, decoded) = Sources::of_bytes(title.clone(), folder, bytes);
+    let assembled = match decoded {
+        Ok(()) => assemble_sources(&mut sources),
+        Err(error) => Err(vec![error]),
+    };
+    match assembled {
+        Ok(assembled) => {
+            let source = Source {
+                title,
+                model: assembled.bytes,
+                names: Some(assembled.names),
+                listing: Some(assembled.listing),
+            };
+            Ok((source, assembled.plain))
+        }
+        Err(errors) => Err(Complaint::report(sources.report(&errors))),
+    }
 }
 
 /// The model in the input: text in a file with the ending for text, else bytes.
 pub fn source(file: Option<&OsStr>, input: &mut dyn Read) -> Result<Source, Complaint> {
     let ending = TEXT_ENDING.as_bytes();
     if file.is_some_and(|name| name.as_encoded_bytes().ends_with(ending)) {
-        return text_model(file, input);
+        return text_model(file, input).map(|(source, _)| source);
     }
     Ok(Source {
         title: title(file),
         model: model_bytes(file, input)?,
         names: None,
+        listing: None,
     })
+}
+
+/// Whether the input is text and not the bytes of a model, which begin with 01.
+pub fn looks_like_text(bytes: &[u8]) -> bool {
+    let bytes = bytes.strip_prefix(b"\xEF\xBB\xBF").unwrap_or(bytes);
+    let letters = bytes.iter().take(64);
+    let readable =
+        |byte: &u8| byte.is_ascii_graphic() || byte.is_ascii_whitespace() || *byte >= 128;
+    bytes.len() > 4 && letters.clone().all(readable) && letters.clone().any(u8::is_ascii_alphabetic)
 }

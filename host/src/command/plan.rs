@@ -2,27 +2,55 @@
 
 use super::arguments::Arguments;
 use super::input::source;
+use super::long_runs::{self, Watch};
 use super::settings::{Run, Settings, OPTIONS};
 use super::words::{by_state, refusal_name, spaced, verdict_name};
-use super::{Complaint, Done, ANSWERED, REFUSED};
+use super::{quotations, refusals, unconditional, Complaint, Done, ANSWERED, REFUSED};
 use crate::line::answer_line;
 use std::ffi::OsString;
 use std::io::Read;
 
+const FIELDS: &str = "--fields";
+const QUOTE: &str = "--quote";
+const UNCONDITIONAL: &str = "--unconditional";
+
 pub fn run(arguments: &[OsString], input: &mut dyn Read) -> Result<Done, Complaint> {
-    let arguments = Arguments::read(arguments, &OPTIONS, &["--fields"])?;
-    let settings = Settings::read(&arguments)?;
-    let source = source(arguments.file.as_deref(), input)?;
-    let run = settings.search(&source.model);
-    let text = if arguments.flag("--fields") {
-        fields(&run)
+    let valued = [&OPTIONS[..], &long_runs::VALUED, &[QUOTE]].concat();
+    let flags = [&[FIELDS, UNCONDITIONAL], &long_runs::FLAGS[..]].concat();
+    let arguments = Arguments::read(arguments, &valued, &flags)?;
+    let mut settings = Settings::read(&arguments)?;
+    let watch = Watch::read(&arguments, &mut settings)?;
+    let source = source(arguments.file(), input)?;
+    let finished = watch.search(&source.model, settings);
+    let (run, settings) = (&finished.run, &finished.settings);
+    let mut text = if arguments.flag(FIELDS) {
+        fields(run)
     } else {
         format!("{}\n", answer_line(&run.answer, &run.steps))
     };
-    Ok(Done {
-        output: text.into_bytes(),
-        status: status(&run),
-    })
+    let stopped = finished.stopped();
+    for line in stopped
+        .into_iter()
+        .chain(beside(&arguments, &source.model, settings, run))
+    {
+        text += &format!("{line}\n");
+    }
+    let done = Done::new(text.into_bytes(), status(run));
+    let done = done.note(refusals::note(&source.model, settings, run));
+    let Some(out) = arguments.value(QUOTE) else {
+        return Ok(done);
+    };
+    let wrong = quotations::quote(out, quotations::quotation(&source, settings, run));
+    Ok(done.failed(wrong))
+}
+
+/// What the run without declarations shows, if that is asked for.
+fn beside(arguments: &Arguments, model: &[u8], settings: &Settings, run: &Run) -> Vec<String> {
+    if arguments.flag(UNCONDITIONAL) {
+        unconditional::lines(model, settings, run)
+    } else {
+        Vec::new()
+    }
 }
 
 /// The exit status that an answer has.

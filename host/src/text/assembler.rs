@@ -1,31 +1,62 @@
-//! Commands to bytes, with the sizes that document 01 allows.
+//! Commands to bytes, with the sizes that document 01 allows. What is wrong is noted, and the next command taken.
 
+use super::expand::Expander;
 use super::names::Names;
+use super::parser::Parsed;
 use super::place::{refuse_if, Error, Place};
+use super::plain::{Plain, PlainTransition};
 use super::scope::{number_in_range, Meaning, Scope};
-use super::syntax::{Command, Form, Integer, Name, Node, Start, Table, Transition};
+use super::sizes::within;
+use super::sources::Sources;
+use super::syntax::{Command, Form, Loop, Name, Node, Start};
 use crate::build::Bytes;
 use crate::numbers::limit;
 use crate::reference::syntax::{CostRule, Kind, Preference};
 
-/// The bytes of the commands, 0E behind them, and the names.
-pub fn assembled(commands: &[Command]) -> Result<(Bytes, Names), Error> {
-    let mut assembler = Assembler::default();
-    for command in commands {
-        assembler.command(command)?;
-    }
-    assembler.bytes.push(0x0E);
-    Ok((assembler.bytes, assembler.scope.names))
+/// The bytes of a text, its names, and the plain commands that it stands for.
+pub struct Assembly {
+    pub bytes: Bytes,
+    pub names: Names,
+    pub plain: Vec<Plain>,
 }
 
-#[derive(Default)]
-struct Assembler {
-    scope: Scope,
+/// The bytes of the commands, 0E behind them, with names and plain commands; or all that is wrong.
+pub fn assembled(sources: &Sources, parsed: Parsed) -> Result<Assembly, Vec<Error>> {
+    let mut assembler = Assembler::new(sources);
+    assembler.errors = parsed.errors;
+    assembler.scope.unread = parsed.unread;
+    for command in &parsed.commands {
+        let done = assembler.command(command);
+        assembler.keep(done);
+    }
+    if !assembler.errors.is_empty() {
+        return Err(assembler.errors);
+    }
+    assembler.bytes.push(0x0E);
+    let constants = assembler.scope.constant_names();
+    let mut names = assembler.scope.names.clone();
+    names.constants = constants.map(str::to_string).collect();
+    Ok(Assembly {
+        bytes: assembler.bytes,
+        names,
+        plain: assembler.plain,
+    })
+}
+
+pub struct Assembler<'a> {
+    pub sources: &'a Sources,
+    pub scope: Scope,
+    expander: Expander,
     bytes: Bytes,
+    plain: Vec<Plain>,
+    errors: Vec<Error>,
     base_cases: usize,
     constraints: usize,
     bounds: usize,
 }
+
+/// Errors beyond this many are not looked for.
+const MOST_ERRORS: usize = 200;
 
 fn preference_byte(preference: Preference) -> u8 {
     match preference {
@@ -35,60 +66,134 @@ fn preference_byte(preference: Preference) -> u8 {
     }
 }
 
-/// One more of something of which there may be `most`.
-fn within(already: usize, most: usize, at: Place, what: &str) -> Result<(), Error> {
-    refuse_if(already >= most, at, || {
-        format!("at most {most} {what} are allowed")
-    })
-}
+impl Assembler<'_> {
+    fn new(sources: &Sources) -> Assembler<'_> {
+        Assembler {
+            sources,
+            scope: Scope::default(),
+            expander: Expander::default(),
+            bytes: Bytes::new(),
+            plain: Vec::new(),
+            errors: Vec::new(),
+            base_cases: 0,
+            constraints: 0,
+            bounds: 0,
+        }
+    }
 
-impl Assembler {
-    fn command(&mut self, command: &Command) -> Result<(), Error> {
-        match command {
-            Command::Cost(rule) => {
-                self.put(&[0x01, u8::from(*rule == CostRule::Largest)]);
-                Ok(())
-            }
-            Command::Objects(group, objects) => self.scope.declare_objects(group, objects),
-            Command::Variable(at, name, start) => {
-                self.variable(*at, name.as_ref(), start)?;
-                self.within_bytes(*at)
-            }
-            Command::Table(table) => {
-                self.table(table)?;
-                self.within_bytes(table.at)
-            }
-            Command::Transition(transition) => {
-                self.transition(transition)?;
-                self.within_bytes(transition.at)
-            }
-            Command::Base(at, conditions) => {
-                within(self.base_cases, limit::BASE_CASES, *at, "base cases")?;
-                self.base_cases += 1;
-                self.put(&[0x0B]);
-                self.conditions(conditions)?;
-                self.within_bytes(*at)
-            }
-            Command::Constraint(at, condition) => {
-                within(self.constraints, limit::CONSTRAINTS, *at, "constraints")?;
-                self.constraints += 1;
-                self.put(&[0x0C]);
-                let bytes = self.scope.condition(condition)?;
-                self.put(&bytes);
-                self.within_bytes(*at)
-            }
-            Command::Bound(at, number) => {
-                within(self.bounds, limit::BOUNDS, *at, "bounds")?;
-                self.bounds += 1;
-                self.put(&[0x0D]);
-                let bytes = self.scope.number(number)?;
-                self.put(&bytes);
-                self.within_bytes(*at)
+    /// The result, or nothing where there is an error, which is noted.
+    fn keep<T>(&mut self, result: Result<T, Error>) -> Option<T> {
+        match result {
+            Ok(value) => Some(value),
+            Err(error) => {
+                self.errors.push(error);
+                None
             }
         }
     }
 
-    fn put(&mut self, bytes: &[u8]) {
+    fn command(&mut self, command: &Command) -> Result<(), Error> {
+        let (expander, scope) = (&mut self.expander, &self.scope);
+        match command {
+            Command::Cost(rule) => {
+                self.bytes
+                    .extend([0x01, u8::from(*rule == CostRule::Largest)]);
+                self.plain.push(Plain::Cost(*rule));
+                Ok(())
+            }
+            Command::Objects(group, objects) => {
+                if let Err(error) = self.scope.declare_objects(group, objects) {
+                    let names = objects.iter().map(|object| object.text.clone());
+                    self.scope.unread.extend(names);
+                    return Err(error);
+                }
+                let plain = Plain::Objects(group.clone(), objects.clone());
+                self.plain.push(plain);
+                Ok(())
+            }
+            Command::Constant(name) => self.scope.declare_constant(name),
+            Command::ConstantTable(table) => self.constants(table),
+            Command::Variable(at, name, start) => {
+                let done = self.variable(*at, name.as_ref(), start);
+                self.declared(name.as_ref(), done)?;
+                let plain = Plain::Variable(name.clone(), start.clone());
+                self.plain.push(plain);
+                self.within_bytes(*at)
+            }
+            Command::Table(table) => {
+                let plain = self.plain_table(table);
+                let plain = self.declared(table.name.as_ref(), plain)?;
+                let done = self.table(&plain);
+                self.declared(table.name.as_ref(), done)?;
+                self.plain.push(Plain::Table(plain));
+                self.within_bytes(table.at)
+            }
+            Command::Transition(step) => {
+                let plain = expander.transition(scope, step)?;
+                self.transition(&plain)?;
+                self.plain.push(Plain::Transition(plain));
+                self.within_bytes(step.at)
+            }
+            Command::Base(at, conditions) => {
+                let plain = expander.conditions(scope, conditions)?;
+                within(self.base_cases, limit::BASE_CASES, *at, "base cases")?;
+                self.base_cases += 1;
+                self.put(&[0x0B]);
+                self.conditions(&plain);
+                self.plain.push(Plain::Base(plain));
+                self.within_bytes(*at)
+            }
+            Command::Constraint(at, condition) => {
+                let plain = expander.plain(scope, condition)?;
+                within(self.constraints, limit::CONSTRAINTS, *at, "constraints")?;
+                self.constraints += 1;
+                let bytes = self.scope.condition(&plain)?;
+                self.put(&[0x0C]);
+                self.put(&bytes);
+                self.plain.push(Plain::Constraint(plain));
+                self.within_bytes(*at)
+            }
+            Command::Bound(at, number) => {
+                let plain = expander.plain(scope, number)?;
+                within(self.bounds, limit::BOUNDS, *at, "bounds")?;
+                self.bounds += 1;
+                let bytes = self.scope.number(&plain)?;
+                self.put(&[0x0D]);
+                self.put(&bytes);
+                self.plain.push(Plain::Bound(plain));
+                self.within_bytes(*at)
+            }
+            Command::Loop(repeated) => self.repeated(repeated),
+        }
+    }
+
+    /// The commands of a loop, once for all values of its variables.
+    fn repeated(&mut self, repeated: &Loop<Command>) -> Result<(), Error> {
+        let turns = self.expander.turns(&self.scope, &repeated.binders)?;
+        let before = self.expander.bindings.clone();
+        for turn in turns {
+            self.expander.bindings = turn;
+            for command in &repeated.body {
+                let done = self.command(command);
+                self.keep(done);
+            }
+            if self.errors.len() > MOST_ERRORS {
+                break;
+            }
+        }
+        self.expander.bindings = before;
+        Ok(())
+    }
+
+    /// Where a declaration fails, uses of its name are not told as well.
+    pub fn declared<T>(&mut self, name: Option<&Name>, done: Result<T, Error>) -> Result<T, Error> {
+        if let (Err(_), Some(name)) = (&done, name) {
+            self.scope.unread.insert(name.text.clone());
+        }
+        done
+    }
+
+    pub fn put(&mut self, bytes: &[u8]) {
         self.bytes.extend_from_slice(bytes);
     }
 
@@ -127,60 +232,48 @@ impl Assembler {
         }
     }
 
-    fn table(&mut self, table: &Table) -> Result<(), Error> {
-        let already = self.scope.names.tables.len();
-        within(already, limit::TABLES, table.at, "tables")?;
-        let (rows, _) = self.scope.side(&table.rows)?;
-        let columns = match &table.columns {
-            Some(side) => {
-                let (columns, _) = self.scope.side(side)?;
-                has_rows(table, rows, columns)?;
-                columns
-            }
-            None => {
-                has_list(table, rows)?;
-                1
-            }
-        };
-        self.put(&[0x05, rows, columns]);
-        for entry in table.entries.iter().flatten() {
-            let value = number_in_range(entry.at, entry.value)?;
-            self.put(&[0x06]);
-            self.put(&value.to_le_bytes());
-        }
-        self.scope
-            .declare_table(table.name.as_ref(), (rows, columns))
-    }
-
-    fn transition(&mut self, transition: &Transition) -> Result<(), Error> {
+    fn transition(&mut self, transition: &PlainTransition) -> Result<(), Error> {
         let already = self.scope.names.transitions.len();
         within(already, limit::TRANSITIONS, transition.at, "transitions")?;
         self.put(&[0x07]);
-        self.conditions(&transition.conditions)?;
-        let cost = self.scope.number(&transition.cost)?;
+        self.conditions(&transition.conditions);
+        let cost = self.scope.number(&transition.cost);
         self.put(&[0x09]);
-        self.put(&cost);
+        if let Some(cost) = self.keep(cost) {
+            self.put(&cost);
+        }
         let mut changed = Vec::new();
         for (variable, value) in &transition.effects {
-            let index = self.changed_variable(variable)?;
-            refuse_if(changed.contains(&index), variable.at, || {
-                let name = self.scope.names.variable(index);
-                format!("a second effect on `{name}` in this transition")
-            })?;
-            changed.push(index);
-            self.effect(index, value)?;
+            let done = self.one_effect(&mut changed, variable, value);
+            self.keep(done);
         }
         self.scope.declare_transition(transition.label.as_ref())
     }
 
-    fn conditions(&mut self, conditions: &[Node]) -> Result<(), Error> {
+    fn one_effect(
+        &mut self,
+        changed: &mut Vec<usize>,
+        variable: &Node,
+        value: &Node,
+    ) -> Result<(), Error> {
+        let index = self.changed_variable(variable)?;
+        refuse_if(changed.contains(&index), variable.at, || {
+            let name = self.scope.names.variable(index);
+            format!("a second effect on `{name}` in this transition")
+        })?;
+        changed.push(index);
+        self.effect(index, value)
+    }
+
+    fn conditions(&mut self, conditions: &[Node]) {
         for (already, condition) in conditions.iter().enumerate() {
-            within(already, limit::CONDITIONS, condition.at, "conditions")?;
-            let bytes = self.scope.condition(condition)?;
-            self.put(&[0x08]);
-            self.put(&bytes);
+            let fits = within(already, limit::CONDITIONS, condition.at, "conditions");
+            let bytes = fits.and_then(|()| self.scope.condition(condition));
+            if let Some(bytes) = self.keep(bytes) {
+                self.put(&[0x08]);
+                self.put(&bytes);
+            }
         }
-        Ok(())
     }
 
     fn changed_variable(&self, node: &Node) -> Result<usize, Error> {
@@ -220,39 +313,4 @@ impl Assembler {
         self.put(&bytes);
         Ok(())
     }
-}
-
-/// The place of a row, or of the table.
-fn row_place(table: &Table, row: &[Integer]) -> Place {
-    row.first().map_or(table.at, |entry| entry.at)
-}
-
-/// Every row has as many entries as there are columns, and there are as many rows as stated.
-fn has_rows(table: &Table, rows: u8, columns: u8) -> Result<(), Error> {
-    for (place, row) in table.entries.iter().enumerate() {
-        refuse_if(place >= usize::from(rows), row_place(table, row), || {
-            format!("the table has {rows} rows, and this is one more")
-        })?;
-        refuse_if(
-            row.len() != usize::from(columns),
-            row_place(table, row),
-            || format!("entries in this row: {}; due: {columns}", row.len()),
-        )?;
-    }
-    let given = table.entries.len();
-    refuse_if(given != usize::from(rows), table.at, || {
-        format!("rows in this table: {given}; due: {rows}")
-    })
-}
-
-/// A list is one row of text, with as many entries as stated.
-fn has_list(table: &Table, rows: u8) -> Result<(), Error> {
-    if let Some(second) = table.entries.get(1) {
-        let message = "a table with one side is a list: it has no `/`";
-        return Err(Error::new(row_place(table, second), message));
-    }
-    let given = table.entries[0].len();
-    refuse_if(given != usize::from(rows), table.at, || {
-        format!("entries in this list: {given}; due: {rows}")
-    })
 }

@@ -1,22 +1,30 @@
 //! A walk over the tokens of a text, with the small parts that commands and expressions share.
 
-use super::lexer::{tokens, Token};
+use super::foreign::hint;
+use super::lexer::{tokens, Lexeme, Token};
 use super::place::{refuse_if, Error, Place};
 use super::syntax::{Integer, Members, Name, Object, Side};
+use std::collections::HashMap;
 
 /// The words of the language, which name nothing else.
-const WORDS: [&str; 30] = [
+const WORDS: [&str; 36] = [
     "and",
     "base",
     "bound",
+    "constant",
     "constraint",
     "cost",
     "count",
     "element",
     "else",
     "empty",
+    "exists",
+    "for",
+    "forall",
+    "from",
     "if",
     "in",
+    "include",
     "largest",
     "less",
     "max",
@@ -47,33 +55,49 @@ fn value_of(digits: &str) -> i64 {
     digits.parse().unwrap_or(i64::MAX)
 }
 
+#[derive(Default)]
 pub struct Cursor {
-    tokens: Vec<(Token, Place)>,
+    tokens: Vec<Lexeme>,
     at: usize,
     open: usize,
+    /// The constants declared so far.
+    pub constants: HashMap<String, i64>,
+    /// The variables of the loops that stand around this place.
+    pub bound: Vec<String>,
 }
 
 impl Cursor {
-    pub fn new(text: &str) -> Result<Cursor, Error> {
-        let tokens = tokens(text)?;
-        Ok(Cursor {
+    /// A walk over a file's text, and what is wrong with its signs.
+    pub fn new(file: usize, text: &str) -> (Cursor, Vec<Error>) {
+        let (tokens, errors) = tokens(file, text);
+        let cursor = Cursor {
             tokens,
-            at: 0,
-            open: 0,
-        })
+            ..Cursor::default()
+        };
+        (cursor, errors)
     }
 
     /// The token due here, without passing it; behind the end, the end.
     pub fn peek(&self) -> &Token {
-        &self.tokens[self.at].0
+        &self.tokens[self.at].token
     }
 
     pub fn peek_second(&self) -> &Token {
-        &self.tokens[(self.at + 1).min(self.tokens.len() - 1)].0
+        &self.tokens[(self.at + 1).min(self.tokens.len() - 1)].token
     }
 
     pub fn place(&self) -> Place {
-        self.tokens[self.at].1
+        self.tokens[self.at].place
+    }
+
+    /// The column where the line's first token stands.
+    pub fn indent(&self) -> usize {
+        self.tokens[self.at].indent
+    }
+
+    /// Whether the line begins with the token due here.
+    pub fn begins_line(&self) -> bool {
+        self.indent() == self.place().column
     }
 
     pub fn pass(&mut self) {
@@ -82,14 +106,51 @@ impl Cursor {
         }
     }
 
+    /// How many expressions and loops stand open here.
+    pub fn standing(&self) -> (usize, usize) {
+        (self.open, self.bound.len())
+    }
+
+    /// Leaves what has been opened since.
+    pub fn back_to(&mut self, (open, bound): (usize, usize)) {
+        self.open = open;
+        self.bound.truncate(bound);
+    }
+
     /// The error that something else was due here.
     pub fn expected(&self, what: &str) -> Error {
         let found = self.peek();
-        Error::new(self.place(), format!("expected {what}, found {found}"))
+        let hint = match found {
+            Token::Word(word) => hint(word),
+            _ => String::new(),
+        };
+        Error::new(
+            self.place(),
+            format!("expected {what}, found {found}{hint}"),
+        )
     }
 
     pub fn at_word(&self, word: &str) -> bool {
         matches!(self.peek(), Token::Word(found) if found == word)
+    }
+
+    pub fn at_any(&self, words: &[&str]) -> bool {
+        words.iter().any(|word| self.at_word(word))
+    }
+
+    /// The number of the token due here.
+    pub fn position(&self) -> usize {
+        self.at
+    }
+
+    /// The words that name something, from the token of that number up to here.
+    pub fn names_since(&self, begun: usize) -> Vec<String> {
+        let passed = self.tokens[begun..self.at].iter();
+        let names = passed.filter_map(|lexeme| match &lexeme.token {
+            Token::Word(word) if !WORDS.contains(&word.as_str()) => Some(word.clone()),
+            _ => None,
+        });
+        names.collect()
     }
 
     pub fn at_symbol(&self, symbol: &str) -> bool {
@@ -144,30 +205,44 @@ impl Cursor {
         Some(Name { at, text })
     }
 
-    /// Digits without a sign.
+    /// The value of a token that is digits, or the name of a constant.
+    fn value(&self, token: &Token) -> Option<i64> {
+        match token {
+            Token::Integer(digits) => Some(value_of(digits)),
+            Token::Word(word) if !self.bound.contains(word) => self.constants.get(word).copied(),
+            _ => None,
+        }
+    }
+
+    /// Digits without a sign, or a constant.
     pub fn digits(&mut self) -> Option<Integer> {
         let at = self.place();
-        let Token::Integer(digits) = self.peek() else {
-            return None;
-        };
-        let value = value_of(digits);
+        let value = self.value(self.peek())?;
         self.pass();
         Some(Integer { at, value })
     }
 
-    /// Digits, with a minus before them or not.
+    /// Digits or a constant, with a minus before them or not.
     pub fn integer(&mut self) -> Option<Integer> {
         let at = self.place();
         if !self.at_symbol("-") {
             return self.digits();
         }
-        let Token::Integer(digits) = self.peek_second() else {
-            return None;
-        };
-        let value = value_of(digits);
+        let value = self.value(self.peek_second())?;
         self.pass();
         self.pass();
         Some(Integer { at, value: -value })
+    }
+
+    /// The text between quotation marks that names a file.
+    pub fn quoted(&mut self) -> Result<Name, Error> {
+        let at = self.place();
+        let Token::Quoted(text) = self.peek() else {
+            return Err(self.expected("a file's name in quotation marks"));
+        };
+        let text = text.clone();
+        self.pass();
+        Ok(Name { at, text })
     }
 
     pub fn side(&mut self) -> Result<Side, Error> {

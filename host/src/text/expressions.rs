@@ -1,29 +1,41 @@
 //! Tokens to expressions, by precedence. Kinds are not looked at here.
 
 use super::cursor::Cursor;
+use super::foreign::hint;
 use super::lexer::Token;
 use super::place::{Error, Place};
-use super::syntax::{Form, Node, Operator, Reference};
+use super::syntax::{Form, Joining, Node, Operator, Reference};
 use crate::reference::syntax::Kind;
 
 /// How tightly `not` binds: looser than comparisons, tighter than `and`.
 const NOT_LEVEL: u8 = 3;
+const COMPARISON_LEVEL: u8 = 4;
 
-/// The operator that a token writes, and how tightly it binds.
-fn operator(token: &Token) -> Option<(Operator, u8)> {
+/// How the two sides of a sign are put together.
+#[derive(Clone, Copy, PartialEq, Eq)]
+enum Sides {
+    AsWritten,
+    /// `x > y` is `y < x`.
+    Swapped,
+    /// `x != y` is `not x = y`.
+    Negated,
+}
+
+/// The operator that a token writes, how its sides are put together, and how tightly it binds.
+fn operator(token: &Token) -> Option<(Operator, Sides, u8)> {
     let written = match token {
         Token::Word(word) => word.as_str(),
         Token::Symbol(symbol) => symbol,
-        Token::Integer(_) | Token::End => return None,
+        Token::Integer(_) | Token::Quoted(_) | Token::End => return None,
     };
-    Some(match written {
+    let (operator, level) = match written {
         "or" => (Operator::Or, 1),
         "and" => (Operator::And, 2),
-        "=" => (Operator::Equal, 4),
-        "<" => (Operator::Less, 4),
-        "<=" => (Operator::AtMost, 4),
-        "in" => (Operator::In, 4),
-        "subset" => (Operator::Subset, 4),
+        "=" | "!=" => (Operator::Equal, COMPARISON_LEVEL),
+        "<" | ">" => (Operator::Less, COMPARISON_LEVEL),
+        "<=" | ">=" => (Operator::AtMost, COMPARISON_LEVEL),
+        "in" => (Operator::In, COMPARISON_LEVEL),
+        "subset" => (Operator::Subset, COMPARISON_LEVEL),
         "|" => (Operator::Union, 5),
         "&" => (Operator::Intersection, 6),
         "+" => (Operator::Plus, 7),
@@ -31,7 +43,33 @@ fn operator(token: &Token) -> Option<(Operator, u8)> {
         "*" => (Operator::Times, 8),
         "/" => (Operator::By, 8),
         _ => return None,
-    })
+    };
+    let sides = match written {
+        ">" | ">=" => Sides::Swapped,
+        "!=" => Sides::Negated,
+        _ => Sides::AsWritten,
+    };
+    Some((operator, sides, level))
+}
+
+/// The expression that a sign and its sides stand for.
+fn joined(
+    at: Place,
+    operator: Operator,
+    sides: Sides,
+    left: Node,
+    right: Node,
+) -> Result<Node, Error> {
+    let (first, second) = match sides {
+        Sides::Swapped => (right, left),
+        _ => (left, right),
+    };
+    let form = Form::Binary(operator, Box::new(first), Box::new(second));
+    let node = Node::new(at, form)?;
+    match sides {
+        Sides::Negated => Node::new(at, Form::Not(Box::new(node))),
+        _ => Ok(node),
+    }
 }
 
 /// The kind that a word names, where a variable is called by its number.
@@ -50,6 +88,8 @@ impl Cursor {
         self.enter()?;
         let node = if self.at_word("if") {
             self.choice()?
+        } else if let Some(joining) = self.joining() {
+            self.over(joining)?
         } else {
             self.operation(1)?
         };
@@ -57,7 +97,7 @@ impl Cursor {
         Ok(node)
     }
 
-    fn boxed(&mut self) -> Result<Box<Node>, Error> {
+    pub fn boxed(&mut self) -> Result<Box<Node>, Error> {
         self.expression().map(Box::new)
     }
 
@@ -75,28 +115,38 @@ impl Cursor {
     fn operation(&mut self, least: u8) -> Result<Node, Error> {
         let at = self.place();
         let mut left = self.operand()?;
-        while let Some((operator, level)) = operator(self.peek()) {
+        while let Some((operator, sides, level)) = operator(self.peek()) {
             if level < least {
                 break;
             }
             self.pass();
             let right = self.operation(level + 1)?;
-            let form = Form::Binary(operator, Box::new(left), Box::new(right));
-            left = Node::new(at, form)?;
+            left = joined(at, operator, sides, left, right)?;
         }
         Ok(left)
     }
 
-    /// An atom, behind any `not` and `~`.
+    /// An atom, behind any `not`, `~` and `-`.
     fn operand(&mut self) -> Result<Node, Error> {
         let at = self.place();
+        if let Some(integer) = self.integer() {
+            return Node::new(at, Form::Integer(integer.value));
+        }
         let negated = self.take_word("not");
-        if !negated && !self.take_symbol("~") {
+        let minus = !negated && self.take_symbol("-");
+        if !negated && !minus && !self.take_symbol("~") {
             return self.atom();
         }
         self.enter()?;
         let form = if negated {
             Form::Not(Box::new(self.operation(NOT_LEVEL)?))
+        } else if minus {
+            let nothing = Node::new(at, Form::Integer(0))?;
+            Form::Binary(
+                Operator::Minus,
+                Box::new(nothing),
+                Box::new(self.operand()?),
+            )
         } else {
             Form::Complement(Box::new(self.operand()?))
         };
@@ -106,9 +156,6 @@ impl Cursor {
 
     fn atom(&mut self) -> Result<Node, Error> {
         let at = self.place();
-        if let Some(integer) = self.integer() {
-            return Node::new(at, Form::Integer(integer.value));
-        }
         if self.take_symbol("(") {
             let node = self.expression()?;
             self.symbol(")")?;
@@ -121,6 +168,11 @@ impl Cursor {
             if self.at_symbol("[") {
                 let (row, column) = self.indices()?;
                 return Node::new(at, Form::Entry(Reference::Name(name), row, column));
+            }
+            if self.at_symbol("(") {
+                let hint = hint(&name.text);
+                let message = format!("`{}` is no function{hint}", name.text);
+                return Err(Error::new(at, message));
             }
             return Node::new(at, Form::Name(name.text));
         }
@@ -135,9 +187,11 @@ impl Cursor {
         };
         if let Some(kind) = kind_word(&word) {
             self.pass();
-            let number = self.digits();
-            let number = number.ok_or_else(|| self.expected("a variable's number"))?;
-            return Node::new(at, Form::Numbered(kind, number));
+            let form = self.numbered(kind);
+            return Node::new(
+                at,
+                form.ok_or_else(|| self.expected("a variable's number"))?,
+            );
         }
         let form = match word.as_str() {
             "object" => {
@@ -151,19 +205,14 @@ impl Cursor {
                 Form::Entry(table, row, column)
             }
             "sum" => self.entry_sum()?,
-            "min" => {
-                let (first, second) = self.two_arguments()?;
-                Form::Lesser(first, second)
-            }
-            "max" => {
-                let (first, second) = self.two_arguments()?;
-                Form::Greater(first, second)
-            }
+            "min" => self.several(Joining::Least)?,
+            "max" => self.several(Joining::Greatest)?,
             "count" => Form::Count(self.argument()?),
             "empty" => Form::Empty(self.argument()?),
             "if" => return Err(self.expected("an operand; parentheses go around `if`")),
-            _ if self.at_symbol("-") => {
-                return Err(self.expected("an operand; `-x` is written `0 - x`"))
+            "forall" | "exists" => {
+                let due = format!("an operand; parentheses go around `{word}`");
+                return Err(self.expected(&due));
             }
             _ => return Err(self.expected("an expression")),
         };
@@ -214,6 +263,7 @@ impl Cursor {
     fn entry_sum(&mut self) -> Result<Form, Error> {
         self.pass();
         self.symbol("(")?;
+        self.no_loop("sum")?;
         let table = self.table_reference()?;
         let (set, column) = self.indices()?;
         self.symbol(")")?;
@@ -228,13 +278,12 @@ impl Cursor {
         Ok(part)
     }
 
-    fn two_arguments(&mut self) -> Result<(Box<Node>, Box<Node>), Error> {
-        self.pass();
-        self.symbol("(")?;
-        let first = self.boxed()?;
-        self.symbol(",")?;
-        let second = self.boxed()?;
-        self.symbol(")")?;
-        Ok((first, second))
+    /// The variable of this kind that is called by its number, which a loop may give.
+    pub fn numbered(&mut self, kind: Kind) -> Option<Form> {
+        if let Some(number) = self.digits() {
+            return Some(Form::Numbered(kind, number));
+        }
+        let name = self.bound_name()?;
+        Some(Form::NumberedBy(kind, name))
     }
 }

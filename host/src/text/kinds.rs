@@ -2,7 +2,7 @@
 
 use super::place::{Error, Place};
 use super::scope::{Meaning, Scope};
-use super::syntax::{Form, Node, Operator};
+use super::syntax::{Form, Joining, Node, Operator};
 use crate::reference::syntax::Kind;
 
 /// A kind in words.
@@ -34,6 +34,11 @@ impl Scope {
             Form::Object(_) => Kind::Element,
             Form::Members(..) | Form::Complement(_) => Kind::Set,
             Form::Empty(_) | Form::Not(_) => Kind::Condition,
+            Form::NumberedBy(kind, _) => *kind,
+            Form::Over(joining, ..) | Form::Several(joining, _) => match joining {
+                Joining::All | Joining::Some => Kind::Condition,
+                Joining::Sum | Joining::Greatest | Joining::Least => Kind::Number,
+            },
             Form::Binary(operator, left, _) => match operator {
                 Operator::Plus | Operator::Minus => match self.kind(left)? {
                     Kind::Set => Kind::Set,
@@ -59,6 +64,7 @@ impl Scope {
                 let message = format!("`{name}` is a group of objects, not an expression");
                 Err(Error::new(at, message))
             }
+            Meaning::Constant | Meaning::ConstantTable(_) => Ok(Kind::Number),
         }
     }
 

@@ -25,6 +25,8 @@ pub struct Names {
     pub variables: Vec<VariableName>,
     pub tables: Vec<Option<String>>,
     pub transitions: Vec<Option<String>>,
+    /// Tables of constants, which are no part of the model.
+    pub constants: Vec<String>,
 }
 
 /// The word for a kind, as in `set 0`.
@@ -61,6 +63,7 @@ impl Names {
             variables: variables.collect(),
             tables: vec![None; model.tables.len()],
             transitions: vec![None; model.transitions.len()],
+            constants: Vec::new(),
         }
     }
 

@@ -1,11 +1,12 @@
-//! Tokens to commands, in document 01's order.
+//! The files of a text to commands, in document 01's order. What is wrong is noted, and the next command read.
 
 use super::cursor::Cursor;
-use super::expressions::kind_word;
 use super::lexer::Token;
+use super::loops::EMPTY_LOOP;
 use super::place::{refuse_if, Error, Place};
-use super::syntax::{Command, Form, Integer, Name, Node, Side, Start, Table, Transition};
-use crate::reference::syntax::{CostRule, Kind, Preference};
+use super::sources::Sources;
+use super::syntax::{Command, Loop};
+use std::collections::HashSet;
 
 /// The groups of commands in their order, with the words that begin them.
 const ORDER: [(&str, &[&str]); 7] = [
@@ -18,258 +19,177 @@ const ORDER: [(&str, &[&str]); 7] = [
     ("bounds", &["bound"]),
 ];
 
-/// The commands of the text.
-pub fn commands(text: &str) -> Result<Vec<Command>, Error> {
-    let mut cursor = Cursor::new(text)?;
-    let mut commands = Vec::new();
-    let mut group = None;
-    while *cursor.peek() != Token::End {
-        if cursor.at_word("objects") {
-            commands.push(cursor.objects()?);
-            continue;
-        }
-        group = Some(cursor.group_due(group)?);
-        commands.push(cursor.command()?);
+/// The first of the groups whose commands a loop may repeat.
+const TRANSITIONS: usize = 3;
+
+/// Words that begin a command beside those of the order.
+const UNORDERED: [&str; 4] = ["objects", "constant", "include", "for"];
+
+/// The most files that may stand open around one another, and the most that are included in all.
+const MOST_OPEN: usize = 16;
+const MOST_INCLUDED: usize = 200;
+
+/// The commands of a text, what is wrong with it, and names that stand in what could not be read.
+#[derive(Default)]
+pub struct Parsed {
+    pub commands: Vec<Command>,
+    pub errors: Vec<Error>,
+    pub unread: HashSet<String>,
+    /// The group of the last command.
+    group: Option<usize>,
+    open: usize,
+    included: usize,
+}
+
+/// The commands of the text and of the files that it includes.
+pub fn parsed(sources: &mut Sources) -> Parsed {
+    let mut parsed = Parsed::default();
+    let end = parsed.file(sources, 0, &mut Cursor::default());
+    if parsed.group.is_none() && parsed.errors.is_empty() {
+        let message = "expected `cost sum` or `cost largest`, found the end of the text";
+        parsed.errors.push(Error::new(end, message));
     }
-    match group {
-        Some(_) => Ok(commands),
-        None => Err(cursor.expected("`cost sum` or `cost largest`")),
+    parsed
+}
+
+impl Parsed {
+    /// Reads a file's commands with the constants of the text around it; answers where it ends.
+    fn file(&mut self, sources: &mut Sources, file: usize, around: &mut Cursor) -> Place {
+        let (mut cursor, errors) = Cursor::new(file, sources.text(file));
+        self.errors.extend(errors);
+        cursor.constants = std::mem::take(&mut around.constants);
+        while *cursor.peek() != Token::End {
+            if cursor.at_word("include") {
+                let included = self.include(sources, &mut cursor);
+                self.errors.extend(included.err());
+            } else if let Some(command) = self.command(sources, &mut cursor) {
+                self.commands.push(command);
+            }
+        }
+        around.constants = std::mem::take(&mut cursor.constants);
+        cursor.place()
+    }
+
+    fn include(&mut self, sources: &mut Sources, cursor: &mut Cursor) -> Result<(), Error> {
+        cursor.pass();
+        let name = cursor.quoted()?;
+        refuse_if(self.open >= MOST_OPEN, name.at, || {
+            format!("more than {MOST_OPEN} files stand open here: does a file include itself?")
+        })?;
+        refuse_if(self.included >= MOST_INCLUDED, name.at, || {
+            format!(
+                "a text includes at most {MOST_INCLUDED} files, one included twice counting twice"
+            )
+        })?;
+        let file = sources.read(name.at, &name.text)?;
+        self.included += 1;
+        self.open += 1;
+        self.file(sources, file, cursor);
+        self.open -= 1;
+        Ok(())
+    }
+
+    /// The next command; what is wrong with it is noted and passed over.
+    fn command(&mut self, sources: &mut Sources, cursor: &mut Cursor) -> Option<Command> {
+        let standing = cursor.standing();
+        let begun = cursor.position();
+        let column = cursor.place().column;
+        let read = if cursor.at_word("for") {
+            self.looped(sources, cursor)
+        } else {
+            let due = self.group_due(cursor);
+            self.errors.extend(due.err());
+            cursor.command(sources)
+        };
+        match read {
+            Ok(command) => Some(command),
+            Err(error) => {
+                self.errors.push(error);
+                cursor.back_to(standing);
+                self.recover(cursor, begun, column);
+                None
+            }
+        }
+    }
+
+    /// A loop around commands of one group.
+    fn looped(&mut self, sources: &mut Sources, cursor: &mut Cursor) -> Result<Command, Error> {
+        cursor.enter()?;
+        let at = cursor.place();
+        let (binders, outer, margin) = cursor.loop_head()?;
+        let mut body = Vec::new();
+        let mut first_group = None;
+        while cursor.inside(margin) {
+            let place = cursor.place();
+            if !cursor.at_word("for") {
+                let group = ORDER.iter().position(|(_, words)| cursor.at_any(words));
+                let fits = group.is_some_and(|group| group >= TRANSITIONS);
+                refuse_if(!fits, place, || {
+                    "a loop repeats transitions, base cases, constraints or bounds".to_string()
+                })?;
+                let first = *first_group.get_or_insert(group);
+                refuse_if(first != group, place, || {
+                    "a loop repeats commands of one kind: this begins another loop".to_string()
+                })?;
+            }
+            body.extend(self.command(sources, cursor));
+        }
+        cursor.bound.truncate(outer);
+        cursor.leave();
+        refuse_if(body.is_empty() && self.errors.is_empty(), at, || {
+            EMPTY_LOOP.to_string()
+        })?;
+        Ok(Command::Loop(Loop { binders, body }))
+    }
+
+    /// Whether the command that begins here may follow the last one; it becomes the last one.
+    fn group_due(&mut self, cursor: &Cursor) -> Result<(), Error> {
+        if cursor.at_any(&UNORDERED) {
+            return Ok(());
+        }
+        let found = ORDER.iter().position(|(_, words)| cursor.at_any(words));
+        let Some(last) = self.group else {
+            self.group = found.or(Some(0));
+            let due = "`cost sum` or `cost largest`";
+            return match found {
+                Some(0) => Ok(()),
+                _ => Err(cursor.expected(due)),
+            };
+        };
+        let Some(group) = found else {
+            return Err(cursor.expected("a command or the end of the text"));
+        };
+        refuse_if(group == 0, cursor.place(), || {
+            "the cost rule stands once, at the front".to_string()
+        })?;
+        refuse_if(group < last, cursor.place(), || {
+            format!("{} stand before {}", ORDER[group].0, ORDER[last].0)
+        })?;
+        self.group = Some(group);
+        Ok(())
+    }
+
+    /// Passes over the rest of a command that could not be read, up to a line that begins another.
+    fn recover(&mut self, cursor: &mut Cursor, begun: usize, column: usize) {
+        if cursor.position() == begun {
+            cursor.pass();
+        }
+        while *cursor.peek() != Token::End && !begins_command(cursor, column) {
+            cursor.pass();
+        }
+        self.unread.extend(cursor.names_since(begun));
     }
 }
 
-impl Cursor {
-    /// The group of the command that begins here, if it may follow the last one's.
-    fn group_due(&self, last: Option<usize>) -> Result<usize, Error> {
-        let Some(last) = last else {
-            let due = self.at_word("cost").then_some(0);
-            return due.ok_or_else(|| self.expected("`cost sum` or `cost largest`"));
-        };
-        let begins_here =
-            |(_, words): &(&str, &[&str])| words.iter().any(|word| self.at_word(word));
-        let Some(group) = ORDER.iter().position(begins_here) else {
-            return Err(self.expected("a command or the end of the text"));
-        };
-        refuse_if(group == 0, self.place(), || {
-            "the cost rule stands once, at the front".to_string()
-        })?;
-        refuse_if(group < last, self.place(), || {
-            format!("{} stand before {}", ORDER[group].0, ORDER[last].0)
-        })?;
-        Ok(group)
+/// Whether a command begins at this line; a loop only if it is no further to the right than the last command.
+fn begins_command(cursor: &Cursor, column: usize) -> bool {
+    if !cursor.begins_line() {
+        return false;
     }
-
-    fn command(&mut self) -> Result<Command, Error> {
-        let at = self.place();
-        if self.take_word("cost") {
-            self.cost_rule()
-        } else if self.take_word("table") {
-            self.table(at).map(Command::Table)
-        } else if self.take_word("transition") {
-            self.transition(at).map(Command::Transition)
-        } else if self.take_word("base") {
-            self.symbol(":")?;
-            Ok(Command::Base(at, self.conditions()?))
-        } else if self.take_word("constraint") {
-            Ok(Command::Constraint(at, self.expression()?))
-        } else if self.take_word("bound") {
-            Ok(Command::Bound(at, self.expression()?))
-        } else {
-            self.variable(at)
-        }
-    }
-
-    fn cost_rule(&mut self) -> Result<Command, Error> {
-        if self.take_word("sum") {
-            Ok(Command::Cost(CostRule::Sum))
-        } else if self.take_word("largest") {
-            Ok(Command::Cost(CostRule::Largest))
-        } else {
-            Err(self.expected("`sum` or `largest`"))
-        }
-    }
-
-    /// The error that a name was due here, which a word of the language cannot be.
-    fn expected_name(&self, what: &str) -> Error {
-        match self.peek() {
-            Token::Word(word) => {
-                let message = format!("expected {what}; `{word}` is a word of the language");
-                Error::new(self.place(), message)
-            }
-            _ => self.expected(what),
-        }
-    }
-
-    fn objects(&mut self) -> Result<Command, Error> {
-        self.word("objects")?;
-        let group = self.free_name();
-        let group = group.ok_or_else(|| self.expected_name("a name for the group of objects"))?;
-        self.symbol("=")?;
-        let mut objects = Vec::new();
-        while let Some(object) = self.free_name() {
-            objects.push(object);
-        }
-        if objects.is_empty() || matches!(self.peek(), Token::Integer(_)) {
-            return Err(self.expected_name("the name of an object"));
-        }
-        Ok(Command::Objects(group, objects))
-    }
-
-    fn variable(&mut self, at: Place) -> Result<Command, Error> {
-        let kind = match self.peek() {
-            Token::Word(word) => kind_word(word),
-            _ => None,
-        };
-        self.pass();
-        let name = self.free_name();
-        let start = match kind {
-            Some(Kind::Set) => {
-                let side = self.side_and_equals()?;
-                Start::Set(side, self.members()?)
-            }
-            Some(Kind::Element) => {
-                let side = self.side_and_equals()?;
-                let start = self.object()?;
-                Start::Element(side, start, self.preference()?)
-            }
-            _ => {
-                self.symbol("=")?;
-                let start = self.whole_number()?;
-                Start::Number(start, self.preference()?)
-            }
-        };
-        Ok(Command::Variable(at, name, start))
-    }
-
-    fn side_and_equals(&mut self) -> Result<Side, Error> {
-        self.word("of")?;
-        let side = self.side()?;
-        self.symbol("=")?;
-        Ok(side)
-    }
-
-    fn whole_number(&mut self) -> Result<Integer, Error> {
-        let integer = self.integer();
-        integer.ok_or_else(|| self.expected("a whole number"))
-    }
-
-    fn preference(&mut self) -> Result<Preference, Error> {
-        if !self.take_word("prefer") {
-            Ok(Preference::None)
-        } else if self.take_word("less") {
-            Ok(Preference::Less)
-        } else if self.take_word("more") {
-            Ok(Preference::More)
-        } else {
-            Err(self.expected("`less` or `more`"))
-        }
-    }
-
-    fn table(&mut self, at: Place) -> Result<Table, Error> {
-        let name = self.free_name();
-        self.symbol("[")?;
-        let rows = self.side()?;
-        let columns = if self.take_symbol(",") {
-            Some(self.side()?)
-        } else {
-            None
-        };
-        self.symbol("]")?;
-        self.symbol("=")?;
-        let mut entries = vec![self.row()?];
-        while self.take_symbol("/") {
-            entries.push(self.row()?);
-        }
-        Ok(Table {
-            at,
-            name,
-            rows,
-            columns,
-            entries,
-        })
-    }
-
-    /// The entries up to the next `/` or the end of the table.
-    fn row(&mut self) -> Result<Vec<Integer>, Error> {
-        let mut row = vec![self.whole_number()?];
-        while let Some(entry) = self.integer() {
-            row.push(entry);
-        }
-        Ok(row)
-    }
-
-    fn transition(&mut self, at: Place) -> Result<Transition, Error> {
-        let label = self.label();
-        self.symbol(":")?;
-        let conditions = self.conditions()?;
-        if !self.take_word("cost") {
-            return Err(self.expected("`when` or `cost`"));
-        }
-        let cost = self.expression()?;
-        let mut effects = Vec::new();
-        while let Some(variable) = self.assigned()? {
-            self.symbol(":=")?;
-            effects.push((variable, self.expression()?));
-        }
-        self.after_effects()?;
-        Ok(Transition {
-            at,
-            label,
-            conditions,
-            cost,
-            effects,
-        })
-    }
-
-    /// A transition's name: a name, then names and numbers.
-    fn label(&mut self) -> Option<Name> {
-        let mut label = self.free_name()?;
-        loop {
-            if let Some(name) = self.free_name() {
-                label.text += &format!(" {}", name.text);
-            } else if let Token::Integer(digits) = self.peek() {
-                label.text += &format!(" {digits}");
-                self.pass();
-            } else {
-                return Some(label);
-            }
-        }
-    }
-
-    fn conditions(&mut self) -> Result<Vec<Node>, Error> {
-        let mut conditions = Vec::new();
-        while self.take_word("when") {
-            conditions.push(self.expression()?);
-        }
-        Ok(conditions)
-    }
-
-    /// The variable of an effect, if an effect begins here.
-    fn assigned(&mut self) -> Result<Option<Node>, Error> {
-        let at = self.place();
-        let kind = match self.peek() {
-            Token::Word(word) => kind_word(word),
-            _ => None,
-        };
-        let form = match (kind, self.peek_second()) {
-            (Some(kind), Token::Integer(_)) => {
-                self.pass();
-                self.digits().map(|number| Form::Numbered(kind, number))
-            }
-            _ => self.free_name().map(|name| Form::Name(name.text)),
-        };
-        form.map(|form| Node::new(at, form)).transpose()
-    }
-
-    /// Tells what often stands by mistake behind a transition's effects.
-    fn after_effects(&self) -> Result<(), Error> {
-        let told = [
-            ("when", "conditions stand before the cost"),
-            ("cost", "a transition has one cost"),
-            ("set", "an effect is written with `:=`, as `name := value`"),
-        ];
-        match told.iter().find(|(word, _)| self.at_word(word)) {
-            Some((_, message)) => Err(Error::new(self.place(), *message)),
-            None => Ok(()),
-        }
-    }
+    let by_number = matches!(cursor.peek_second(), Token::Integer(_));
+    let variable = cursor.at_any(ORDER[1].1) && !by_number;
+    let later = ORDER[2..].iter().any(|(_, words)| cursor.at_any(words));
+    let outer = cursor.place().column <= column;
+    let unordered = cursor.at_any(&UNORDERED) && (outer || !cursor.at_word("for"));
+    variable || later || unordered
 }

@@ -1,7 +1,7 @@
 //! Model bytes to text without names: every thing is called by its number.
 
 use super::names::Names;
-use super::spelling::{braces, Spelling};
+use super::spelling::{aligned, braces, Spelling};
 use crate::numbers::limit;
 use crate::numbers::refusal::MODEL_TOO_LONG;
 use crate::reference::{read_model, Model};
@@ -132,14 +132,4 @@ impl Printer<'_> {
         let lines = aligned(&entries, usize::from(columns));
         self.line(&lines.join(" /\n"));
     }
-}
-
-/// The entries as lines of one row each, in columns that end together.
-fn aligned(entries: &[String], columns: usize) -> Vec<String> {
-    let width = entries.iter().map(String::len).max().unwrap_or(0);
-    let line = |row: &[String]| {
-        let cells: Vec<String> = row.iter().map(|entry| format!("{entry:>width$}")).collect();
-        format!("    {}", cells.join(" "))
-    };
-    entries.chunks(columns).map(line).collect()
 }

@@ -1,5 +1,7 @@
 //! What is declared so far: names with what they mean, kinds and object counts of variables, sides of tables.
 
+use super::constants::ConstantTable;
+use super::foreign::hint;
 use super::names::{kind_name, Group, Names, VariableName};
 use super::place::{refuse_if, Error, Place};
 use super::syntax::{Integer, Members, Name, Object, Reference, Side};
@@ -15,6 +17,8 @@ pub enum Meaning {
     Object(usize, u8),
     Variable(usize),
     Table(usize),
+    Constant,
+    ConstantTable(usize),
 }
 
 impl Meaning {
@@ -25,6 +29,7 @@ impl Meaning {
             Meaning::Object(..) => "an object",
             Meaning::Variable(_) => "a variable",
             Meaning::Table(_) => "a table",
+            Meaning::Constant | Meaning::ConstantTable(_) => "a constant",
         }
     }
 }
@@ -37,6 +42,9 @@ pub struct Scope {
     counts: Vec<u8>,
     /// Rows and columns of tables.
     sides: Vec<(u8, u8)>,
+    pub constants: Vec<ConstantTable>,
+    /// Names in commands that could not be read.
+    pub unread: HashSet<String>,
     pub names: Names,
 }
 
@@ -79,11 +87,17 @@ impl Object {
 
 impl Scope {
     pub fn meaning(&self, at: Place, name: &str) -> Result<Meaning, Error> {
-        let found = self.meanings.get(name).copied();
-        found.ok_or_else(|| Error::new(at, format!("`{name}` is not declared")))
+        match self.meanings.get(name) {
+            Some(meaning) => Ok(*meaning),
+            None if self.unread.contains(name) => Err(Error::consequence(at)),
+            None => {
+                let hint = hint(name);
+                Err(Error::new(at, format!("`{name}` is not declared{hint}")))
+            }
+        }
     }
 
-    fn declare(&mut self, name: &Name, meaning: Meaning) -> Result<(), Error> {
+    pub fn declare(&mut self, name: &Name, meaning: Meaning) -> Result<(), Error> {
         if let Some(other) = self.meanings.get(&name.text) {
             let (text, what) = (&name.text, other.what());
             return Err(Error::new(
@@ -100,17 +114,18 @@ impl Scope {
     pub fn declare_objects(&mut self, group: &Name, objects: &[Name]) -> Result<(), Error> {
         let index = self.names.groups.len();
         self.declare(group, Meaning::Group(index))?;
+        let most = usize::from(limit::OBJECTS);
+        let names = objects.iter().take(most).map(|object| object.text.clone());
+        self.names.groups.push(Group {
+            name: group.text.clone(),
+            objects: names.collect(),
+        });
         for (number, object) in objects.iter().enumerate() {
-            let most = usize::from(limit::OBJECTS);
             refuse_if(number >= most, object.at, || {
                 format!("a group has at most {most} objects")
             })?;
             self.declare(object, Meaning::Object(index, number as u8))?;
         }
-        self.names.groups.push(Group {
-            name: group.text.clone(),
-            objects: objects.iter().map(|object| object.text.clone()).collect(),
-        });
         Ok(())
     }
 

@@ -3,7 +3,7 @@
 use super::names::Names;
 
 /// How tightly an expression's outermost sign binds, as in the grammar.
-mod level {
+pub mod level {
     pub const CHOICE: u8 = 0;
     pub const OR: u8 = 1;
     pub const AND: u8 = 2;
@@ -52,6 +52,16 @@ pub fn braces(members: u64) -> String {
         object += run + 1;
     }
     format!("{{{}}}", parts.join(", "))
+}
+
+/// The entries as lines of one row each, in columns that end together.
+pub fn aligned(entries: &[String], columns: usize) -> Vec<String> {
+    let width = entries.iter().map(String::len).max().unwrap_or(0);
+    let line = |row: &[String]| {
+        let cells: Vec<String> = row.iter().map(|entry| format!("{entry:>width$}")).collect();
+        format!("    {}", cells.join(" "))
+    };
+    entries.chunks(columns).map(line).collect()
 }
 
 pub struct Spelling<'a> {

@@ -48,7 +48,7 @@ fn through_the_program() {
                 "{arguments:?} {bytes:02x?} {}",
                 left.errors
             );
-            assert_eq!(left.errors, "");
+            left.only_notes();
             assert!(left.text().ends_with('\n'));
             statuses[left.status as usize] += 1;
         }
@@ -103,8 +103,7 @@ fn damaged_texts() {
             let cut = [&text[..from], &text[to..]].concat();
             let left = run_with(&["assemble"], &cut);
             if left.status == 2 {
-                left.complains(2, "standard input: line ");
-                assert!(left.errors.contains(", column "));
+                left.reports("standard input:");
                 errors += 1;
             } else {
                 assert_eq!((left.status, left.errors.as_str()), (0, ""));
@@ -113,4 +112,27 @@ fn damaged_texts() {
     }
     println!("{errors} texts with an error");
     assert!(errors >= 40);
+}
+
+/// Damaged models by the commands that look at their declarations.
+#[test]
+fn declarations_of_damaged_models() {
+    let mut random = Random::new(0xDEC0);
+    let commands: [&[&str]; 2] = [
+        &["declarations", "--states", "60", "--walks", "4"],
+        &["plan", "--unconditional", "--budget", "200"],
+    ];
+    let mut met = [0; 2];
+    for _ in 0..1_500 {
+        let bytes = corpus(&mut random);
+        for arguments in commands {
+            let arguments: Vec<OsString> = arguments.iter().map(OsString::from).collect();
+            let done = command::run(&arguments, &mut &bytes[..]).expect("an answer or a refusal");
+            assert!(done.status <= 1);
+            assert!(done.output.ends_with(b"\n"));
+            met[usize::from(done.status)] += 1;
+        }
+    }
+    println!("exit statuses 0 and 1: {met:?}");
+    assert!(met.iter().all(|count| *count >= 200));
 }

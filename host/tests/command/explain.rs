@@ -122,11 +122,13 @@ fn contradictions() {
         "Verdict 5, contradicted. A plan of 3 steps is given, at cost 7.",
         "Some declared bound or preference of the model is false [contradicted-only-if-false].",
         "By the declarations every plan costs at least 8; the plan given costs 7.",
-        "After 0 steps of it bound 1, 8, is 8, and the rest of the plan costs 7.",
+        "After 0 steps bound 1, 8, is 8, and the rest of the plan costs 7.",
+        "Bound 0, 1, is 1 in the base state at the end",
     ];
     says("bound", &designs_and("bound 1\nbound 8"), "", 0, &due);
     let late = designs_and("bound if at = b then 9 else 0");
-    says("late-bound", &late, "", 0, &["Verdict"]);
+    let due = "Bound 0, if at = b then 9 else 0, is 9 in the base state at the end";
+    says("late-bound", &late, "", 0, &["Verdict", due]);
 }
 
 /// The theorems that are cited are on the auditor's page.
@@ -187,6 +189,22 @@ fn stored_searches() {
     }
     println!("{searches} searches");
     assert!(searches >= 150);
+}
+
+/// The start has every variable, a step those that it changes.
+#[test]
+fn unchanged_variables_are_not_repeated() {
+    let text = designs_with(
+        "element at of design = none",
+        "number idle = 3\nelement at of design = none",
+    );
+    let path = file("explain-idle.dp", text.as_bytes());
+    let said = run(&["explain", &path]).text();
+    assert_eq!(said.matches("idle = 3").count(), 1, "{said}");
+    assert!(
+        said.contains("  0 load a    todo = {b, c}, at = a\n"),
+        "{said}"
+    );
 }
 
 /// A long name is no trouble, nor is a state without variables.

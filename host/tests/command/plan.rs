@@ -26,7 +26,11 @@ fn settings() {
         let mut arguments = vec!["plan"];
         arguments.extend(settings.split_whitespace());
         arguments.push(&designs);
-        run(&arguments).is(status, &format!("{due}\n"));
+        let left = run(&arguments);
+        left.gives(status, &format!("{due}\n"));
+        // A bare refusal says which setting.
+        let said = left.errors.contains("it has to be ");
+        assert_eq!(said, status == 1, "{}", left.errors);
     };
     let p1 = P1.trim_end();
     plan("--width 4 --length 3", 0, p1);
@@ -60,7 +64,12 @@ fn lent() {
     let plan = |lent: &[&str], status, due: &str| {
         let settings = ["plan", "--width", "4", "--length", "3"];
         let arguments = [&settings[..], lent, &[&designs]].concat();
-        run(&arguments).is(status, due);
+        let left = run(&arguments);
+        left.gives(status, due);
+        let said = left
+            .errors
+            .contains("Due at these settings: 3 plan bytes and 272 working words.");
+        assert_eq!(said, status == 1, "{}", left.errors);
     };
     plan(&["--plan-bytes", "3", "--words", "272"], 0, P1);
     plan(&["--plan-bytes", "9", "--words", "16777216"], 0, P1);
@@ -96,7 +105,11 @@ fn fields() {
     .is(0, due);
     let due = "refused: 2 setting out of range\nplan flag: 0\ncost: 0\nbound: 0\nlength: 0\n\
         expansions: 0\nrounds: 0\nwidth: 0\nplan:\n";
-    run(&["plan", "--fields", "--width", "3", &designs]).is(1, due);
+    let left = run(&["plan", "--fields", "--width", "3", &designs]);
+    left.gives(1, due);
+    assert!(left
+        .errors
+        .contains("The widest beam is 3; it has to be a power of two"));
 }
 
 /// At a refusal by the state the fields give the path.
@@ -117,9 +130,18 @@ fn endings() {
     let text = std::fs::read(example("three-designs.dp")).unwrap();
     let model = std::fs::read(example("three-designs.model")).unwrap();
     run(&["plan", &file(".dp", &text)]).is(0, P1);
-    run(&["plan", &file("text.txt", &text)]).is(1, "refused 5\n");
+    let left = run(&["plan", &file("text.txt", &text)]);
+    left.gives(1, "refused 5\n");
+    assert!(
+        left.errors.contains("The input looks like text"),
+        "{}",
+        left.errors
+    );
     run(&["plan", &file("bytes.dp.model", &model)]).is(0, P1);
-    run(&["plan", &file("bytes.dp", &model)]).complains(2, "line 1, column 1: ");
+    run(&["plan", &file("bytes.dp", &model)]).complains(
+        2,
+        "bytes.dp: these are the bytes of a model, where its text is due",
+    );
 }
 
 /// The searches that are stored as cases, at their own settings and buffers.
@@ -148,7 +170,7 @@ fn stored_searches() {
                 &words,
             ];
             let due = format!("{}\n", answer_line(&answer, &after));
-            run_with(&arguments, &search.model).is(i32::from(answer.refused), &due);
+            run_with(&arguments, &search.model).gives(i32::from(answer.refused), &due);
             searches += 1;
         }
     }

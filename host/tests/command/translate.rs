@@ -28,22 +28,52 @@ fn examples_there_and_back() {
 fn errors_have_places() {
     let text = designs_with("cost hours[at, b]", "cost hours[at, d]");
     let path = file("error.dp", text.as_bytes());
-    let due = format!("{path}: line 24, column 20: ");
-    run(&["assemble", &path]).complains(2, &due);
-    run(&["plan", &path]).complains(2, &due);
-    run(&["explain", &path]).complains(2, &due);
-    run(&["check", "--plan", "0", &path]).complains(2, &due);
+    let due = format!(
+        "{path}:24:20: `d` is not declared\n        cost hours[at, d]\n                       ^\n"
+    );
+    run(&["assemble", &path]).reports(&due);
+    run(&["expand", &path]).reports(&due);
+    run(&["plan", &path]).reports(&due);
+    run(&["explain", &path]).reports(&due);
+    run(&["check", "--plan", "0", &path]).reports(&due);
     let left = run_with(&["assemble"], text.as_bytes());
-    left.complains(2, "standard input: line 24, column 20: ");
-    run_with(&["assemble"], b"").complains(2, "line 1, column 1: ");
+    left.reports("standard input:24:20: ");
+    run_with(&["assemble"], b"").reports("standard input:1:1: ");
 }
 
 #[test]
 fn texts_that_are_not_utf_8() {
     let left = run_with(&["assemble"], b"cost sum\n# \xC3\xA9 \xFF");
-    left.complains(2, "standard input: line 2, column 5: the text is not UTF-8");
+    left.reports("standard input:2:5: the text is not UTF-8");
     let path = file("not-utf-8.dp", &[0xFF]);
-    run(&["plan", &path]).complains(2, "line 1, column 1: the text is not UTF-8");
+    run(&["plan", &path]).reports(&format!("{path}:1:1: the text is not UTF-8"));
+}
+
+/// The text without loops assembles to the same bytes, and has no loops, constants and other files.
+#[test]
+fn expanded_texts() {
+    for name in EXAMPLES
+        .map(|name| format!("{name}.dp"))
+        .iter()
+        .chain(&["tsptw-20/tour.dp".to_string()])
+    {
+        let plain = run(&["expand", &example(name)]);
+        assert_eq!((plain.status, plain.errors.as_str()), (0, ""));
+        for word in ["for ", "forall ", "constant ", "include ", "from "] {
+            assert!(!plain.text().contains(word), "{name}: {word}");
+        }
+        let model = run(&["assemble", &example(name)]).output;
+        assert_eq!(
+            run_with(&["assemble"], &plain.output).output,
+            model,
+            "{name}"
+        );
+        assert_eq!(
+            run_with(&["expand"], &plain.output).output,
+            plain.output,
+            "{name}"
+        );
+    }
 }
 
 #[test]
@@ -64,5 +94,7 @@ fn models_without_text() {
     run_with(&["disassemble"], cut).complains(1, "standard input: refused 4, bytes end early");
     let longer = [&model[..], &[0]].concat();
     run_with(&["disassemble"], &longer).complains(1, "refused 9, ");
+    let text = std::fs::read(example("sop.dp")).unwrap();
+    run_with(&["disassemble"], &text).complains(1, "this looks like text");
     run_with(&["disassemble"], &vec![0; 70_000]).complains(1, "refused 1, model too long");
 }

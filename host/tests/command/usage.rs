@@ -7,7 +7,17 @@ use std::process::{Command, Stdio};
 fn help_and_version() {
     let page = run(&["help"]);
     assert_eq!((page.status, page.errors.as_str()), (0, ""));
-    for command in ["plan", "check", "explain", "assemble", "disassemble"] {
+    for command in [
+        "plan",
+        "explain",
+        "check",
+        "declarations",
+        "verify",
+        "compare",
+        "assemble",
+        "expand",
+        "disassemble",
+    ] {
         assert!(
             page.text().contains(&format!("\n  {command} ")),
             "{command}"
@@ -20,7 +30,11 @@ fn help_and_version() {
     }
     run(&["--help"]).is(0, &page.text());
     run(&["-h"]).is(0, &page.text());
-    let version = format!("repgypsum {}\n", env!("CARGO_PKG_VERSION"));
+    let kit = include_str!("../../../kit").trim();
+    let version = format!(
+        "repgypsum {}, proved with {kit}\n",
+        env!("CARGO_PKG_VERSION")
+    );
     run(&["--version"]).is(0, &version);
 }
 
@@ -83,14 +97,110 @@ fn files_that_cannot_be_read() {
     run(&["plan", ""]).complains(2, "cannot be read");
 }
 
-/// A chart that cannot be written leaves no output either.
+/// The explanation is printed even where the chart cannot be written, and what is there and no chart stays.
 #[test]
 fn files_that_cannot_be_written() {
     let designs = example("three-designs.dp");
-    run(&["explain", "--svg", "/no/such/folder/x.svg", &designs])
-        .complains(2, "cannot be written: ");
-    run(&["explain", "--svg", &example(""), &designs]).complains(2, "cannot be written: ");
-    run(&["explain", "--svg", "", &designs]).complains(2, "cannot be written: ");
+    let plain = run(&["explain", &designs]).text();
+    for out in ["/no/such/folder/x.svg", &example(""), ""] {
+        let left = run(&["explain", "--svg", out, &designs]);
+        assert_eq!(left.status, 2);
+        assert!(left.text().starts_with(&plain), "{}", left.text());
+        assert!(left.text().ends_with("\nThe chart\n  It is not drawn.\n"));
+        assert!(
+            left.errors.contains(": cannot be written: "),
+            "{}",
+            left.errors
+        );
+        left.only_notes();
+    }
+    let kept = file("kept.dp", b"cost sum\n");
+    let left = run(&["explain", "--svg", &kept, &designs]);
+    assert!(
+        left.errors.contains("it is there already, and is no chart"),
+        "{}",
+        left.errors
+    );
+    assert_eq!(std::fs::read(&kept).unwrap(), b"cost sum\n");
+}
+
+/// No chart of an older plan stays where no plan is given; a chart replaces a chart.
+#[test]
+fn charts_are_never_stale() {
+    let out = file("stale.svg", b"");
+    let designs = example("three-designs.dp");
+    let no_plan = file(
+        "stale.dp",
+        super::designs_and("constraint not at = b").as_bytes(),
+    );
+    let left = run(&["explain", "--svg", &out, &no_plan]);
+    assert!(left
+        .text()
+        .ends_with("No plan is given, so none is drawn.\n"));
+    assert_eq!(std::fs::read(&out).unwrap(), b"");
+    run(&["explain", "--svg", &out, &designs]);
+    let first = std::fs::read_to_string(&out).unwrap();
+    assert!(first.starts_with("<svg xmlns="));
+    assert!(first.contains("Hours from the start"));
+    run(&["explain", "--svg", &out, &example("tsptw.dp")]);
+    let second = std::fs::read_to_string(&out).unwrap();
+    assert!(first != second && second.contains("Cost from the start"));
+    let left = run(&["explain", "--svg", &out, &no_plan]);
+    assert!(
+        left.text().contains("The older chart in "),
+        "{}",
+        left.text()
+    );
+    assert!(!std::path::Path::new(&out).exists());
+}
+
+/// Names behind `--svg=` may be any that the system takes.
+#[cfg(unix)]
+#[test]
+fn odd_names_of_charts() {
+    use std::os::unix::ffi::OsStringExt;
+    let folder = std::path::Path::new(&file("any.svg", &[])).with_file_name("");
+    for name in [
+        &b"a=b.svg"[..],
+        b"\xFF\xFE.svg",
+        b"with blank.svg",
+        b"-x.svg",
+        b"new\nline.svg",
+    ] {
+        let path = folder.join(std::ffi::OsString::from_vec(name.to_vec()));
+        let _ = std::fs::remove_file(&path);
+        let mut option = std::ffi::OsString::from("--svg=");
+        option.push(&path);
+        let mut command = Command::new(env!("CARGO_BIN_EXE_repgypsum"));
+        let command = command.arg("explain").arg(option).arg(example("sop.dp"));
+        let left = command.output().unwrap();
+        assert_eq!(left.status.code(), Some(0));
+        assert!(std::fs::read(&path).unwrap().starts_with(b"<svg"));
+    }
+}
+
+/// A closed standard output is told; a reader that has gone away is not.
+#[cfg(target_os = "linux")]
+#[test]
+fn closed_outputs() {
+    let shell = |line: &str| {
+        let mut command = Command::new("sh");
+        let command = command.arg("-c").arg(line);
+        let command = command.env("R", env!("CARGO_BIN_EXE_repgypsum"));
+        command.env("M", example("sop.model")).output().unwrap()
+    };
+    let left = shell("\"$R\" plan \"$M\" >&-");
+    assert_eq!(left.status.code(), Some(2));
+    let errors = String::from_utf8(left.stderr).unwrap();
+    assert_eq!(
+        errors,
+        "repgypsum: standard output cannot be written: it is closed\n"
+    );
+    let left = shell("\"$R\" plan \"$M\" > /dev/null");
+    assert_eq!((left.status.code(), left.stderr.len()), (Some(0), 0));
+    let left = shell("(\"$R\" explain \"$M\"; echo $? >&2) | true");
+    let errors = String::from_utf8(left.stderr).unwrap();
+    assert_eq!(errors, "0\n");
 }
 
 #[test]

@@ -3,10 +3,10 @@
 use super::{example_texts, round_trip};
 use repgypsum_host::generate::Random;
 use repgypsum_host::models::{sop, three_designs, tsptw};
-use repgypsum_host::text::{assemble, disassemble};
+use repgypsum_host::text::{assemble, assemble_text, disassemble};
 
 /// Tokens that are put into a text.
-const PUT: [&str; 48] = [
+const PUT: [&str; 62] = [
     "0",
     "1",
     "3",
@@ -55,7 +55,52 @@ const PUT: [&str; 48] = [
     "=",
     "+",
     "ä",
+    "for",
+    "forall",
+    "exists",
+    "constant",
+    "include",
+    "from",
+    "\"x.csv\"",
+    "\"",
+    "..",
+    "j",
+    "j in design:",
+    "-",
+    "!=",
+    "\n",
 ];
+
+/// A text with every form that stands for plain text.
+const LOOPS: &str = "cost sum
+constant most = 9
+constant late[3] = 4 5 6
+objects design = none a b c
+set todo of design = {a..c}
+element at of design = none
+number time = 0 prefer less
+number spent = most
+table hours[design, design] =
+    0 2 5 4 /
+    0 0 3 6 /
+    0 3 0 2 /
+    0 6 2 0
+for d in design - none:
+    transition load d:
+        when d in todo
+        for i in {a, b} - d:
+            when not i in todo or time >= 0 - most
+        cost hours[at, d]
+        todo := todo - d
+        at := d
+        for v in {time, spent}: v := v + max(hours[at, d], -1, late[1])
+base: when empty(todo) when at != none
+for k in 0..2:
+    constraint time > -late[k] or (exists i in a..b: i in todo)
+constraint forall i in design, j in design - i: not (i in todo and j in todo) or time < 99
+bound sum i in design - none: min j in design: hours[j, i]
+bound min(1, 2, 3, time)
+";
 
 fn damaged_text(random: &mut Random, text: &str) -> String {
     let mut words: Vec<&str> = text.split_inclusive([' ', '\n']).collect();
@@ -96,6 +141,8 @@ fn damaged_text(random: &mut Random, text: &str) -> String {
 fn damaged_texts() {
     let mut random = Random::new(0x7EC7);
     let mut texts = example_texts();
+    assemble(LOOPS).unwrap();
+    texts.extend([LOOPS.to_string(), LOOPS.to_string()]);
     texts.extend(
         [three_designs(), tsptw(), sop()]
             .iter()
@@ -105,9 +152,11 @@ fn damaged_texts() {
     for _ in 0..20_000 {
         let original = random.pick(&texts);
         let text = damaged_text(&mut random, &original);
-        match assemble(&text) {
-            Ok(bytes) => {
-                assert!(round_trip(&bytes), "{text}");
+        match assemble_text(&text) {
+            Ok(found) => {
+                assert!(round_trip(&found.bytes), "{text}");
+                let plain = assemble(&found.plain);
+                assert_eq!(plain.as_ref(), Ok(&found.bytes), "{text}\n{}", found.plain);
                 assembled += 1;
             }
             Err(error) => {

@@ -1,10 +1,10 @@
 //! Wrong texts, with what is said about them and where.
 
-use super::{round_trip, PRELUDE};
+use super::PRELUDE;
 use repgypsum_host::text::assemble;
 
 /// The error of a text as it is printed.
-fn complaint(text: &str) -> String {
+pub fn complaint(text: &str) -> String {
     match assemble(text) {
         Ok(bytes) => panic!("{text}\nassembles to {} bytes", bytes.len()),
         Err(error) => error.to_string(),
@@ -82,9 +82,58 @@ fn errors_of_expressions() {
             "column 7: expected a number, found a condition",
         ),
         (
-            "bound -time",
-            "column 7: expected an operand; `-x` is written `0 - x`, found `-`",
+            "bound -at",
+            "column 8: expected a number, found an element",
         ),
+        (
+            "bound abs(time)",
+            "column 7: `abs` is no function; `abs(x)` is written `max(x, -x)`",
+        ),
+        (
+            "bound 1 + forall j in node: j in todo",
+            "column 11: expected an operand; parentheses go around `forall`, found `forall`",
+        ),
+        (
+            "bound forall j in node: j in todo",
+            "column 7: expected a number, found a condition",
+        ),
+        (
+            "bound max j in {}: 1",
+            "column 7: the loop goes over nothing, which has no greatest or least",
+        ),
+        (
+            "bound sum at in node: 1",
+            "column 11: `at` is a variable: a loop needs a name of its own",
+        ),
+        (
+            "bound sum j in node, j in node: 1",
+            "column 22: `j` is the variable of a loop around this one",
+        ),
+        (
+            "bound sum j in home: 1",
+            "column 16: a loop goes over a group of objects, a set in braces or a run; `home` is none",
+        ),
+        (
+            "bound sum j in 3..1: 1",
+            "column 16: the run from `3` to `1` goes backwards",
+        ),
+        (
+            "bound sum j in home..1: 1",
+            "column 16: a run goes over numbers or over the objects of one group, not from `home` to `1`",
+        ),
+        (
+            "bound sum j in {home, 0}: 1",
+            "column 23: `0` is a member already",
+        ),
+        (
+            "bound sum i in 1..999: sum j in 1..999: 1",
+            "column 28: the loops stand for more than 262144 parts, more than a model can have",
+        ),
+        (
+            "bound sum j in node 1",
+            "column 21: expected `-`, `,` or `:`, found `1`",
+        ),
+        ("bound element j", "column 15: expected a variable's number, found `j`"),
         (
             "bound 1 + if at = home then 1 else 2",
             "column 11: expected an operand; parentheses go around `if`, found `if`",
@@ -141,12 +190,20 @@ fn errors_of_expressions() {
             "column 12: expected a condition, found a number",
         ),
         (
-            "constraint time > 1",
-            "column 17: `>` is written with `<` and the sides the other way round",
+            "constraint time > at",
+            "column 19: expected a number, found an element",
         ),
         (
-            "constraint at != home",
-            "column 15: `!=` is written with `not` and `=`",
+            "constraint at == home",
+            "column 15: `==` is written `=`",
+        ),
+        (
+            "constraint at = home && time < 1",
+            "column 22: `&&` is written `and`",
+        ),
+        (
+            "constraint is_empty",
+            "column 12: `is_empty` is not declared; a set without members is written `empty(s)`",
         ),
         (
             "constraint todo = done",
@@ -228,70 +285,5 @@ fn errors_of_expressions() {
     for (text, message) in told {
         let message = format!("line 4, {message}");
         assert_eq!(complaint(&format!("{PRELUDE}{text}")), message, "{text}");
-    }
-}
-
-#[test]
-fn errors_of_sizes() {
-    let many = |what: &str, count: usize| format!("cost sum{}", format!("\n{what}").repeat(count));
-    let told = [
-        ("number = 0", 16, "variables"),
-        ("table [1] = 0", 32, "tables"),
-        ("transition: cost 0", 256, "transitions"),
-        ("base:", 16, "base cases"),
-        ("constraint 1 = 1", 32, "constraints"),
-        ("bound 1", 8, "bounds"),
-    ];
-    for (command, most, what) in told {
-        assert!(round_trip(&assemble(&many(command, most)).unwrap()));
-        let message = format!(
-            "line {}, column 1: at most {most} {what} are allowed",
-            most + 2
-        );
-        assert_eq!(complaint(&many(command, most + 1)), message);
-    }
-    let conditions = |count| format!("cost sum base:{}", "\nwhen 1 = 1".repeat(count));
-    assert!(assemble(&conditions(16)).is_ok());
-    assert_eq!(
-        complaint(&conditions(17)),
-        "line 18, column 6: at most 16 conditions are allowed"
-    );
-    let names: Vec<String> = (0..65).map(|object| format!("o{object}")).collect();
-    let group = |count: usize| format!("cost sum\nobjects o =\n{}", names[..count].join("\n"));
-    assert!(assemble(&group(64)).is_ok());
-    assert_eq!(
-        complaint(&group(65)),
-        "line 67, column 1: a group has at most 64 objects"
-    );
-    let table = format!(
-        "table [64, 64] = {}",
-        vec![["0"; 64].join(" "); 64].join("/")
-    );
-    assert!(assemble(&many(&table, 3)).is_ok());
-    let message = "line 5, column 1: with this command the model has more than 65536 bytes";
-    assert_eq!(complaint(&many(&table, 4)), message);
-}
-
-#[test]
-fn errors_of_nesting() {
-    let chain = |terms: usize| format!("cost sum bound {}", vec!["1"; terms].join(" + "));
-    assert!(round_trip(&assemble(&chain(32)).unwrap()));
-    let deep = "the expression that begins here is nested 33 deep; at most 32 is allowed";
-    assert_eq!(complaint(&chain(33)), format!("line 1, column 16: {deep}"));
-    let negations = |count: usize| format!("cost sum base: when {}1 = 1", "not ".repeat(count));
-    assert!(round_trip(&assemble(&negations(30)).unwrap()));
-    assert_eq!(
-        complaint(&negations(31)),
-        format!("line 1, column 21: {deep}")
-    );
-    let parentheses =
-        |count: usize| format!("cost sum bound {}1{}", "(".repeat(count), ")".repeat(count));
-    assert!(assemble(&parentheses(90)).is_ok());
-    for opening in ["(", "not ", "~", "min(", "if ", "1 + (", "t[", "empty("] {
-        let open = complaint(&format!("cost sum bound {}", opening.repeat(100_000)));
-        assert!(
-            open.contains("stand open here") || open.contains("expected"),
-            "{open}"
-        );
     }
 }

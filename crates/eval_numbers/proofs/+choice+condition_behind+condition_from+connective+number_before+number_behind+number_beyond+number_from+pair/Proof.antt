@@ -1,19 +1,24 @@
--- The cycle of `choice`, `condition_behind`, `condition_from`, `connective`, `number_before`, `number_behind`, `number_beyond`, `number_from`, `pair` in `eval_sets::numbers`: each function meets its contract, and the depth falls.
-use Prim.Native.Nat.{_+_, _*_, _-_, ℕ, _<_}
-use mathlib.Core.Path.{_≡_, sym, _∙_}
+-- The cycle of `choice`, `condition_behind`, `condition_from`, `connective`, `number_before`, `number_behind`, `number_beyond`, `number_from`, `pair` in `eval_numbers`: each function meets its contract, and the depth falls.
+use Prim.Native.Nat.{_+_, _*_, _-_, _^_, ℕ, _<_, _≤_}
+use mathlib.Core.Path.{_≡_, refl, sym, _∙_}
 use native.Mathlib.Omega.{arith}
+use Rattle.eval_sets.specs.declared.answers.NumberValue.{NumberValue}
+use Rattle.eval_sets.specs.declared.answers.NumberValue.the-variants as N
+use Rattle.eval_sets.specs.declared.answers.ConditionValue.{ConditionValue}
+use Rattle.eval_sets.specs.declared.answers.ConditionValue.the-variants as C
 use lib.ListN.{length, drop, length-drop}
 use mir.Val.{SFits}
 use mir.Syntax.{w64}
 use borrow.Author.Needs.{needs}
 use borrow.Fn.Kinds.{In}
 use borrow.Fn.PlainCycle.{Measures, is, falls, and}
-use Rattle.eval_sets.specs.Runs.{environment, runNumber, runCondition, numberAt, conditionAt, numberBehind, conditionBehind, runPair, chosen, skipAt}
+use Rattle.eval_sets.specs.Forms.{numberForm, conditionForm}
+use Rattle.eval_sets.specs.Runs.{Environment, environment, runNumber, runCondition, numberAt, conditionAt, numberBehind, conditionBehind, runPair, pairFirst, pairSecond, numberBefore, chosen, runChoice, choiceFirst, runConnective, connectiveFirst, decided}
 use Rattle.eval_sets.proofs.Within.{number-within, condition-within, condition-known, number-past, condition-past, number-room, condition-room, variable-room, literal-room, member-room, pair-in-range, pair-run-within, number-at-within, condition-at-within}
-use Rattle.eval_sets.proofs.Opening.{number-no-depth, number-no-byte, number-open, variable-open, literal-open, condition-no-depth, condition-no-byte, condition-open, member-open, pair-values, pair-second, pair-first, choice-first, choice-second, choice-trouble, connective-decided, connective-open, connective-trouble, before-value, before-trouble}
+use Rattle.eval_sets.proofs.Opening.{number-opens, condition-opens}
 use Rattle.eval_sets.proofs.Spans.{span-within}
 use Rattle.words.proofs.Integers.{back}
-use Rattle.eval_sets.proofs.Slices.{behind, first-at, none-behind, some-behind}
+use Rattle.eval_sets.proofs.Slices.{behind}
 use Rattle.eval_numbers.proofs.choice.Reads as choice
 use Rattle.eval_numbers.proofs.choice.Kinds as choice-kinds
 use Rattle.eval_numbers.proofs.+choice+condition_behind+condition_from+connective+number_before+number_behind+number_beyond+number_from+pair.Lts-choice as choice-lts
@@ -171,859 +176,597 @@ number-from-calls t = (after-reads.Asked, after-reads.Learnt, number-variable-re
 abbrev pair-calls : ℕ → pair-lts.Claims
 pair-calls t = (number-from-below t, number-from.Post)
 
-choice-condition-from-requires : (t : ℕ) → choice-lts.Need-condition-from-requires (choice-calls t) (choice-at t) choice.Post
-choice-condition-from-requires t c κs =
-    let a = c .before .before .before .before .before .args in
-    let q : 4 * a .depth + 2 ≡ t = c .before .before .before .before .before .pre .0 in (omega arith, tt)
-
-choice-enum-known-b : (t : ℕ) → choice-lts.Need-enum-known-b (choice-calls t) (choice-at t) choice.Post
-choice-enum-known-b t c = search needs
-
-choice-number-before-requires : (t : ℕ) → choice-lts.Need-number-before-requires (choice-calls t) (choice-at t) choice.Post
-choice-number-before-requires t c κs =
-    let a = c .before .before .before .before .before .before .before .before .before .before .args in
-    let p = environment (a .model .now) (a .state .now) (a .full .now) (a .tables .now) in
-    let e = drop (a .at) (a .e .now) in
-    let h = sym (c .before .before .before .before .condition-from .ensures) ∙ c .before .before .b .given .1 in
-    let q : 4 * a .depth + 2 ≡ t = c .before .before .before .before .before .before .before .before .before .before .pre .0 in (omega arith, condition-known (a .depth) p e (c .before .before .b .given .0 .0) (c .before .before .b .given .0 .1 .0) h)
-
-choice-number-beyond-requires : (t : ℕ) → choice-lts.Need-number-beyond-requires (choice-calls t) (choice-at t) choice.Post
-choice-number-beyond-requires t c κs =
-    let a = c .before .before .before .before .before .before .before .before .before .before .args in
-    let p = environment (a .model .now) (a .state .now) (a .full .now) (a .tables .now) in
-    let e = drop (a .at) (a .e .now) in
-    let h = sym (c .before .before .before .before .condition-from .ensures) ∙ c .before .before .b .given .1 in
-    let q : 4 * a .depth + 2 ≡ t = c .before .before .before .before .before .before .before .before .before .before .pre .0 in (omega arith, condition-known (a .depth) p e (c .before .before .b .given .0 .0) (c .before .before .b .given .0 .1 .0) h)
-
-choice-enum-known-t : (t : ℕ) → choice-lts.Need-enum-known-t (choice-calls t) (choice-at t) choice.Post
-choice-enum-known-t t c = search needs
-
-choice-returns : (t : ℕ) → choice-lts.Need-returns (choice-calls t) (choice-at t) choice.Post
-choice-returns t c =
-    let a = c .before .before .before .before .before .before .before .before .before .before .before .args in
-    let p = environment (a .model .now) (a .state .now) (a .full .now) (a .tables .now) in
-    let e = drop (a .at) (a .e .now) in
-    let h = sym (c .before .before .before .before .before .condition-from .ensures) ∙ c .before .before .before .b .given .1 in
-    let b = c .before .before .before .b in
-    c .number-before .ensures ∙ sym
-    (choice-first (λ f. runNumber (a .depth) p f) (λ f. runCondition (a .depth) p f) e (b .given .0 .0) (b .given .0 .1 .0) h (c .before .if1 .taken))
-
-choice-returns-2 : (t : ℕ) → choice-lts.Need-returns-2 (choice-calls t) (choice-at t) choice.Post
-choice-returns-2 t c =
-    let a = c .before .before .before .before .before .before .before .before .before .before .before .args in
-    let p = environment (a .model .now) (a .state .now) (a .full .now) (a .tables .now) in
-    let e = drop (a .at) (a .e .now) in
-    let h = sym (c .before .before .before .before .before .condition-from .ensures) ∙ c .before .before .before .b .given .1 in
-    let b = c .before .before .before .b in
-    c .number-beyond .ensures ∙ sym
-    (choice-second (λ f. runNumber (a .depth) p f) (λ f. runCondition (a .depth) p f) e (b .given .0 .0) (b .given .0 .1 .0) h (c .before .if1 .left))
-
-choice-returns-3 : (t : ℕ) → choice-lts.Need-returns-3 (choice-calls t) (choice-at t) choice.Post
-choice-returns-3 t c =
-    let a = c .before .before .before .before .before .before .before .before .before .args in
-    let p = environment (a .model .now) (a .state .now) (a .full .now) (a .tables .now) in
-    let e = drop (a .at) (a .e .now) in
-    sym
-    (
-    choice-trouble (λ f. runNumber (a .depth) p f) (λ f. runCondition (a .depth) p f) e (c .before .t .given .0 .0)
-    (sym (c .before .before .before .condition-from .ensures) ∙ c .before .t .given .1)
-    )
-
-condition-behind-enum-known-form : (t : ℕ) → condition-behind-lts.Need-enum-known-form (condition-behind-calls t) (condition-behind-at t) condition-behind.Post
-condition-behind-enum-known-form t c = search needs
-
-condition-behind-pair-requires : (t : ℕ) → condition-behind-lts.Need-pair-requires (condition-behind-calls t) (condition-behind-at t) condition-behind.Post
-condition-behind-pair-requires t c κs =
-    let a = c .before .before .before .before .before .before .before .before .args in
-    let q : 4 * a .depth + 3 ≡ t = c .before .before .before .before .before .before .before .before .pre .0 in (omega arith, tt)
-
-condition-behind-comparison-requires : (t : ℕ) → condition-behind-lts.Need-comparison-requires (condition-behind-calls t) (condition-behind-at t) condition-behind.Post
-condition-behind-comparison-requires t c κs = search needs
-
-condition-behind-enum-told : (t : ℕ) → condition-behind-lts.Need-enum-told (condition-behind-calls t) (condition-behind-at t) condition-behind.Post
-condition-behind-enum-told t c = search needs
-
-condition-behind-after-requires : (t : ℕ) → condition-behind-lts.Need-after-requires (condition-behind-calls t) (condition-behind-at t) condition-behind.Post
-condition-behind-after-requires t c κs = search needs
-
-condition-behind-same-elements-requires : (t : ℕ) → condition-behind-lts.Need-same-elements-requires (condition-behind-calls t) (condition-behind-at t) condition-behind.Post
-condition-behind-same-elements-requires t c κs = search needs
-
-condition-behind-enum-told-2 : (t : ℕ) → condition-behind-lts.Need-enum-told-2 (condition-behind-calls t) (condition-behind-at t) condition-behind.Post
-condition-behind-enum-told-2 t c = search needs
-
-condition-behind-member-of-requires : (t : ℕ) → condition-behind-lts.Need-member-of-requires (condition-behind-calls t) (condition-behind-at t) condition-behind.Post
-condition-behind-member-of-requires t c κs = search needs
-
-condition-behind-enum-told-3 : (t : ℕ) → condition-behind-lts.Need-enum-told-3 (condition-behind-calls t) (condition-behind-at t) condition-behind.Post
-condition-behind-enum-told-3 t c = search needs
-
-condition-behind-empty-set-requires : (t : ℕ) → condition-behind-lts.Need-empty-set-requires (condition-behind-calls t) (condition-behind-at t) condition-behind.Post
-condition-behind-empty-set-requires t c κs = search needs
-
-condition-behind-enum-told-4 : (t : ℕ) → condition-behind-lts.Need-enum-told-4 (condition-behind-calls t) (condition-behind-at t) condition-behind.Post
-condition-behind-enum-told-4 t c = search needs
-
-condition-behind-subset-of-requires : (t : ℕ) → condition-behind-lts.Need-subset-of-requires (condition-behind-calls t) (condition-behind-at t) condition-behind.Post
-condition-behind-subset-of-requires t c κs = search needs
-
-condition-behind-enum-told-5 : (t : ℕ) → condition-behind-lts.Need-enum-told-5 (condition-behind-calls t) (condition-behind-at t) condition-behind.Post
-condition-behind-enum-told-5 t c = search needs
-
-condition-behind-condition-from-requires : (t : ℕ) → condition-behind-lts.Need-condition-from-requires (condition-behind-calls t) (condition-behind-at t) condition-behind.Post
-condition-behind-condition-from-requires t c κs =
-    let a = c .before .before .before .before .before .before .before .args in
-    let q : 4 * a .depth + 3 ≡ t = c .before .before .before .before .before .before .before .pre .0 in (omega arith, tt)
-
-condition-behind-negation-requires : (t : ℕ) → condition-behind-lts.Need-negation-requires (condition-behind-calls t) (condition-behind-at t) condition-behind.Post
-condition-behind-negation-requires t c κs = search needs
-
-condition-behind-enum-known-form-2 : (t : ℕ) → condition-behind-lts.Need-enum-known-form-2 (condition-behind-calls t) (condition-behind-at t) condition-behind.Post
-condition-behind-enum-known-form-2 t c = search needs
-
-condition-behind-connective-requires : (t : ℕ) → condition-behind-lts.Need-connective-requires (condition-behind-calls t) (condition-behind-at t) condition-behind.Post
-condition-behind-connective-requires t c κs =
-    let a = c .before .before .before .before .before .before .before .before .args in
-    let q : 4 * a .depth + 3 ≡ t = c .before .before .before .before .before .before .before .before .pre .0 in (omega arith, tt)
-
-condition-behind-enum-told-6 : (t : ℕ) → condition-behind-lts.Need-enum-told-6 (condition-behind-calls t) (condition-behind-at t) condition-behind.Post
-condition-behind-enum-told-6 t c = search needs
-
-condition-behind-returns : (t : ℕ) → condition-behind-lts.Need-returns (condition-behind-calls t) (condition-behind-at t) condition-behind.Post
-unfolding conditionAt conditionBehind
-condition-behind-returns t c = rw (c .before .before .before .form .given .1, c .comparison .ensures, c .before .pair .ensures)
-
-condition-behind-returns-2 : (t : ℕ) → condition-behind-lts.Need-returns-2 (condition-behind-calls t) (condition-behind-at t) condition-behind.Post
-unfolding conditionAt conditionBehind
-condition-behind-returns-2 t c = rw (c .before .before .enum-told .given .1) (rw (c .before .after .ensures) at (c .same-elements .ensures))
-
-condition-behind-returns-3 : (t : ℕ) → condition-behind-lts.Need-returns-3 (condition-behind-calls t) (condition-behind-at t) condition-behind.Post
-unfolding conditionAt conditionBehind
-condition-behind-returns-3 t c = rw (c .before .enum-told2 .given .1) (c .member-of .ensures)
-
-condition-behind-returns-4 : (t : ℕ) → condition-behind-lts.Need-returns-4 (condition-behind-calls t) (condition-behind-at t) condition-behind.Post
-unfolding conditionAt conditionBehind
-condition-behind-returns-4 t c = rw (c .before .enum-told3 .given .1) (c .empty-set .ensures)
-
-condition-behind-returns-5 : (t : ℕ) → condition-behind-lts.Need-returns-5 (condition-behind-calls t) (condition-behind-at t) condition-behind.Post
-unfolding conditionAt conditionBehind
-condition-behind-returns-5 t c = rw (c .before .enum-told4 .given .1) (c .subset-of .ensures)
-
-condition-behind-returns-6 : (t : ℕ) → condition-behind-lts.Need-returns-6 (condition-behind-calls t) (condition-behind-at t) condition-behind.Post
-unfolding conditionAt conditionBehind
-condition-behind-returns-6 t c = rw (c .before .before .enum-told5 .given .1, c .negation .ensures, c .before .condition-from .ensures)
-
-condition-behind-returns-7 : (t : ℕ) → condition-behind-lts.Need-returns-7 (condition-behind-calls t) (condition-behind-at t) condition-behind.Post
-unfolding conditionAt conditionBehind
-condition-behind-returns-7 t c = rw (c .before .before .form2 .given .1) (c .connective .ensures)
-
-condition-behind-returns-8 : (t : ℕ) → condition-behind-lts.Need-returns-8 (condition-behind-calls t) (condition-behind-at t) condition-behind.Post
-unfolding conditionAt conditionBehind
-condition-behind-returns-8 t c = rw (c .enum-told6 .given .1)
-
-condition-from-returns : (t : ℕ) → condition-from-lts.Need-returns (condition-from-calls t) (condition-from-at t) condition-from.Post
-condition-from-returns t c =
-    let a = c .before .before .before .before .before .before .args in
-    let p = environment (a .model .now) (a .state .now) (a .full .now) (a .tables .now) in
-    let e = drop (a .at) (a .e .now) in
-    sym (condition-no-depth p (a .depth) e (c .if1 .taken))
-
-condition-from-returns-2 : (t : ℕ) → condition-from-lts.Need-returns-2 (condition-from-calls t) (condition-from-at t) condition-from.Post
-condition-from-returns-2 t c =
-    let a = c .before .before .before .before .before .before .before .args in
-    let p = environment (a .model .now) (a .state .now) (a .full .now) (a .tables .now) in
-    let e = drop (a .at) (a .e .now) in
-    sym (condition-no-byte p (a .depth) e (none-behind (a .at) (a .e .now) (c .if2 .taken)))
-
-condition-from-shared-slice-read-b : (t : ℕ) → condition-from-lts.Need-shared-slice-read-b (condition-from-calls t) (condition-from-at t) condition-from.Post
-condition-from-shared-slice-read-b t c = omega arith
-
-condition-from-add-next : (t : ℕ) → condition-from-lts.Need-add-next (condition-from-calls t) (condition-from-at t) condition-from.Post
-condition-from-add-next t c = omega (arith, c .before .before .before .before .before .before .before .before .good .0 .1)
-
-condition-from-sub-member-of : (t : ℕ) → condition-from-lts.Need-sub-member-of (condition-from-calls t) (condition-from-at t) condition-from.Post
-condition-from-sub-member-of t c = omega arith
-
-condition-from-member-of-requires : (t : ℕ) → condition-from-lts.Need-member-of-requires (condition-from-calls t) (condition-from-at t) condition-from.Post
-condition-from-member-of-requires t c κs = search needs
-
-condition-from-condition-past-requires : (t : ℕ) → condition-from-lts.Need-condition-past-requires (condition-from-calls t) (condition-from-at t) condition-from.Post
-condition-from-condition-past-requires t c κs =
-    let a = c .before .before .before .before .before .before .before .before .before .before .args in
-    let p = environment (a .model .now) (a .state .now) (a .full .now) (a .tables .now) in
-    rw (c .member-of .ensures)
-    (
-    member-room (a .depth - 1) p (drop (a .at + 1) (a .e .now)) (
-    omega
-    (arith, length-drop (a .at + 1) (a .e .now), c .before .before .before .before .before .before .before .before .before .before .good .0 .1)
-    )
-    )
-
-condition-from-returns-3 : (t : ℕ) → condition-from-lts.Need-returns-3 (condition-from-calls t) (condition-from-at t) condition-from.Post
-condition-from-returns-3 t c =
-    let a = c .before .before .before .before .before .before .before .before .before .before .before .args in
-    let p = environment (a .model .now) (a .state .now) (a .full .now) (a .tables .now) in
-    let e = drop (a .at) (a .e .now) in
-    rw (c .condition-past .ensures, c .before .member-of .ensures, behind (a .at) 1 (a .e .now))
-    (
-    sym (
-    member-open p (a .depth) e (c .before .before .before .before .before .if1 .left)
-    (some-behind (a .at) (a .e .now) (c .before .before .before .before .if2 .left))
-    (sym (first-at (a .at) (a .e .now)) ∙ c .before .before .if3 .taken)
-    )
-    )
-
-condition-from-condition-form-requires : (t : ℕ) → condition-from-lts.Need-condition-form-requires (condition-from-calls t) (condition-from-at t) condition-from.Post
-condition-from-condition-form-requires t c κs = search needs
-
-condition-from-sub-condition-behind : (t : ℕ) → condition-from-lts.Need-sub-condition-behind (condition-from-calls t) (condition-from-at t) condition-from.Post
-condition-from-sub-condition-behind t c = omega arith
-
-condition-from-condition-behind-requires : (t : ℕ) → condition-from-lts.Need-condition-behind-requires (condition-from-calls t) (condition-from-at t) condition-from.Post
-condition-from-condition-behind-requires t c κs =
-    let a = c .before .before .before .before .before .before .before .before .before .before .args in
-    let q : 4 * a .depth ≡ t = c .before .before .before .before .before .before .before .before .before .before .pre .0 in (omega arith, tt)
-
-condition-from-condition-past-requires-2 : (t : ℕ) → condition-from-lts.Need-condition-past-requires-2 (condition-from-calls t) (condition-from-at t) condition-from.Post
-condition-from-condition-past-requires-2 t c κs =
-    let a = c .before .before .before .before .before .before .before .before .before .before .before .args in
-    let p = environment (a .model .now) (a .state .now) (a .full .now) (a .tables .now) in
-    let f = drop (a .at + 1) (a .e .now) in
-    rw (c .condition-behind .ensures)
-    (
-    condition-room 1 (length f) (conditionAt (a .depth - 1) p (c .before .condition-form .result) f)
-    (condition-at-within (a .depth - 1) p (c .before .condition-form .result) f) (
-    omega (
-      arith,
-      length-drop (a .at + 1) (a .e .now),
-      c .before .before .before .before .before .before .before .before .before .before .before .good .0 .1,
-    )
-    )
-    )
-
-condition-from-returns-4 : (t : ℕ) → condition-from-lts.Need-returns-4 (condition-from-calls t) (condition-from-at t) condition-from.Post
-condition-from-returns-4 t c =
-    let a = c .before .before .before .before .before .before .before .before .before .before .before .before .args in
-    let p = environment (a .model .now) (a .state .now) (a .full .now) (a .tables .now) in
-    let e = drop (a .at) (a .e .now) in
-    rw (c .condition-past2 .ensures, c .before .condition-behind .ensures, c .before .before .condition-form .ensures, behind (a .at) 1 (a .e .now), first-at (a .at) (a .e .now))
-    (
-    sym (
-    condition-open p (a .depth) e (c .before .before .before .before .before .before .if1 .left)
-    (some-behind (a .at) (a .e .now) (c .before .before .before .before .before .if2 .left))
-    )
-    )
-
-connective-condition-from-requires : (t : ℕ) → connective-lts.Need-condition-from-requires (connective-calls t) (connective-at t) connective.Post
-connective-condition-from-requires t c κs =
-    let a = c .before .before .before .before .before .args in
-    let q : 4 * a .depth + 2 ≡ t = c .before .before .before .before .before .pre .0 in (omega arith, tt)
-
-connective-enum-known-b : (t : ℕ) → connective-lts.Need-enum-known-b (connective-calls t) (connective-at t) connective.Post
-connective-enum-known-b t c = search needs
-
-connective-agree-requires : (t : ℕ) → connective-lts.Need-agree-requires (connective-calls t) (connective-at t) connective.Post
-connective-agree-requires t c κs = search needs
-
-connective-add-after : (t : ℕ) → connective-lts.Need-add-after (connective-calls t) (connective-at t) connective.Post
-connective-add-after t c =
-    let a = c .before .before .before .before .before .before .before .before .before .before .before .args in
-    let p = environment (a .model .now) (a .state .now) (a .full .now) (a .tables .now) in
-    let h = sym (c .before .before .before .before .before .condition-from .ensures) ∙ c .before .before .before .b .given .1 in
-    let b = c .before .before .before .b in
-    omega (
-      arith,
-      condition-past (a .depth) p (a .at) (a .e .now) (b .given .0 .0) (b .given .0 .1 .0) h,
-      c .before .before .before .before .before .before .before .before .before .before .before .good .1 .0 .1,
-    )
-
-connective-after-requires : (t : ℕ) → connective-lts.Need-after-requires (connective-calls t) (connective-at t) connective.Post
-connective-after-requires t c κs = search needs
-
-connective-skip-requires : (t : ℕ) → connective-lts.Need-skip-requires (connective-calls t) (connective-at t) connective.Post
-connective-skip-requires t c κs = search needs
-
-connective-add-used : (t : ℕ) → connective-lts.Need-add-used (connective-calls t) (connective-at t) connective.Post
-connective-add-used t c =
-    let a = c .before .before .before .before .before .before .before .before .before .before .before .before .before .args in
-    let p = environment (a .model .now) (a .state .now) (a .full .now) (a .tables .now) in
-    let h = sym (c .before .before .before .before .before .before .before .condition-from .ensures) ∙ c .before .before .before .before .before .b .given .1 in
-    let s = rw (c .before .after .ensures) at (c .skip .ensures) in
-    let b = c .before .before .before .before .before .b in
-    omega (
-      arith,
-      s,
-      span-within (drop (a .at + (b .given .0 .1 .0)) (a .e .now)) 0 1,
-      length-drop (a .at + (b .given .0 .1 .0)) (a .e .now),
-      condition-past (a .depth) p (a .at) (a .e .now) (b .given .0 .0) (b .given .0 .1 .0) h,
-      c .before .before .before .before .before .before .before .before .before .before .before .before .before .good .1 .0 .1,
-    )
-
-connective-add-condition-from : (t : ℕ) → connective-lts.Need-add-condition-from (connective-calls t) (connective-at t) connective.Post
-connective-add-condition-from t c =
-    let a = c .before .before .before .before .before .before .before .before .before .before .before .args in
-    let p = environment (a .model .now) (a .state .now) (a .full .now) (a .tables .now) in
-    let h = sym (c .before .before .before .before .before .condition-from .ensures) ∙ c .before .before .before .b .given .1 in
-    let b = c .before .before .before .b in
-    omega (
-      arith,
-      condition-past (a .depth) p (a .at) (a .e .now) (b .given .0 .0) (b .given .0 .1 .0) h,
-      c .before .before .before .before .before .before .before .before .before .before .before .good .1 .0 .1,
-    )
-
-connective-condition-from-requires-2 : (t : ℕ) → connective-lts.Need-condition-from-requires-2 (connective-calls t) (connective-at t) connective.Post
-connective-condition-from-requires-2 t c κs =
-    let a = c .before .before .before .before .before .before .before .before .before .before .before .args in
-    let q : 4 * a .depth + 2 ≡ t = c .before .before .before .before .before .before .before .before .before .before .before .pre .0 in (omega arith, tt)
-
-connective-condition-past-requires : (t : ℕ) → connective-lts.Need-condition-past-requires (connective-calls t) (connective-at t) connective.Post
-connective-condition-past-requires t c κs =
-    let a = c .before .before .before .before .before .before .before .before .before .before .before .before .args in
-    let p = environment (a .model .now) (a .state .now) (a .full .now) (a .tables .now) in
-    let h = sym (c .before .before .before .before .before .before .condition-from .ensures) ∙ c .before .before .before .before .b .given .1 in
-    let f = drop (a .at + (c .before .before .before .before .b .given .0 .1 .0)) (a .e .now) in
-    let b = c .before .before .before .before .b in
-    rw (c .condition-from2 .ensures)
-    (
-    condition-room (b .given .0 .1 .0) (length f) (runCondition (a .depth) p f) (condition-within (a .depth) p f) (
-    omega (
-      arith,
-      length-drop (a .at + (b .given .0 .1 .0)) (a .e .now),
-      condition-past (a .depth) p (a .at) (a .e .now) (b .given .0 .0) (b .given .0 .1 .0) h,
-      c .before .before .before .before .before .before .before .before .before .before .before .before .good .1 .0 .1,
-    )
-    )
-    )
-
-connective-enum-known-t : (t : ℕ) → connective-lts.Need-enum-known-t (connective-calls t) (connective-at t) connective.Post
-connective-enum-known-t t c = search needs
-
-connective-returns : (t : ℕ) → connective-lts.Need-returns (connective-calls t) (connective-at t) connective.Post
-connective-returns t c =
-    let a = c .before .before .before .before .before .before .before .before .before .before .before .before .before .args in
-    let p = environment (a .model .now) (a .state .now) (a .full .now) (a .tables .now) in
-    let e = drop (a .at) (a .e .now) in
-    let h = sym (c .before .before .before .before .before .before .before .condition-from .ensures) ∙ c .before .before .before .before .before .b .given .1 in
-    let s = rw (c .before .after .ensures, behind (a .at) (c .before .before .before .before .before .b .given .0 .1 .0) (a .e .now)) at (c .skip .ensures) in
-    let b = c .before .before .before .before .before .b in
-    rw s
-    (
-    sym (
-    connective-decided (λ f. runNumber (a .depth) p f) (λ f. runCondition (a .depth) p f) e (a .decides) (b .given .0 .0) (b .given .0 .1 .0) h
-    (sym (c .before .before .before .agree .ensures) ∙ c .before .before .if1 .taken)
-    )
-    )
-
-connective-returns-2 : (t : ℕ) → connective-lts.Need-returns-2 (connective-calls t) (connective-at t) connective.Post
-connective-returns-2 t c =
-    let a = c .before .before .before .before .before .before .before .before .before .before .before .before .before .args in
-    let p = environment (a .model .now) (a .state .now) (a .full .now) (a .tables .now) in
-    let e = drop (a .at) (a .e .now) in
-    let h = sym (c .before .before .before .before .before .before .before .condition-from .ensures) ∙ c .before .before .before .before .before .b .given .1 in
-    rw (c .condition-past .ensures, c .before .condition-from2 .ensures, behind (a .at) (c .before .before .before .before .before .b .given .0 .1 .0) (a .e .now))
-    (
-    sym (
-    connective-open (λ f. runNumber (a .depth) p f) (λ f. runCondition (a .depth) p f) e (a .decides)
-    (c .before .before .before .before .before .b .given .0 .0) (c .before .before .before .before .before .b .given .0 .1 .0) h
-    (sym (c .before .before .before .agree .ensures) ∙ c .before .before .if1 .left)
-    )
-    )
-
-connective-returns-3 : (t : ℕ) → connective-lts.Need-returns-3 (connective-calls t) (connective-at t) connective.Post
-connective-returns-3 t c =
-    let a = c .before .before .before .before .before .before .before .before .before .args in
-    let p = environment (a .model .now) (a .state .now) (a .full .now) (a .tables .now) in
-    let e = drop (a .at) (a .e .now) in
-    sym
-    (
-    connective-trouble (λ f. runNumber (a .depth) p f) (λ f. runCondition (a .depth) p f) e (a .decides) (c .before .t .given .0 .0)
-    (sym (c .before .before .before .condition-from .ensures) ∙ c .before .t .given .1)
-    )
-
-number-before-add-number-from : (t : ℕ) → number-before-lts.Need-add-number-from (number-before-calls t) (number-before-at t) number-before.Post
-number-before-add-number-from t c =
-    let a = c .before .before .before .before .before .args in
-    omega (arith, c .before .before .before .before .before .pre .1, length-drop (a .at) (a .e .now), c .before .before .before .before .before .good .0 .1)
-
-number-before-number-from-requires : (t : ℕ) → number-before-lts.Need-number-from-requires (number-before-calls t) (number-before-at t) number-before.Post
-number-before-number-from-requires t c κs =
-    let a = c .before .before .before .before .before .args in
-    let q : 4 * a .depth + 1 ≡ t = c .before .before .before .before .before .pre .0 in (omega arith, tt)
-
-number-before-enum-known-z : (t : ℕ) → number-before-lts.Need-enum-known-z (number-before-calls t) (number-before-at t) number-before.Post
-number-before-enum-known-z t c = search needs
-
-number-before-add-k : (t : ℕ) → number-before-lts.Need-add-k (number-before-calls t) (number-before-at t) number-before.Post
-number-before-add-k t c =
-    let a = c .before .before .before .before .before .before .before .before .before .args in
-    let p = environment (a .model .now) (a .state .now) (a .full .now) (a .tables .now) in
-    let h = sym (c .before .before .before .number-from .ensures) ∙ c .before .z .given .1 in
-    omega (
-      arith,
-      c .before .before .before .before .before .before .before .before .before .pre .1,
-      length-drop (a .at) (a .e .now),
-      number-past (a .depth) p (a .at + a .n) (a .e .now) (c .before .z .given .0 .0) (c .before .z .given .0 .1 .0) h,
-      c .before .before .before .before .before .before .before .before .before .good .0 .1,
-    )
-
-number-before-add-after : (t : ℕ) → number-before-lts.Need-add-after (number-before-calls t) (number-before-at t) number-before.Post
-number-before-add-after t c =
-    let a = c .before .before .before .before .before .before .before .before .before .args in
-    let p = environment (a .model .now) (a .state .now) (a .full .now) (a .tables .now) in
-    let h = sym (c .before .before .before .number-from .ensures) ∙ c .before .z .given .1 in
-    omega (
-      arith,
-      c .before .before .before .before .before .before .before .before .before .pre .1,
-      length-drop (a .at) (a .e .now),
-      number-past (a .depth) p (a .at + a .n) (a .e .now) (c .before .z .given .0 .0) (c .before .z .given .0 .1 .0) h,
-      c .before .before .before .before .before .before .before .before .before .good .0 .1,
-    )
-
-number-before-after-requires : (t : ℕ) → number-before-lts.Need-after-requires (number-before-calls t) (number-before-at t) number-before.Post
-number-before-after-requires t c κs = search needs
-
-number-before-skip-requires : (t : ℕ) → number-before-lts.Need-skip-requires (number-before-calls t) (number-before-at t) number-before.Post
-number-before-skip-requires t c κs = search needs
-
-number-before-add-used : (t : ℕ) → number-before-lts.Need-add-used (number-before-calls t) (number-before-at t) number-before.Post
-number-before-add-used t c =
-    let a = c .before .before .before .before .before .before .before .before .before .before .before .args in
-    let p = environment (a .model .now) (a .state .now) (a .full .now) (a .tables .now) in
-    let h = sym (c .before .before .before .before .before .number-from .ensures) ∙ c .before .before .before .z .given .1 in
-    let s = rw (c .before .after .ensures) at (c .skip .ensures) in
-    let z = c .before .before .before .z in
-    omega (
-      arith,
-      c .before .before .before .before .before .before .before .before .before .before .before .pre .1,
-      length-drop (a .at) (a .e .now),
-      number-past (a .depth) p (a .at + a .n) (a .e .now) (z .given .0 .0) (z .given .0 .1 .0) h,
-      c .before .before .before .before .before .before .before .before .before .before .before .good .0 .1,
-      s,
-      span-within (drop (a .at + (a .n + (z .given .0 .1 .0))) (a .e .now)) 0 1,
-      length-drop (a .at + (a .n + (z .given .0 .1 .0))) (a .e .now),
-    )
-
-number-before-enum-known-t : (t : ℕ) → number-before-lts.Need-enum-known-t (number-before-calls t) (number-before-at t) number-before.Post
-number-before-enum-known-t t c = search needs
-
-number-before-returns : (t : ℕ) → number-before-lts.Need-returns (number-before-calls t) (number-before-at t) number-before.Post
-number-before-returns t c =
-    let a = c .before .before .before .before .before .before .before .before .before .before .before .args in
-    let p = environment (a .model .now) (a .state .now) (a .full .now) (a .tables .now) in
-    let e = drop (a .at) (a .e .now) in
-    let h = (rw (behind (a .at) (a .n) (a .e .now)) at (sym (c .before .before .before .before .before .number-from .ensures))) ∙ c .before .before .before .z .given .1 in
-    let s = rw (c .before .after .ensures, behind (a .at) (a .n + (c .before .before .before .z .given .0 .1 .0)) (a .e .now)) at (c .skip .ensures) in
-    let f : SFits w64 (c .before .before .before .z .given .0 .0) = search needs in
-    rw (back f, s) (
-    sym (
-    before-value (a .n) (c .before .before .before .z .given .0 .1 .0) (c .before .before .before .z .given .0 .0)
-    (runNumber (a .depth) p (drop (a .n) e)) (skipAt e) h
-    )
-    )
-
-number-before-returns-2 : (t : ℕ) → number-before-lts.Need-returns-2 (number-before-calls t) (number-before-at t) number-before.Post
-number-before-returns-2 t c =
-    let a = c .before .before .before .before .before .before .before .before .before .args in
-    let p = environment (a .model .now) (a .state .now) (a .full .now) (a .tables .now) in
-    let e = drop (a .at) (a .e .now) in
-    let h = (rw (behind (a .at) (a .n) (a .e .now)) at (sym (c .before .before .before .number-from .ensures))) ∙ c .before .t .given .1 in
-    sym (before-trouble (a .n) (c .before .t .given .0 .0) (runNumber (a .depth) p (drop (a .n) e)) (skipAt e) h)
-
-number-behind-enum-told : (t : ℕ) → number-behind-lts.Need-enum-told (number-behind-calls t) (number-behind-at t) number-behind.Post
-number-behind-enum-told t c = search needs
-
-number-behind-after-requires : (t : ℕ) → number-behind-lts.Need-after-requires (number-behind-calls t) (number-behind-at t) number-behind.Post
-number-behind-after-requires t c κs = search needs
-
-number-behind-literal-number-requires : (t : ℕ) → number-behind-lts.Need-literal-number-requires (number-behind-calls t) (number-behind-at t) number-behind.Post
-number-behind-literal-number-requires t c κs = search needs
-
-number-behind-enum-told-2 : (t : ℕ) → number-behind-lts.Need-enum-told-2 (number-behind-calls t) (number-behind-at t) number-behind.Post
-number-behind-enum-told-2 t c = search needs
-
-number-behind-after-requires-2 : (t : ℕ) → number-behind-lts.Need-after-requires-2 (number-behind-calls t) (number-behind-at t) number-behind.Post
-number-behind-after-requires-2 t c κs = search needs
-
-number-behind-number-variable-requires : (t : ℕ) → number-behind-lts.Need-number-variable-requires (number-behind-calls t) (number-behind-at t) number-behind.Post
-number-behind-number-variable-requires t c κs = search needs
-
-number-behind-enum-known-form : (t : ℕ) → number-behind-lts.Need-enum-known-form (number-behind-calls t) (number-behind-at t) number-behind.Post
-number-behind-enum-known-form t c = search needs
-
-number-behind-pair-requires : (t : ℕ) → number-behind-lts.Need-pair-requires (number-behind-calls t) (number-behind-at t) number-behind.Post
-number-behind-pair-requires t c κs =
-    let a = c .before .before .before .before .before .before .before .before .args in
-    let q : 4 * a .depth + 3 ≡ t = c .before .before .before .before .before .before .before .before .pre .0 in (omega arith, tt)
-
-number-behind-arithmetic-requires : (t : ℕ) → number-behind-lts.Need-arithmetic-requires (number-behind-calls t) (number-behind-at t) number-behind.Post
-number-behind-arithmetic-requires t c κs =
-    let a = c .before .before .before .before .before .before .before .before .before .args in
-    let p = environment (a .model .now) (a .state .now) (a .full .now) (a .tables .now) in
-    let e = drop (a .at) (a .e .now) in
-    rw (c .pair .ensures) (pair-in-range (length e) (runPair (λ f. runNumber (a .depth) p f) e) (pair-run-within (a .depth) p e))
-
-number-behind-enum-told-3 : (t : ℕ) → number-behind-lts.Need-enum-told-3 (number-behind-calls t) (number-behind-at t) number-behind.Post
-number-behind-enum-told-3 t c = search needs
-
-number-behind-after-requires-3 : (t : ℕ) → number-behind-lts.Need-after-requires-3 (number-behind-calls t) (number-behind-at t) number-behind.Post
-number-behind-after-requires-3 t c κs = search needs
-
-number-behind-entry-number-requires : (t : ℕ) → number-behind-lts.Need-entry-number-requires (number-behind-calls t) (number-behind-at t) number-behind.Post
-number-behind-entry-number-requires t c κs = search needs
-
-number-behind-enum-told-4 : (t : ℕ) → number-behind-lts.Need-enum-told-4 (number-behind-calls t) (number-behind-at t) number-behind.Post
-number-behind-enum-told-4 t c = search needs
-
-number-behind-size-number-requires : (t : ℕ) → number-behind-lts.Need-size-number-requires (number-behind-calls t) (number-behind-at t) number-behind.Post
-number-behind-size-number-requires t c κs = search needs
-
-number-behind-enum-told-5 : (t : ℕ) → number-behind-lts.Need-enum-told-5 (number-behind-calls t) (number-behind-at t) number-behind.Post
-number-behind-enum-told-5 t c = search needs
-
-number-behind-total-number-requires : (t : ℕ) → number-behind-lts.Need-total-number-requires (number-behind-calls t) (number-behind-at t) number-behind.Post
-number-behind-total-number-requires t c κs = search needs
-
-number-behind-enum-told-6 : (t : ℕ) → number-behind-lts.Need-enum-told-6 (number-behind-calls t) (number-behind-at t) number-behind.Post
-number-behind-enum-told-6 t c = search needs
-
-number-behind-choice-requires : (t : ℕ) → number-behind-lts.Need-choice-requires (number-behind-calls t) (number-behind-at t) number-behind.Post
-number-behind-choice-requires t c κs =
-    let a = c .before .before .before .before .before .before .before .args in
-    let q : 4 * a .depth + 3 ≡ t = c .before .before .before .before .before .before .before .pre .0 in (omega arith, tt)
-
-number-behind-enum-told-7 : (t : ℕ) → number-behind-lts.Need-enum-told-7 (number-behind-calls t) (number-behind-at t) number-behind.Post
-number-behind-enum-told-7 t c = search needs
-
-number-behind-returns : (t : ℕ) → number-behind-lts.Need-returns (number-behind-calls t) (number-behind-at t) number-behind.Post
-unfolding numberAt numberBehind
-number-behind-returns t c = rw (c .before .before .enum-told .given .1) (rw (c .before .after .ensures) at (c .literal-number .ensures))
-
-number-behind-returns-2 : (t : ℕ) → number-behind-lts.Need-returns-2 (number-behind-calls t) (number-behind-at t) number-behind.Post
-unfolding numberAt numberBehind
-number-behind-returns-2 t c = rw (c .before .before .enum-told2 .given .1) (rw (c .before .after2 .ensures) at (c .number-variable .ensures))
-
-number-behind-returns-3 : (t : ℕ) → number-behind-lts.Need-returns-3 (number-behind-calls t) (number-behind-at t) number-behind.Post
-unfolding numberAt numberBehind
-number-behind-returns-3 t c = rw (c .before .before .before .form .given .1, c .arithmetic .ensures, c .before .pair .ensures)
-
-number-behind-returns-4 : (t : ℕ) → number-behind-lts.Need-returns-4 (number-behind-calls t) (number-behind-at t) number-behind.Post
-unfolding numberAt numberBehind
-number-behind-returns-4 t c = rw (c .before .before .enum-told3 .given .1) (rw (c .before .after3 .ensures) at (c .entry-number .ensures))
-
-number-behind-returns-5 : (t : ℕ) → number-behind-lts.Need-returns-5 (number-behind-calls t) (number-behind-at t) number-behind.Post
-unfolding numberAt numberBehind
-number-behind-returns-5 t c = rw (c .before .enum-told4 .given .1) (c .size-number .ensures)
-
-number-behind-returns-6 : (t : ℕ) → number-behind-lts.Need-returns-6 (number-behind-calls t) (number-behind-at t) number-behind.Post
-unfolding numberAt numberBehind
-number-behind-returns-6 t c = rw (c .before .enum-told5 .given .1) (c .total-number .ensures)
-
-number-behind-returns-7 : (t : ℕ) → number-behind-lts.Need-returns-7 (number-behind-calls t) (number-behind-at t) number-behind.Post
-unfolding numberAt numberBehind
-number-behind-returns-7 t c = rw (c .before .enum-told6 .given .1) (c .choice .ensures)
-
-number-behind-returns-8 : (t : ℕ) → number-behind-lts.Need-returns-8 (number-behind-calls t) (number-behind-at t) number-behind.Post
-unfolding numberAt numberBehind
-number-behind-returns-8 t c = rw (c .enum-told7 .given .1)
-
-number-beyond-add-after : (t : ℕ) → number-beyond-lts.Need-add-after (number-beyond-calls t) (number-beyond-at t) number-beyond.Post
-number-beyond-add-after t c =
-    let a = c .before .before .before .before .before .args in
-    omega (arith, c .before .before .before .before .before .pre .1, length-drop (a .at) (a .e .now), c .before .before .before .before .before .good .0 .1)
-
-number-beyond-after-requires : (t : ℕ) → number-beyond-lts.Need-after-requires (number-beyond-calls t) (number-beyond-at t) number-beyond.Post
-number-beyond-after-requires t c κs = search needs
-
-number-beyond-skip-requires : (t : ℕ) → number-beyond-lts.Need-skip-requires (number-beyond-calls t) (number-beyond-at t) number-beyond.Post
-number-beyond-skip-requires t c κs = search needs
-
-number-beyond-add-k : (t : ℕ) → number-beyond-lts.Need-add-k (number-beyond-calls t) (number-beyond-at t) number-beyond.Post
-number-beyond-add-k t c =
-    let a = c .before .before .before .before .before .before .before .args in
-    let s = rw (c .before .after .ensures) at (c .skip .ensures) in
-    omega (
-      arith,
-      s,
-      span-within (drop (a .at + a .n) (a .e .now)) 0 1,
-      length-drop (a .at + a .n) (a .e .now),
-      c .before .before .before .before .before .before .before .pre .1,
-      length-drop (a .at) (a .e .now),
-      c .before .before .before .before .before .before .before .good .0 .1,
-    )
-
-number-beyond-add-number-from : (t : ℕ) → number-beyond-lts.Need-add-number-from (number-beyond-calls t) (number-beyond-at t) number-beyond.Post
-number-beyond-add-number-from t c =
-    let a = c .before .before .before .before .before .before .before .args in
-    let s = rw (c .before .after .ensures) at (c .skip .ensures) in
-    omega (
-      arith,
-      s,
-      span-within (drop (a .at + a .n) (a .e .now)) 0 1,
-      length-drop (a .at + a .n) (a .e .now),
-      c .before .before .before .before .before .before .before .pre .1,
-      length-drop (a .at) (a .e .now),
-      c .before .before .before .before .before .before .before .good .0 .1,
-    )
-
-number-beyond-number-from-requires : (t : ℕ) → number-beyond-lts.Need-number-from-requires (number-beyond-calls t) (number-beyond-at t) number-beyond.Post
-number-beyond-number-from-requires t c κs =
-    let a = c .before .before .before .before .before .before .before .args in
-    let q : 4 * a .depth + 1 ≡ t = c .before .before .before .before .before .before .before .pre .0 in (omega arith, tt)
-
-number-beyond-number-past-requires : (t : ℕ) → number-beyond-lts.Need-number-past-requires (number-beyond-calls t) (number-beyond-at t) number-beyond.Post
-number-beyond-number-past-requires t c κs =
-    let a = c .before .before .before .before .before .before .before .before .args in
-    let p = environment (a .model .now) (a .state .now) (a .full .now) (a .tables .now) in
-    let s = rw (c .before .before .after .ensures) at (c .before .skip .ensures) in
-    let k = a .n + c .before .skip .result in
-    let f = drop (a .at + k) (a .e .now) in
-    rw (c .number-from .ensures)
-    (
-    number-room k (length f) (runNumber (a .depth) p f) (number-within (a .depth) p f) (
-    omega (
-      arith,
-      s,
-      span-within (drop (a .at + a .n) (a .e .now)) 0 1,
-      length-drop (a .at + a .n) (a .e .now),
-      c .before .before .before .before .before .before .before .before .pre .1,
-      length-drop (a .at) (a .e .now),
-      c .before .before .before .before .before .before .before .before .good .0 .1,
-      length-drop (a .at + k) (a .e .now),
-    )
-    )
-    )
-
-number-beyond-returns : (t : ℕ) → number-beyond-lts.Need-returns (number-beyond-calls t) (number-beyond-at t) number-beyond.Post
-unfolding chosen
-number-beyond-returns t c =
-    let a = c .before .before .before .before .before .before .before .before .before .args in
-    let s = rw (c .before .before .before .after .ensures, behind (a .at) (a .n) (a .e .now)) at (c .before .before .skip .ensures) in
-    rw (c .number-past .ensures, c .before .number-from .ensures, behind (a .at) (a .n + c .before .before .skip .result) (a .e .now), s)
-
-number-from-returns : (t : ℕ) → number-from-lts.Need-returns (number-from-calls t) (number-from-at t) number-from.Post
-number-from-returns t c =
-    let a = c .before .before .before .before .before .before .args in
-    let p = environment (a .model .now) (a .state .now) (a .full .now) (a .tables .now) in
-    let e = drop (a .at) (a .e .now) in
-    sym (number-no-depth p (a .depth) e (c .if1 .taken))
-
-number-from-returns-2 : (t : ℕ) → number-from-lts.Need-returns-2 (number-from-calls t) (number-from-at t) number-from.Post
-number-from-returns-2 t c =
-    let a = c .before .before .before .before .before .before .before .args in
-    let p = environment (a .model .now) (a .state .now) (a .full .now) (a .tables .now) in
-    let e = drop (a .at) (a .e .now) in
-    sym (number-no-byte p (a .depth) e (none-behind (a .at) (a .e .now) (c .if2 .taken)))
-
-number-from-shared-slice-read-b : (t : ℕ) → number-from-lts.Need-shared-slice-read-b (number-from-calls t) (number-from-at t) number-from.Post
-number-from-shared-slice-read-b t c = omega arith
-
-number-from-add-next : (t : ℕ) → number-from-lts.Need-add-next (number-from-calls t) (number-from-at t) number-from.Post
-number-from-add-next t c = omega (arith, c .before .before .before .before .before .before .before .before .good .0 .1)
-
-number-from-after-requires : (t : ℕ) → number-from-lts.Need-after-requires (number-from-calls t) (number-from-at t) number-from.Post
-number-from-after-requires t c κs = search needs
-
-number-from-number-variable-requires : (t : ℕ) → number-from-lts.Need-number-variable-requires (number-from-calls t) (number-from-at t) number-from.Post
-number-from-number-variable-requires t c κs = search needs
-
-number-from-number-past-requires : (t : ℕ) → number-from-lts.Need-number-past-requires (number-from-calls t) (number-from-at t) number-from.Post
-number-from-number-past-requires t c κs =
-    let a = c .before .before .before .before .before .before .before .before .before .before .before .args in
-    let p = environment (a .model .now) (a .state .now) (a .full .now) (a .tables .now) in
-    rw (c .number-variable .ensures, c .before .after .ensures)
-    (
-    variable-room 0 p (drop (a .at + 1) (a .e .now)) (
-    omega (
-      arith,
-      length-drop (a .at + 1) (a .e .now),
-      c .before .before .before .before .before .before .before .before .before .before .before .good .0 .1,
-    )
-    )
-    )
-
-number-from-returns-3 : (t : ℕ) → number-from-lts.Need-returns-3 (number-from-calls t) (number-from-at t) number-from.Post
-number-from-returns-3 t c =
-    let a = c .before .before .before .before .before .before .before .before .before .before .before .before .args in
-    let p = environment (a .model .now) (a .state .now) (a .full .now) (a .tables .now) in
-    let e = drop (a .at) (a .e .now) in
-    rw (c .number-past .ensures, c .before .number-variable .ensures, c .before .before .after .ensures, behind (a .at) 1 (a .e .now))
-    (
-    sym (
-    variable-open p (a .depth) e (c .before .before .before .before .before .before .if1 .left)
-    (some-behind (a .at) (a .e .now) (c .before .before .before .before .before .if2 .left))
-    (sym (first-at (a .at) (a .e .now)) ∙ c .before .before .before .if3 .taken)
-    )
-    )
-
-number-from-after-requires-2 : (t : ℕ) → number-from-lts.Need-after-requires-2 (number-from-calls t) (number-from-at t) number-from.Post
-number-from-after-requires-2 t c κs = search needs
-
-number-from-literal-number-requires : (t : ℕ) → number-from-lts.Need-literal-number-requires (number-from-calls t) (number-from-at t) number-from.Post
-number-from-literal-number-requires t c κs = search needs
-
-number-from-number-past-requires-2 : (t : ℕ) → number-from-lts.Need-number-past-requires-2 (number-from-calls t) (number-from-at t) number-from.Post
-number-from-number-past-requires-2 t c κs =
-    let a = c .before .before .before .before .before .before .before .before .before .before .before .before .args in
-    let p = environment (a .model .now) (a .state .now) (a .full .now) (a .tables .now) in
-    rw (c .literal-number .ensures, c .before .after2 .ensures)
-    (
-    literal-room 0 p (drop (a .at + 1) (a .e .now)) (
-    omega (
-      arith,
-      length-drop (a .at + 1) (a .e .now),
-      c .before .before .before .before .before .before .before .before .before .before .before .before .good .0 .1,
-    )
-    )
-    )
-
-number-from-returns-4 : (t : ℕ) → number-from-lts.Need-returns-4 (number-from-calls t) (number-from-at t) number-from.Post
-number-from-returns-4 t c =
-    let a = c .before .before .before .before .before .before .before .before .before .before .before .before .before .args in
-    let p = environment (a .model .now) (a .state .now) (a .full .now) (a .tables .now) in
-    let e = drop (a .at) (a .e .now) in
-    rw (c .number-past2 .ensures, c .before .literal-number .ensures, c .before .before .after2 .ensures, behind (a .at) 1 (a .e .now))
-    (
-    sym (
-    literal-open p (a .depth) e (c .before .before .before .before .before .before .before .if1 .left)
-    (some-behind (a .at) (a .e .now) (c .before .before .before .before .before .before .if2 .left))
-    (sym (first-at (a .at) (a .e .now)) ∙ c .before .before .before .if4 .taken)
-    )
-    )
-
-number-from-number-form-requires : (t : ℕ) → number-from-lts.Need-number-form-requires (number-from-calls t) (number-from-at t) number-from.Post
-number-from-number-form-requires t c κs = search needs
-
-number-from-sub-number-behind : (t : ℕ) → number-from-lts.Need-sub-number-behind (number-from-calls t) (number-from-at t) number-from.Post
-number-from-sub-number-behind t c = omega arith
-
-number-from-number-behind-requires : (t : ℕ) → number-from-lts.Need-number-behind-requires (number-from-calls t) (number-from-at t) number-from.Post
-number-from-number-behind-requires t c κs =
-    let a = c .before .before .before .before .before .before .before .before .before .before .before .args in
-    let q : 4 * a .depth ≡ t = c .before .before .before .before .before .before .before .before .before .before .before .pre .0 in (omega arith, tt)
-
-number-from-number-past-requires-3 : (t : ℕ) → number-from-lts.Need-number-past-requires-3 (number-from-calls t) (number-from-at t) number-from.Post
-number-from-number-past-requires-3 t c κs =
-    let a = c .before .before .before .before .before .before .before .before .before .before .before .before .args in
-    let p = environment (a .model .now) (a .state .now) (a .full .now) (a .tables .now) in
-    let f = drop (a .at + 1) (a .e .now) in
-    rw (c .number-behind .ensures)
-    (
-    number-room 1 (length f) (numberAt (a .depth - 1) p (c .before .number-form .result) f)
-    (number-at-within (a .depth - 1) p (c .before .number-form .result) f) (
-    omega (
-      arith,
-      length-drop (a .at + 1) (a .e .now),
-      c .before .before .before .before .before .before .before .before .before .before .before .before .good .0 .1,
-    )
-    )
-    )
-
-number-from-returns-5 : (t : ℕ) → number-from-lts.Need-returns-5 (number-from-calls t) (number-from-at t) number-from.Post
-number-from-returns-5 t c =
-    let a = c .before .before .before .before .before .before .before .before .before .before .before .before .before .args in
-    let p = environment (a .model .now) (a .state .now) (a .full .now) (a .tables .now) in
-    let e = drop (a .at) (a .e .now) in
-    rw (c .number-past3 .ensures, c .before .number-behind .ensures, c .before .before .number-form .ensures, behind (a .at) 1 (a .e .now), first-at (a .at) (a .e .now))
-    (
-    sym (
-    number-open p (a .depth) e (c .before .before .before .before .before .before .before .if1 .left)
-    (some-behind (a .at) (a .e .now) (c .before .before .before .before .before .before .if2 .left))
-    )
-    )
-
-pair-number-from-requires : (t : ℕ) → pair-lts.Need-number-from-requires (pair-calls t) (pair-at t) pair.Post
-pair-number-from-requires t c κs =
-    let a = c .before .before .before .before .before .args in
-    let q : 4 * a .depth + 1 ≡ t = c .before .before .before .before .before .pre .0 in (omega arith, tt)
-
-pair-enum-known-x : (t : ℕ) → pair-lts.Need-enum-known-x (pair-calls t) (pair-at t) pair.Post
-pair-enum-known-x t c = search needs
-
-pair-add-number-from : (t : ℕ) → pair-lts.Need-add-number-from (pair-calls t) (pair-at t) pair.Post
-pair-add-number-from t c =
-    let a = c .before .before .before .before .before .before .before .before .before .args in
-    let p = environment (a .model .now) (a .state .now) (a .full .now) (a .tables .now) in
-    let h = sym (c .before .before .before .number-from .ensures) ∙ c .before .x .given .1 in
-    omega (
-      arith,
-      number-past (a .depth) p (a .at) (a .e .now) (c .before .x .given .0 .0) (c .before .x .given .0 .1 .0) h,
-      c .before .before .before .before .before .before .before .before .before .good .0 .1,
-    )
-
-pair-number-from-requires-2 : (t : ℕ) → pair-lts.Need-number-from-requires-2 (pair-calls t) (pair-at t) pair.Post
-pair-number-from-requires-2 t c κs =
-    let a = c .before .before .before .before .before .before .before .before .before .args in
-    let q : 4 * a .depth + 1 ≡ t = c .before .before .before .before .before .before .before .before .before .pre .0 in (omega arith, tt)
-
-pair-enum-known-y : (t : ℕ) → pair-lts.Need-enum-known-y (pair-calls t) (pair-at t) pair.Post
-pair-enum-known-y t c = search needs
-
-pair-add-used : (t : ℕ) → pair-lts.Need-add-used (pair-calls t) (pair-at t) pair.Post
-pair-add-used t c =
-    let a = c .before .before .before .before .before .before .before .before .before .before .before .before .before .args in
-    let p = environment (a .model .now) (a .state .now) (a .full .now) (a .tables .now) in
-    let h = sym (c .before .before .before .before .before .before .before .number-from .ensures) ∙ c .before .before .before .before .before .x .given .1 in
-    let k = sym (c .before .before .before .number-from2 .ensures) ∙ c .before .y .given .1 in
-    let x = c .before .before .before .before .before .x in
-    omega (
-      arith,
-      number-past (a .depth) p (a .at) (a .e .now) (x .given .0 .0) (x .given .0 .1 .0) h,
-      number-past (a .depth) p (a .at + (x .given .0 .1 .0)) (a .e .now) (c .before .y .given .0 .0) (c .before .y .given .0 .1 .0) k,
-      c .before .before .before .before .before .before .before .before .before .before .before .before .before .good .0 .1,
-    )
-
-pair-enum-known-t : (t : ℕ) → pair-lts.Need-enum-known-t (pair-calls t) (pair-at t) pair.Post
-pair-enum-known-t t c = search needs
-
-pair-enum-known-t-2 : (t : ℕ) → pair-lts.Need-enum-known-t-2 (pair-calls t) (pair-at t) pair.Post
-pair-enum-known-t-2 t c = search needs
-
-pair-returns : (t : ℕ) → pair-lts.Need-returns (pair-calls t) (pair-at t) pair.Post
-pair-returns t c =
-    let a = c .before .before .before .before .before .before .before .before .before .before .before .before .before .args in
-    let p = environment (a .model .now) (a .state .now) (a .full .now) (a .tables .now) in
-    let e = drop (a .at) (a .e .now) in
-    let h = sym (c .before .before .before .before .before .before .before .number-from .ensures) ∙ c .before .before .before .before .before .x .given .1 in
-    let k = (rw (behind (a .at) (c .before .before .before .before .before .x .given .0 .1 .0) (a .e .now)) at (sym (c .before .before .before .number-from2 .ensures))) ∙ c .before .y .given .1 in
-    let f : SFits w64 (c .before .before .before .before .before .x .given .0 .0) = search needs in
-    let g : SFits w64 (c .before .y .given .0 .0) = search needs in
-    rw (back f, back g) (
-    sym (
-    pair-values (λ f. runNumber (a .depth) p f) (λ f. runCondition (a .depth) p f) e (c .before .before .before .before .before .x .given .0 .0)
-    (c .before .y .given .0 .0) (c .before .before .before .before .before .x .given .0 .1 .0) (c .before .y .given .0 .1 .0) h k
-    )
-    )
-
-pair-returns-2 : (t : ℕ) → pair-lts.Need-returns-2 (pair-calls t) (pair-at t) pair.Post
-pair-returns-2 t c =
-    let a = c .before .before .before .before .before .before .before .before .before .before .before .before .before .args in
-    let p = environment (a .model .now) (a .state .now) (a .full .now) (a .tables .now) in
-    let e = drop (a .at) (a .e .now) in
-    let h = sym (c .before .before .before .before .before .before .before .number-from .ensures) ∙ c .before .before .before .before .before .x .given .1 in
-    let k = (rw (behind (a .at) (c .before .before .before .before .before .x .given .0 .1 .0) (a .e .now)) at (sym (c .before .before .before .number-from2 .ensures))) ∙ c .before .t .given .1 in
-    let x = c .before .before .before .before .before .x in
-    sym
-    (pair-second (λ f. runNumber (a .depth) p f) (λ f. runCondition (a .depth) p f) e (x .given .0 .0) (x .given .0 .1 .0) (c .before .t .given .0 .0) h k)
-
-pair-returns-3 : (t : ℕ) → pair-lts.Need-returns-3 (pair-calls t) (pair-at t) pair.Post
-pair-returns-3 t c =
-    let a = c .before .before .before .before .before .before .before .before .before .args in
-    let p = environment (a .model .now) (a .state .now) (a .full .now) (a .tables .now) in
-    let e = drop (a .at) (a .e .now) in
-    sym (
-    pair-first (λ f. runNumber (a .depth) p f) (λ f. runCondition (a .depth) p f) e (c .before .t2 .given .0 .0)
-    (sym (c .before .before .before .number-from .ensures) ∙ c .before .t2 .given .1)
-    )
+-- ---- `choice`
+
+module _ (t : ℕ) where
+  abbrev Choice : Type 0
+  Choice = choice-lts.Start (choice-calls t) (choice-at t) choice.Post
+
+  choice-measure : (s : Choice) → 4 * s .args .depth + 2 ≡ t
+  choice-measure s = s .pre .0
+
+  abbrev choice-environment : Choice → Environment
+  choice-environment s = environment (s .args .model .now) (s .args .state .now) (s .args .full .now) (s .args .tables .now)
+
+  -- the condition at a position
+  abbrev choice-value : Choice → ℕ → ConditionValue
+  choice-value s at = runCondition (s .args .depth) (choice-environment s) (drop at (s .args .e .now))
+
+  -- the condition is read
+  module _ (c : choice-lts.After-b (choice-calls t) (choice-at t) choice.Post) where
+    abbrev choice-start : Choice
+    choice-start = c .before .before .before .before .before .before .before .before
+
+    choice-b : choice-value choice-start (choice-start .args .at) ≡ C.Holds (c .b .given .0 .0) (c .b .given .0 .1 .0)
+    choice-b = sym (c .before .before .condition-from .ensures) ∙ c .b .given .1
+
+  choice-number-before-requires : choice-lts.Need-number-before-requires (choice-calls t) (choice-at t) choice.Post
+  choice-number-before-requires c κs = (omega (arith, choice-measure (search)), condition-known _ _ _ _ _ (choice-b (search)))
+
+  choice-number-beyond-requires : choice-lts.Need-number-beyond-requires (choice-calls t) (choice-at t) choice.Post
+  choice-number-beyond-requires c κs = (omega (arith, choice-measure (search)), condition-known _ _ _ _ _ (choice-b (search)))
+
+  choice-returns : choice-lts.Need-returns (choice-calls t) (choice-at t) choice.Post
+  unfolding runChoice choiceFirst chosen
+  choice-returns c = rw (choice-b (search), c .before .if1 .taken) (c .number-before .ensures)
+
+  choice-returns-2 : choice-lts.Need-returns-2 (choice-calls t) (choice-at t) choice.Post
+  unfolding runChoice choiceFirst
+  choice-returns-2 c = rw (choice-b (search), c .before .if1 .left) (c .number-beyond .ensures)
+
+  choice-returns-3 : choice-lts.Need-returns-3 (choice-calls t) (choice-at t) choice.Post
+  unfolding runChoice choiceFirst
+  choice-returns-3 c = rw (← c .before .before .before .condition-from .ensures, c .before .t .given .1)
+
+-- ---- `condition_behind`
+
+module _ (t : ℕ) where
+  behind-measure : (s : condition-behind-lts.Start (condition-behind-calls t) (condition-behind-at t) condition-behind.Post) → 4 * s .args .depth + 3 ≡ t
+  behind-measure s = s .pre .0
+
+-- ---- `condition_from`
+
+module _ (t : ℕ) where
+  abbrev Condition : Type 0
+  Condition = condition-from-lts.Start (condition-from-calls t) (condition-from-at t) condition-from.Post
+
+  abbrev Condition-open : Type 0
+  Condition-open = condition-from-lts.Else2 (condition-from-calls t) (condition-from-at t) condition-from.Post
+
+  condition-measure : (s : Condition) → 4 * s .args .depth ≡ t
+  condition-measure s = s .pre .0
+
+  abbrev condition-environment : Condition → Environment
+  condition-environment s = environment (s .args .model .now) (s .args .state .now) (s .args .full .now) (s .args .tables .now)
+
+  -- what is left behind the first byte
+  condition-left : (s : Condition) → 1 + length (drop (s .args .at + 1) (s .args .e .now)) < 2 ^ 64
+  condition-left s = omega (arith, length-drop (s .args .at + 1) (s .args .e .now), s .good .0 .1)
+
+  condition-from-returns : condition-from-lts.Need-returns (condition-from-calls t) (condition-from-at t) condition-from.Post
+  condition-from-returns c = let s : Condition = search in sym (condition-opens _ .no-depth _ (s .args .at) (s .args .e .now) (c .if1 .taken))
+
+  condition-from-returns-2 : condition-from-lts.Need-returns-2 (condition-from-calls t) (condition-from-at t) condition-from.Post
+  condition-from-returns-2 c = let s : Condition = search in sym (condition-opens _ .no-byte _ (s .args .at) (s .args .e .now) (c .if2 .taken))
+
+  condition-from-add-next : condition-from-lts.Need-add-next (condition-from-calls t) (condition-from-at t) condition-from.Post
+  condition-from-add-next c = let s : Condition = search in omega (arith, s .good .0 .1)
+
+  condition-from-condition-past-requires : condition-from-lts.Need-condition-past-requires (condition-from-calls t) (condition-from-at t) condition-from.Post
+  condition-from-condition-past-requires c κs = let s : Condition = search in rw (c .member-of .ensures) (member-room _ (condition-environment s) _ (condition-left s))
+
+  condition-from-returns-3 : condition-from-lts.Need-returns-3 (condition-from-calls t) (condition-from-at t) condition-from.Post
+  unfolding conditionAt conditionBehind conditionForm
+  condition-from-returns-3 c =
+      let s : Condition = search in
+      let o : Condition-open = search in
+      rw (c .condition-past .ensures, c .before .member-of .ensures)
+      (sym (condition-opens (condition-environment s) .opened _ (s .args .at) (s .args .e .now) (o .before .if1 .left) (o .if2 .left) (c .before .before .if3 .taken)))
+
+  condition-from-condition-past-requires-2 : condition-from-lts.Need-condition-past-requires-2 (condition-from-calls t) (condition-from-at t) condition-from.Post
+  condition-from-condition-past-requires-2 c κs =
+      let s : Condition = search in
+      let f = drop (s .args .at + 1) (s .args .e .now) in
+      let d = s .args .depth - 1 in
+      let o = c .before .condition-form .result in
+      rw (c .condition-behind .ensures) (condition-room 1 (length f) (conditionAt d (condition-environment s) o f) (condition-at-within d (condition-environment s) o f) (condition-left s))
+
+  condition-from-returns-4 : condition-from-lts.Need-returns-4 (condition-from-calls t) (condition-from-at t) condition-from.Post
+  condition-from-returns-4 c =
+      let s : Condition = search in
+      let o : Condition-open = search in
+      rw (c .condition-past2 .ensures, c .before .condition-behind .ensures, c .before .before .condition-form .ensures)
+      (sym (condition-opens _ .opened _ (s .args .at) (s .args .e .now) (o .before .if1 .left) (o .if2 .left) refl))
+
+-- ---- `connective`
+
+module _ (t : ℕ) where
+  abbrev Connective : Type 0
+  Connective = connective-lts.Start (connective-calls t) (connective-at t) connective.Post
+
+  abbrev Connective-b : Type 0
+  Connective-b = connective-lts.After-b (connective-calls t) (connective-at t) connective.Post
+
+  connective-measure : (s : Connective) → 4 * s .args .depth + 2 ≡ t
+  connective-measure s = s .pre .0
+
+  abbrev connective-environment : Connective → Environment
+  connective-environment s = environment (s .args .model .now) (s .args .state .now) (s .args .full .now) (s .args .tables .now)
+
+  -- the condition at a position
+  abbrev connective-value : Connective → ℕ → ConditionValue
+  connective-value s at = runCondition (s .args .depth) (connective-environment s) (drop at (s .args .e .now))
+
+  -- the first part is read
+  module _ (c : Connective-b) where
+    abbrev connective-start : Connective
+    connective-start = c .before .before .before .before .before .before .before .before
+
+    connective-b : connective-value connective-start (connective-start .args .at) ≡ C.Holds (c .b .given .0 .0) (c .b .given .0 .1 .0)
+    connective-b = sym (c .before .before .condition-from .ensures) ∙ c .b .given .1
+
+    connective-b-ends : c .b .given .0 .1 .0 ≤ length (connective-start .args .e .now) - connective-start .args .at
+    connective-b-ends = condition-past _ _ (connective-start .args .at) (connective-start .args .e .now) _ _ connective-b
+
+  connective-add-after : connective-lts.Need-add-after (connective-calls t) (connective-at t) connective.Post
+  connective-add-after c = let s : Connective = search in omega (arith, connective-b-ends (search), s .good .1 .0 .1)
+
+  connective-add-used : connective-lts.Need-add-used (connective-calls t) (connective-at t) connective.Post
+  connective-add-used c =
+      let s : Connective = search in
+      let b : Connective-b = search in
+      let f = drop (s .args .at + b .b .given .0 .1 .0) (s .args .e .now) in
+      omega (
+        arith,
+        rw (c .before .after .ensures) at (c .skip .ensures),
+        span-within f 0 1,
+        length-drop (s .args .at + b .b .given .0 .1 .0) (s .args .e .now),
+        connective-b-ends b,
+        s .good .1 .0 .1,
+      )
+
+  connective-add-condition-from : connective-lts.Need-add-condition-from (connective-calls t) (connective-at t) connective.Post
+  connective-add-condition-from c = let s : Connective = search in omega (arith, connective-b-ends (search), s .good .1 .0 .1)
+
+  connective-condition-past-requires : connective-lts.Need-condition-past-requires (connective-calls t) (connective-at t) connective.Post
+  connective-condition-past-requires c κs =
+      let s : Connective = search in
+      let b : Connective-b = search in
+      let f = drop (s .args .at + b .b .given .0 .1 .0) (s .args .e .now) in
+      rw (c .condition-from2 .ensures)
+      (
+      condition-room (b .b .given .0 .1 .0) (length f) (runCondition (s .args .depth) (connective-environment s) f) (condition-within (s .args .depth) (connective-environment s) f)
+      (omega (arith, length-drop (s .args .at + b .b .given .0 .1 .0) (s .args .e .now), connective-b-ends b, s .good .1 .0 .1))
+      )
+
+  connective-returns : connective-lts.Need-returns (connective-calls t) (connective-at t) connective.Post
+  unfolding runConnective connectiveFirst decided
+  connective-returns c =
+      let s : Connective = search in
+      let b : Connective-b = search in
+      let a : connective-lts.After-agree (connective-calls t) (connective-at t) connective.Post = search in
+      rw (connective-b b, ← a .agree .ensures, c .before .before .if1 .taken, c .skip .ensures, c .before .after .ensures, behind (s .args .at) (b .b .given .0 .1 .0) (s .args .e .now))
+
+  connective-returns-2 : connective-lts.Need-returns-2 (connective-calls t) (connective-at t) connective.Post
+  unfolding runConnective connectiveFirst decided
+  connective-returns-2 c =
+      let s : Connective = search in
+      let b : Connective-b = search in
+      let a : connective-lts.After-agree (connective-calls t) (connective-at t) connective.Post = search in
+      rw (c .condition-past .ensures, c .before .condition-from2 .ensures, connective-b b, ← a .agree .ensures, c .before .before .if1 .left, behind (s .args .at) (b .b .given .0 .1 .0) (s .args .e .now))
+
+  connective-returns-3 : connective-lts.Need-returns-3 (connective-calls t) (connective-at t) connective.Post
+  unfolding runConnective connectiveFirst
+  connective-returns-3 c = rw (← c .before .before .before .condition-from .ensures, c .before .t .given .1)
+
+-- ---- `number_before`
+
+module _ (t : ℕ) where
+  abbrev Before : Type 0
+  Before = number-before-lts.Start (number-before-calls t) (number-before-at t) number-before.Post
+
+  abbrev Before-z : Type 0
+  Before-z = number-before-lts.After-z (number-before-calls t) (number-before-at t) number-before.Post
+
+  before-measure : (s : Before) → 4 * s .args .depth + 1 ≡ t
+  before-measure s = s .pre .0
+
+  abbrev before-environment : Before → Environment
+  before-environment s = environment (s .args .model .now) (s .args .state .now) (s .args .full .now) (s .args .tables .now)
+
+  -- the number at a position
+  abbrev before-value : Before → ℕ → NumberValue
+  before-value s at = runNumber (s .args .depth) (before-environment s) (drop at (s .args .e .now))
+
+  before-inside : (s : Before) → s .args .n ≤ length (s .args .e .now) - s .args .at
+  before-inside s = omega (arith, s .pre .1, length-drop (s .args .at) (s .args .e .now))
+
+  -- the number is read
+  module _ (c : Before-z) where
+    abbrev before-start : Before
+    before-start = c .before .before .before .before .before .before .before .before
+
+    before-z : before-value before-start (before-start .args .at + before-start .args .n) ≡ N.Value (c .z .given .0 .0) (c .z .given .0 .1 .0)
+    before-z = sym (c .before .before .number-from .ensures) ∙ c .z .given .1
+
+    before-z-ends : before-start .args .n + c .z .given .0 .1 .0 ≤ length (before-start .args .e .now) - before-start .args .at
+    before-z-ends =
+        omega (arith, before-inside before-start, number-past _ _ (before-start .args .at + before-start .args .n) (before-start .args .e .now) _ _ before-z)
+
+  number-before-add-number-from : number-before-lts.Need-add-number-from (number-before-calls t) (number-before-at t) number-before.Post
+  number-before-add-number-from c = let s : Before = search in omega (arith, before-inside s, s .good .0 .1)
+
+  number-before-add-k : number-before-lts.Need-add-k (number-before-calls t) (number-before-at t) number-before.Post
+  number-before-add-k c = let s : Before = search in omega (arith, before-z-ends (search), s .good .0 .1)
+
+  number-before-add-after : number-before-lts.Need-add-after (number-before-calls t) (number-before-at t) number-before.Post
+  number-before-add-after c = let s : Before = search in omega (arith, before-z-ends (search), s .good .0 .1)
+
+  number-before-add-used : number-before-lts.Need-add-used (number-before-calls t) (number-before-at t) number-before.Post
+  number-before-add-used c =
+      let s : Before = search in
+      let z : Before-z = search in
+      let k = s .args .n + z .z .given .0 .1 .0 in
+      omega (
+        arith,
+        before-z-ends z,
+        s .good .0 .1,
+        rw (c .before .after .ensures) at (c .skip .ensures),
+        span-within (drop (s .args .at + k) (s .args .e .now)) 0 1,
+        length-drop (s .args .at + k) (s .args .e .now),
+      )
+
+  number-before-returns : number-before-lts.Need-returns (number-before-calls t) (number-before-at t) number-before.Post
+  unfolding numberBefore
+  number-before-returns c =
+      let s : Before = search in
+      let z : Before-z = search in
+      let f : SFits w64 (z .z .given .0 .0) = search needs in
+      rw (back f, ← behind (s .args .at) (s .args .n) (s .args .e .now), before-z z, c .skip .ensures, c .before .after .ensures, behind (s .args .at) (s .args .n + z .z .given .0 .1 .0) (s .args .e .now))
+
+  number-before-returns-2 : number-before-lts.Need-returns-2 (number-before-calls t) (number-before-at t) number-before.Post
+  unfolding numberBefore
+  number-before-returns-2 c =
+      let s : Before = search in
+      rw (← behind (s .args .at) (s .args .n) (s .args .e .now), ← c .before .before .before .number-from .ensures, c .before .t .given .1)
+
+-- ---- `number_behind`
+
+module _ (t : ℕ) where
+  number-behind-measure : (s : number-behind-lts.Start (number-behind-calls t) (number-behind-at t) number-behind.Post) → 4 * s .args .depth + 3 ≡ t
+  number-behind-measure s = s .pre .0
+
+  number-behind-arithmetic-requires : number-behind-lts.Need-arithmetic-requires (number-behind-calls t) (number-behind-at t) number-behind.Post
+  number-behind-arithmetic-requires c κs =
+      let s : number-behind-lts.Start (number-behind-calls t) (number-behind-at t) number-behind.Post = search in
+      let p = environment (s .args .model .now) (s .args .state .now) (s .args .full .now) (s .args .tables .now) in
+      let e = drop (s .args .at) (s .args .e .now) in
+      rw (c .pair .ensures) (pair-in-range (length e) (runPair (λ f. runNumber (s .args .depth) p f) e) (pair-run-within (s .args .depth) p e))
+
+-- ---- `number_beyond`
+
+module _ (t : ℕ) where
+  abbrev Beyond : Type 0
+  Beyond = number-beyond-lts.Start (number-beyond-calls t) (number-beyond-at t) number-beyond.Post
+
+  beyond-measure : (s : Beyond) → 4 * s .args .depth + 1 ≡ t
+  beyond-measure s = s .pre .0
+
+  beyond-inside : (s : Beyond) → s .args .n ≤ length (s .args .e .now) - s .args .at
+  beyond-inside s = omega (arith, s .pre .1, length-drop (s .args .at) (s .args .e .now))
+
+  -- the part in between is passed over
+  module _ (c : number-beyond-lts.After-skip (number-beyond-calls t) (number-beyond-at t) number-beyond.Post) where
+    abbrev beyond-start : Beyond
+    beyond-start = c .before .before .before .before .before .before .before
+
+    beyond-ends : beyond-start .args .n + c .skip .result ≤ length (beyond-start .args .e .now) - beyond-start .args .at
+    beyond-ends =
+        let s = beyond-start in
+        omega (
+          arith,
+          rw (c .before .after .ensures) at (c .skip .ensures),
+          span-within (drop (s .args .at + s .args .n) (s .args .e .now)) 0 1,
+          length-drop (s .args .at + s .args .n) (s .args .e .now),
+          beyond-inside s,
+        )
+
+  number-beyond-add-after : number-beyond-lts.Need-add-after (number-beyond-calls t) (number-beyond-at t) number-beyond.Post
+  number-beyond-add-after c = let s : Beyond = search in omega (arith, beyond-inside s, s .good .0 .1)
+
+  number-beyond-add-k : number-beyond-lts.Need-add-k (number-beyond-calls t) (number-beyond-at t) number-beyond.Post
+  number-beyond-add-k c = let s : Beyond = search in omega (arith, beyond-ends c, s .good .0 .1)
+
+  number-beyond-add-number-from : number-beyond-lts.Need-add-number-from (number-beyond-calls t) (number-beyond-at t) number-beyond.Post
+  number-beyond-add-number-from c = let s : Beyond = search in omega (arith, beyond-ends c, s .good .0 .1)
+
+  number-beyond-number-past-requires : number-beyond-lts.Need-number-past-requires (number-beyond-calls t) (number-beyond-at t) number-beyond.Post
+  number-beyond-number-past-requires c κs =
+      let s : Beyond = search in
+      let p = environment (s .args .model .now) (s .args .state .now) (s .args .full .now) (s .args .tables .now) in
+      let k = s .args .n + c .before .skip .result in
+      let f = drop (s .args .at + k) (s .args .e .now) in
+      rw (c .number-from .ensures)
+      (number-room k (length f) (runNumber (s .args .depth) p f) (number-within (s .args .depth) p f) (omega (arith, beyond-ends (search), length-drop (s .args .at + k) (s .args .e .now), s .good .0 .1)))
+
+  number-beyond-returns : number-beyond-lts.Need-returns (number-beyond-calls t) (number-beyond-at t) number-beyond.Post
+  unfolding chosen
+  number-beyond-returns c =
+      let s : Beyond = search in
+      let k = c .before .before .skip .result in
+      let q = rw (c .before .before .before .after .ensures, behind (s .args .at) (s .args .n) (s .args .e .now)) at (c .before .before .skip .ensures) in
+      rw (c .number-past .ensures, c .before .number-from .ensures, behind (s .args .at) (s .args .n + k) (s .args .e .now), q)
+
+-- ---- `number_from`
+
+module _ (t : ℕ) where
+  abbrev Number : Type 0
+  Number = number-from-lts.Start (number-from-calls t) (number-from-at t) number-from.Post
+
+  abbrev Number-open : Type 0
+  Number-open = number-from-lts.Else2 (number-from-calls t) (number-from-at t) number-from.Post
+
+  number-measure : (s : Number) → 4 * s .args .depth ≡ t
+  number-measure s = s .pre .0
+
+  abbrev number-environment : Number → Environment
+  number-environment s = environment (s .args .model .now) (s .args .state .now) (s .args .full .now) (s .args .tables .now)
+
+  -- what is left behind the first byte
+  number-left : (s : Number) → 1 + length (drop (s .args .at + 1) (s .args .e .now)) < 2 ^ 64
+  number-left s = omega (arith, length-drop (s .args .at + 1) (s .args .e .now), s .good .0 .1)
+
+  number-from-returns : number-from-lts.Need-returns (number-from-calls t) (number-from-at t) number-from.Post
+  number-from-returns c = let s : Number = search in sym (number-opens _ .no-depth _ (s .args .at) (s .args .e .now) (c .if1 .taken))
+
+  number-from-returns-2 : number-from-lts.Need-returns-2 (number-from-calls t) (number-from-at t) number-from.Post
+  number-from-returns-2 c = let s : Number = search in sym (number-opens _ .no-byte _ (s .args .at) (s .args .e .now) (c .if2 .taken))
+
+  number-from-add-next : number-from-lts.Need-add-next (number-from-calls t) (number-from-at t) number-from.Post
+  number-from-add-next c = let s : Number = search in omega (arith, s .good .0 .1)
+
+  number-from-number-past-requires : number-from-lts.Need-number-past-requires (number-from-calls t) (number-from-at t) number-from.Post
+  number-from-number-past-requires c κs =
+      let s : Number = search in rw (c .number-variable .ensures, c .before .after .ensures) (variable-room 0 (number-environment s) _ (number-left s))
+
+  number-from-returns-3 : number-from-lts.Need-returns-3 (number-from-calls t) (number-from-at t) number-from.Post
+  unfolding numberAt numberBehind numberForm
+  number-from-returns-3 c =
+      let s : Number = search in
+      let o : Number-open = search in
+      rw (c .number-past .ensures, c .before .number-variable .ensures, c .before .before .after .ensures)
+      (sym (number-opens (number-environment s) .opened _ (s .args .at) (s .args .e .now) (o .before .if1 .left) (o .if2 .left) (c .before .before .before .if3 .taken)))
+
+  number-from-number-past-requires-2 : number-from-lts.Need-number-past-requires-2 (number-from-calls t) (number-from-at t) number-from.Post
+  number-from-number-past-requires-2 c κs =
+      let s : Number = search in rw (c .literal-number .ensures, c .before .after2 .ensures) (literal-room 0 (number-environment s) _ (number-left s))
+
+  number-from-returns-4 : number-from-lts.Need-returns-4 (number-from-calls t) (number-from-at t) number-from.Post
+  unfolding numberAt numberBehind numberForm
+  number-from-returns-4 c =
+      let s : Number = search in
+      let o : Number-open = search in
+      rw (c .number-past2 .ensures, c .before .literal-number .ensures, c .before .before .after2 .ensures)
+      (sym (number-opens (number-environment s) .opened _ (s .args .at) (s .args .e .now) (o .before .if1 .left) (o .if2 .left) (c .before .before .before .if4 .taken)))
+
+  number-from-number-past-requires-3 : number-from-lts.Need-number-past-requires-3 (number-from-calls t) (number-from-at t) number-from.Post
+  number-from-number-past-requires-3 c κs =
+      let s : Number = search in
+      let f = drop (s .args .at + 1) (s .args .e .now) in
+      let d = s .args .depth - 1 in
+      let o = c .before .number-form .result in
+      rw (c .number-behind .ensures) (number-room 1 (length f) (numberAt d (number-environment s) o f) (number-at-within d (number-environment s) o f) (number-left s))
+
+  number-from-returns-5 : number-from-lts.Need-returns-5 (number-from-calls t) (number-from-at t) number-from.Post
+  number-from-returns-5 c =
+      let s : Number = search in
+      let o : Number-open = search in
+      rw (c .number-past3 .ensures, c .before .number-behind .ensures, c .before .before .number-form .ensures)
+      (sym (number-opens _ .opened _ (s .args .at) (s .args .e .now) (o .before .if1 .left) (o .if2 .left) refl))
+
+-- ---- `pair`
+
+module _ (t : ℕ) where
+  abbrev Pair : Type 0
+  Pair = pair-lts.Start (pair-calls t) (pair-at t) pair.Post
+
+  abbrev Pair-x : Type 0
+  Pair-x = pair-lts.After-x (pair-calls t) (pair-at t) pair.Post
+
+  pair-measure : (s : Pair) → 4 * s .args .depth + 1 ≡ t
+  pair-measure s = s .pre .0
+
+  abbrev pair-environment : Pair → Environment
+  pair-environment s = environment (s .args .model .now) (s .args .state .now) (s .args .full .now) (s .args .tables .now)
+
+  -- the number at a position
+  abbrev pair-value : Pair → ℕ → NumberValue
+  pair-value s at = runNumber (s .args .depth) (pair-environment s) (drop at (s .args .e .now))
+
+  -- the first number is read
+  module _ (c : Pair-x) where
+    abbrev pair-start : Pair
+    pair-start = c .before .before .before .before .before .before .before .before
+
+    pair-x : pair-value pair-start (pair-start .args .at) ≡ N.Value (c .x .given .0 .0) (c .x .given .0 .1 .0)
+    pair-x = sym (c .before .before .number-from .ensures) ∙ c .x .given .1
+
+    pair-x-ends : c .x .given .0 .1 .0 ≤ length (pair-start .args .e .now) - pair-start .args .at
+    pair-x-ends = number-past _ _ (pair-start .args .at) (pair-start .args .e .now) _ _ pair-x
+
+  pair-add-number-from : pair-lts.Need-add-number-from (pair-calls t) (pair-at t) pair.Post
+  pair-add-number-from c = let s : Pair = search in omega (arith, pair-x-ends (search))
+
+  pair-add-used : pair-lts.Need-add-used (pair-calls t) (pair-at t) pair.Post
+  pair-add-used c =
+      let s : Pair = search in
+      let x : Pair-x = search in
+      omega (
+        arith,
+        pair-x-ends x,
+        number-past _ _ (s .args .at + x .x .given .0 .1 .0) (s .args .e .now) _ _ (sym (c .before .before .before .number-from2 .ensures) ∙ c .before .y .given .1),
+      )
+
+  pair-returns : pair-lts.Need-returns (pair-calls t) (pair-at t) pair.Post
+  unfolding runPair pairFirst pairSecond
+  pair-returns c =
+      let x : Pair-x = search in
+      let f : SFits w64 (x .x .given .0 .0) = search needs in
+      let g : SFits w64 (c .before .y .given .0 .0) = search needs in
+      rw (back f, back g, pair-x x, ← behind _ _ _, ← c .before .before .before .number-from2 .ensures, c .before .y .given .1)
+
+  pair-returns-2 : pair-lts.Need-returns-2 (pair-calls t) (pair-at t) pair.Post
+  unfolding runPair pairFirst pairSecond
+  pair-returns-2 c = rw (pair-x (search), ← behind _ _ _, ← c .before .before .before .number-from2 .ensures, c .before .t .given .1)
+
+  pair-returns-3 : pair-lts.Need-returns-3 (pair-calls t) (pair-at t) pair.Post
+  unfolding runPair pairFirst
+  pair-returns-3 c = rw (← c .before .before .before .number-from .ensures, c .before .t2 .given .1)
 
 pub +choice+condition-behind+condition-from+connective+number-before+number-behind+number-beyond+number-from+pair-spec : {M : Type 1} → statement M
 +choice+condition-behind+condition-from+connective+number-before+number-behind+number-beyond+number-from+pair-spec =
     close μ-choice μ-condition-behind μ-condition-from μ-connective μ-number-before μ-number-behind μ-number-beyond μ-number-from μ-pair
-    (λ t. choice-lts.spec (choice-calls t) (choice-at t) choice.Post (choice-condition-from-requires t) (choice-enum-known-b t) (choice-number-before-requires t) (choice-number-beyond-requires t) (choice-enum-known-t t) (choice-returns t) (choice-returns-2 t) (choice-returns-3 t))
-    (λ t. condition-behind-lts.spec (condition-behind-calls t) (condition-behind-at t) condition-behind.Post (condition-behind-enum-known-form t) (condition-behind-pair-requires t) (condition-behind-comparison-requires t) (condition-behind-enum-told t) (condition-behind-after-requires t) (condition-behind-same-elements-requires t) (condition-behind-enum-told-2 t) (condition-behind-member-of-requires t) (condition-behind-enum-told-3 t) (condition-behind-empty-set-requires t) (condition-behind-enum-told-4 t) (condition-behind-subset-of-requires t) (condition-behind-enum-told-5 t) (condition-behind-condition-from-requires t) (condition-behind-negation-requires t) (condition-behind-enum-known-form-2 t) (condition-behind-connective-requires t) (condition-behind-enum-told-6 t) (condition-behind-returns t) (condition-behind-returns-2 t) (condition-behind-returns-3 t) (condition-behind-returns-4 t) (condition-behind-returns-5 t) (condition-behind-returns-6 t) (condition-behind-returns-7 t) (condition-behind-returns-8 t))
-    (λ t. condition-from-lts.spec (condition-from-calls t) (condition-from-at t) condition-from.Post (condition-from-returns t) (condition-from-returns-2 t) (condition-from-shared-slice-read-b t) (condition-from-add-next t) (condition-from-sub-member-of t) (condition-from-member-of-requires t) (condition-from-condition-past-requires t) (condition-from-returns-3 t) (condition-from-condition-form-requires t) (condition-from-sub-condition-behind t) (condition-from-condition-behind-requires t) (condition-from-condition-past-requires-2 t) (condition-from-returns-4 t))
-    (λ t. connective-lts.spec (connective-calls t) (connective-at t) connective.Post (connective-condition-from-requires t) (connective-enum-known-b t) (connective-agree-requires t) (connective-add-after t) (connective-after-requires t) (connective-skip-requires t) (connective-add-used t) (connective-add-condition-from t) (connective-condition-from-requires-2 t) (connective-condition-past-requires t) (connective-enum-known-t t) (connective-returns t) (connective-returns-2 t) (connective-returns-3 t))
-    (λ t. number-before-lts.spec (number-before-calls t) (number-before-at t) number-before.Post (number-before-add-number-from t) (number-before-number-from-requires t) (number-before-enum-known-z t) (number-before-add-k t) (number-before-add-after t) (number-before-after-requires t) (number-before-skip-requires t) (number-before-add-used t) (number-before-enum-known-t t) (number-before-returns t) (number-before-returns-2 t))
-    (λ t. number-behind-lts.spec (number-behind-calls t) (number-behind-at t) number-behind.Post (number-behind-enum-told t) (number-behind-after-requires t) (number-behind-literal-number-requires t) (number-behind-enum-told-2 t) (number-behind-after-requires-2 t) (number-behind-number-variable-requires t) (number-behind-enum-known-form t) (number-behind-pair-requires t) (number-behind-arithmetic-requires t) (number-behind-enum-told-3 t) (number-behind-after-requires-3 t) (number-behind-entry-number-requires t) (number-behind-enum-told-4 t) (number-behind-size-number-requires t) (number-behind-enum-told-5 t) (number-behind-total-number-requires t) (number-behind-enum-told-6 t) (number-behind-choice-requires t) (number-behind-enum-told-7 t) (number-behind-returns t) (number-behind-returns-2 t) (number-behind-returns-3 t) (number-behind-returns-4 t) (number-behind-returns-5 t) (number-behind-returns-6 t) (number-behind-returns-7 t) (number-behind-returns-8 t))
-    (λ t. number-beyond-lts.spec (number-beyond-calls t) (number-beyond-at t) number-beyond.Post (number-beyond-add-after t) (number-beyond-after-requires t) (number-beyond-skip-requires t) (number-beyond-add-k t) (number-beyond-add-number-from t) (number-beyond-number-from-requires t) (number-beyond-number-past-requires t) (number-beyond-returns t))
-    (λ t. number-from-lts.spec (number-from-calls t) (number-from-at t) number-from.Post (number-from-returns t) (number-from-returns-2 t) (number-from-shared-slice-read-b t) (number-from-add-next t) (number-from-after-requires t) (number-from-number-variable-requires t) (number-from-number-past-requires t) (number-from-returns-3 t) (number-from-after-requires-2 t) (number-from-literal-number-requires t) (number-from-number-past-requires-2 t) (number-from-returns-4 t) (number-from-number-form-requires t) (number-from-sub-number-behind t) (number-from-number-behind-requires t) (number-from-number-past-requires-3 t) (number-from-returns-5 t))
-    (λ t. pair-lts.spec (pair-calls t) (pair-at t) pair.Post (pair-number-from-requires t) (pair-enum-known-x t) (pair-add-number-from t) (pair-number-from-requires-2 t) (pair-enum-known-y t) (pair-add-used t) (pair-enum-known-t t) (pair-enum-known-t-2 t) (pair-returns t) (pair-returns-2 t) (pair-returns-3 t))
+    (λ t. choice-lts.spec (choice-calls t) (choice-at t) choice.Post
+    (λ c κs. (omega (arith, choice-measure t (search)), tt))
+    (λ c. search needs)
+    (choice-number-before-requires t)
+    (choice-number-beyond-requires t)
+    (λ c. search needs)
+    (choice-returns t)
+    (choice-returns-2 t)
+    (choice-returns-3 t))
+    (λ t. condition-behind-lts.spec (condition-behind-calls t) (condition-behind-at t) condition-behind.Post
+    (λ c. search needs)
+    (λ c κs. (omega (arith, behind-measure t (search)), tt))
+    (λ c κs. search needs)
+    (λ c. search needs)
+    (λ c κs. search needs)
+    (λ c κs. search needs)
+    (λ c. search needs)
+    (λ c κs. search needs)
+    (λ c. search needs)
+    (λ c κs. search needs)
+    (λ c. search needs)
+    (λ c κs. search needs)
+    (λ c. search needs)
+    (λ c κs. (omega (arith, behind-measure t (search)), tt))
+    (λ c κs. search needs)
+    (λ c. search needs)
+    (λ c κs. (omega (arith, behind-measure t (search)), tt))
+    (λ c. search needs)
+    (λ c. unfold conditionAt conditionBehind in rw (c .before .before .before .form .given .1, c .comparison .ensures, c .before .pair .ensures))
+    (λ c. unfold conditionAt conditionBehind in rw (c .before .before .enum-told .given .1) (rw (c .before .after .ensures) at (c .same-elements .ensures)))
+    (λ c. unfold conditionAt conditionBehind in rw (c .before .enum-told2 .given .1) (c .member-of .ensures))
+    (λ c. unfold conditionAt conditionBehind in rw (c .before .enum-told3 .given .1) (c .empty-set .ensures))
+    (λ c. unfold conditionAt conditionBehind in rw (c .before .enum-told4 .given .1) (c .subset-of .ensures))
+    (λ c. unfold conditionAt conditionBehind in rw (c .before .before .enum-told5 .given .1, c .negation .ensures, c .before .condition-from .ensures))
+    (λ c. unfold conditionAt conditionBehind in rw (c .before .before .form2 .given .1) (c .connective .ensures))
+    (λ c. unfold conditionAt conditionBehind in rw (c .enum-told6 .given .1)))
+    (λ t. condition-from-lts.spec (condition-from-calls t) (condition-from-at t) condition-from.Post
+    (condition-from-returns t)
+    (condition-from-returns-2 t)
+    (λ c. omega arith)
+    (condition-from-add-next t)
+    (λ c. omega arith)
+    (λ c κs. search needs)
+    (condition-from-condition-past-requires t)
+    (condition-from-returns-3 t)
+    (λ c κs. search needs)
+    (λ c. omega arith)
+    (λ c κs. (omega (arith, condition-measure t (search)), tt))
+    (condition-from-condition-past-requires-2 t)
+    (condition-from-returns-4 t))
+    (λ t. connective-lts.spec (connective-calls t) (connective-at t) connective.Post
+    (λ c κs. (omega (arith, connective-measure t (search)), tt))
+    (λ c. search needs)
+    (λ c κs. search needs)
+    (connective-add-after t)
+    (λ c κs. search needs)
+    (λ c κs. search needs)
+    (connective-add-used t)
+    (connective-add-condition-from t)
+    (λ c κs. (omega (arith, connective-measure t (search)), tt))
+    (connective-condition-past-requires t)
+    (λ c. search needs)
+    (connective-returns t)
+    (connective-returns-2 t)
+    (connective-returns-3 t))
+    (λ t. number-before-lts.spec (number-before-calls t) (number-before-at t) number-before.Post
+    (number-before-add-number-from t)
+    (λ c κs. (omega (arith, before-measure t (search)), tt))
+    (λ c. search needs)
+    (number-before-add-k t)
+    (number-before-add-after t)
+    (λ c κs. search needs)
+    (λ c κs. search needs)
+    (number-before-add-used t)
+    (λ c. search needs)
+    (number-before-returns t)
+    (number-before-returns-2 t))
+    (λ t. number-behind-lts.spec (number-behind-calls t) (number-behind-at t) number-behind.Post
+    (λ c. search needs)
+    (λ c κs. search needs)
+    (λ c κs. search needs)
+    (λ c. search needs)
+    (λ c κs. search needs)
+    (λ c κs. search needs)
+    (λ c. search needs)
+    (λ c κs. (omega (arith, number-behind-measure t (search)), tt))
+    (number-behind-arithmetic-requires t)
+    (λ c. search needs)
+    (λ c κs. search needs)
+    (λ c κs. search needs)
+    (λ c. search needs)
+    (λ c κs. search needs)
+    (λ c. search needs)
+    (λ c κs. search needs)
+    (λ c. search needs)
+    (λ c κs. (omega (arith, number-behind-measure t (search)), tt))
+    (λ c. search needs)
+    (λ c. unfold numberAt numberBehind in rw (c .before .before .enum-told .given .1) (rw (c .before .after .ensures) at (c .literal-number .ensures)))
+    (λ c. unfold numberAt numberBehind in rw (c .before .before .enum-told2 .given .1) (rw (c .before .after2 .ensures) at (c .number-variable .ensures)))
+    (λ c. unfold numberAt numberBehind in rw (c .before .before .before .form .given .1, c .arithmetic .ensures, c .before .pair .ensures))
+    (λ c. unfold numberAt numberBehind in rw (c .before .before .enum-told3 .given .1) (rw (c .before .after3 .ensures) at (c .entry-number .ensures)))
+    (λ c. unfold numberAt numberBehind in rw (c .before .enum-told4 .given .1) (c .size-number .ensures))
+    (λ c. unfold numberAt numberBehind in rw (c .before .enum-told5 .given .1) (c .total-number .ensures))
+    (λ c. unfold numberAt numberBehind in rw (c .before .enum-told6 .given .1) (c .choice .ensures))
+    (λ c. unfold numberAt numberBehind in rw (c .enum-told7 .given .1)))
+    (λ t. number-beyond-lts.spec (number-beyond-calls t) (number-beyond-at t) number-beyond.Post
+    (number-beyond-add-after t)
+    (λ c κs. search needs)
+    (λ c κs. search needs)
+    (number-beyond-add-k t)
+    (number-beyond-add-number-from t)
+    (λ c κs. (omega (arith, beyond-measure t (search)), tt))
+    (number-beyond-number-past-requires t)
+    (number-beyond-returns t))
+    (λ t. number-from-lts.spec (number-from-calls t) (number-from-at t) number-from.Post
+    (number-from-returns t)
+    (number-from-returns-2 t)
+    (λ c. omega arith)
+    (number-from-add-next t)
+    (λ c κs. search needs)
+    (λ c κs. search needs)
+    (number-from-number-past-requires t)
+    (number-from-returns-3 t)
+    (λ c κs. search needs)
+    (λ c κs. search needs)
+    (number-from-number-past-requires-2 t)
+    (number-from-returns-4 t)
+    (λ c κs. search needs)
+    (λ c. omega arith)
+    (λ c κs. (omega (arith, number-measure t (search)), tt))
+    (number-from-number-past-requires-3 t)
+    (number-from-returns-5 t))
+    (λ t. pair-lts.spec (pair-calls t) (pair-at t) pair.Post
+    (λ c κs. (omega (arith, pair-measure t (search)), tt))
+    (λ c. search needs)
+    (pair-add-number-from t)
+    (λ c κs. (omega (arith, pair-measure t (search)), tt))
+    (λ c. search needs)
+    (pair-add-used t)
+    (λ c. search needs)
+    (λ c. search needs)
+    (pair-returns t)
+    (pair-returns-2 t)
+    (pair-returns-3 t))

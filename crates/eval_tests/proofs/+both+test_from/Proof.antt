@@ -1,4 +1,4 @@
--- The cycle of `both`, `test_from` in `conjunctions`: each function meets its contract, and the depth falls.
+-- The cycle of `both`, `test_from` in `eval_tests`: each function meets its contract, and the depth falls.
 use Prim.Native.Nat.{ℕ, _+_, _*_, _<_}
 use mathlib.Core.Path.{_≡_}
 use native.Mathlib.Omega.{arith}
@@ -43,102 +43,98 @@ both-calls t = (test-from-below t, test-from.Post, past-reads.Asked, past-reads.
 abbrev test-from-calls : ℕ → test-from-lts.Claims
 test-from-calls t = (both-below t, both.Post, past-reads.Asked, past-reads.Learnt, condition-from-reads.Asked, condition-from-reads.Learnt, stop-reads.Asked, stop-reads.Learnt)
 
-both-test-from-requires : (t : ℕ) → both-lts.Need-test-from-requires (both-calls t) (both-at t) both.Post
-both-test-from-requires t c κs = let q : 2 * c .before .before .before .before .before .args .depth + 1 ≡ t = c .before .before .before .before .before .pre .0 in (omega arith, tt)
+-- ---- `both`
 
-both-enum-known-holds : (t : ℕ) → both-lts.Need-enum-known-holds (both-calls t) (both-at t) both.Post
-both-enum-known-holds t c = search needs
+module _ (t : ℕ) where
+  abbrev Both : Type 0
+  Both = both-lts.Start (both-calls t) (both-at t) both.Post
 
-both-add-test-from : (t : ℕ) → both-lts.Need-add-test-from (both-calls t) (both-at t) both.Post
-both-add-test-from t c =
-    let a = c .before .before .before .before .before .before .before .before .before .before .args in
-    omega (
-      arith,
-      first-used _ _ (a .at) (a .e .now) (c .before .before .before .before .test-from .ensures) (c .before .before .holds .given .1),
-      c .before .before .before .before .before .before .before .before .before .before .good .0 .1,
-    )
+  -- the first part is tested
+  abbrev First : Type 0
+  First = both-lts.After-holds (both-calls t) (both-at t) both.Post
 
-both-test-from-requires-2 : (t : ℕ) → both-lts.Need-test-from-requires-2 (both-calls t) (both-at t) both.Post
-both-test-from-requires-2 t c κs = let q : 2 * c .before .before .before .before .before .before .before .before .before .before .args .depth + 1 ≡ t = c .before .before .before .before .before .before .before .before .before .before .pre .0 in (omega arith, tt)
+  both-measure : (s : Both) → 2 * s .args .depth + 1 ≡ t
+  both-measure s = s .pre .0
 
-both-past-requires : (t : ℕ) → both-lts.Need-past-requires (both-calls t) (both-at t) both.Post
-both-past-requires t c κs =
-    let a = c .before .before .before .before .before .before .before .before .before .before .before .args in
-    rw (c .test-from2 .ensures)
-    (
-    second-room _ _ (a .at) (a .e .now) (c .before .before .before .before .before .test-from .ensures) (c .before .before .before .holds .given .1)
-    (omega (arith, c .before .before .before .before .before .before .before .before .before .before .before .good .0 .1))
-    )
+  both-add-test-from : both-lts.Need-add-test-from (both-calls t) (both-at t) both.Post
+  both-add-test-from c =
+      let s : Both = search in
+      let f : First = search in
+      omega (arith, first-used _ _ (s .args .at) (s .args .e .now) (f .before .before .test-from .ensures) (f .holds .given .1), s .good .0 .1)
 
-both-enum-known-t : (t : ℕ) → both-lts.Need-enum-known-t (both-calls t) (both-at t) both.Post
-both-enum-known-t t c = search needs
+  both-past-requires : both-lts.Need-past-requires (both-calls t) (both-at t) both.Post
+  both-past-requires c κs =
+      let s : Both = search in
+      let f : First = search in
+      rw (c .test-from2 .ensures)
+      (second-room _ _ (s .args .at) (s .args .e .now) (f .before .before .test-from .ensures) (f .holds .given .1) (omega (arith, s .good .0 .1)))
 
-both-returns : (t : ℕ) → both-lts.Need-returns (both-calls t) (both-at t) both.Post
-both-returns t c =
-    let a = c .before .before .before .before .before .before .before .before .before .before .before .before .args in
-    rw (c .past .ensures, c .before .test-from2 .ensures)
-    (
-    second-tested _ _ (a .at) (a .e .now) (c .before .before .before .before .before .before .test-from .ensures)
-    (c .before .before .before .before .holds .given .1) (c .before .before .if1 .taken)
-    )
+  both-returns : both-lts.Need-returns (both-calls t) (both-at t) both.Post
+  both-returns c =
+      let s : Both = search in
+      let f : First = search in
+      rw (c .past .ensures, c .before .test-from2 .ensures)
+      (second-tested _ _ (s .args .at) (s .args .e .now) (f .before .before .test-from .ensures) (f .holds .given .1) (c .before .before .if1 .taken))
 
-both-returns-2 : (t : ℕ) → both-lts.Need-returns-2 (both-calls t) (both-at t) both.Post
-both-returns-2 t c =
-    let a = c .before .before .before .before .before .before .before .before .before .before .args in
-    first-fails _ _ (a .at) (a .e .now) (c .before .before .before .before .test-from .ensures) (c .before .before .holds .given .1) (c .if1 .left)
+  both-returns-2 : both-lts.Need-returns-2 (both-calls t) (both-at t) both.Post
+  both-returns-2 c =
+      let s : Both = search in
+      let f : First = search in
+      first-fails _ _ (s .args .at) (s .args .e .now) (f .before .before .test-from .ensures) (f .holds .given .1) (c .if1 .left)
 
-both-returns-3 : (t : ℕ) → both-lts.Need-returns-3 (both-calls t) (both-at t) both.Post
-both-returns-3 t c =
-    let a = c .before .before .before .before .before .before .before .before .before .args in
-    first-troubles _ _ (a .at) (a .e .now) (c .before .before .before .test-from .ensures) (c .before .t .given .1)
+  both-returns-3 : both-lts.Need-returns-3 (both-calls t) (both-at t) both.Post
+  both-returns-3 c = let s : Both = search in first-troubles _ _ (s .args .at) (s .args .e .now) (c .before .before .before .test-from .ensures) (c .before .t .given .1)
 
-test-from-returns : (t : ℕ) → test-from-lts.Need-returns (test-from-calls t) (test-from-at t) test-from.Post
-test-from-returns t c =
-    let a = c .before .before .before .before .before .before .args in
-    no-depth _ _ (a .at) (a .e .now) (c .if1 .taken)
+-- ---- `test_from`
 
-test-from-returns-2 : (t : ℕ) → test-from-lts.Need-returns-2 (test-from-calls t) (test-from-at t) test-from.Post
-test-from-returns-2 t c =
-    let a = c .before .before .before .before .before .before .before .args in
-    no-byte _ _ (a .at) (a .e .now) (c .if2 .taken)
+module _ (t : ℕ) where
+  abbrev Test : Type 0
+  Test = test-from-lts.Start (test-from-calls t) (test-from-at t) test-from.Post
 
-test-from-shared-slice-read-if3 : (t : ℕ) → test-from-lts.Need-shared-slice-read-if3 (test-from-calls t) (test-from-at t) test-from.Post
-test-from-shared-slice-read-if3 t c = omega arith
+  test-measure : (s : Test) → 2 * s .args .depth ≡ t
+  test-measure s = s .pre .0
 
-test-from-add-both : (t : ℕ) → test-from-lts.Need-add-both (test-from-calls t) (test-from-at t) test-from.Post
-test-from-add-both t c = omega (arith, c .before .before .before .before .before .before .before .before .before .good .0 .1)
+  test-from-returns : test-from-lts.Need-returns (test-from-calls t) (test-from-at t) test-from.Post
+  test-from-returns c = let s : Test = search in no-depth _ _ (s .args .at) (s .args .e .now) (c .if1 .taken)
 
-test-from-sub-both : (t : ℕ) → test-from-lts.Need-sub-both (test-from-calls t) (test-from-at t) test-from.Post
-test-from-sub-both t c = omega arith
+  test-from-returns-2 : test-from-lts.Need-returns-2 (test-from-calls t) (test-from-at t) test-from.Post
+  test-from-returns-2 c = let s : Test = search in no-byte _ _ (s .args .at) (s .args .e .now) (c .if2 .taken)
 
-test-from-both-requires : (t : ℕ) → test-from-lts.Need-both-requires (test-from-calls t) (test-from-at t) test-from.Post
-test-from-both-requires t c κs = let q : 2 * c .before .before .before .before .before .before .before .before .before .args .depth ≡ t = c .before .before .before .before .before .before .before .before .before .pre .0 in (omega arith, tt)
+  test-from-add-both : test-from-lts.Need-add-both (test-from-calls t) (test-from-at t) test-from.Post
+  test-from-add-both c = let s : Test = search in omega (arith, s .good .0 .1)
 
-test-from-past-requires : (t : ℕ) → test-from-lts.Need-past-requires (test-from-calls t) (test-from-at t) test-from.Post
-test-from-past-requires t c κs =
-    let a = c .before .before .before .before .before .before .before .before .before .before .args in
-    rw (c .both .ensures) (conjunction-room _ _ (a .at) (a .e .now) (omega (arith, c .before .before .before .before .before .before .before .before .before .before .good .0 .1)))
+  test-from-past-requires : test-from-lts.Need-past-requires (test-from-calls t) (test-from-at t) test-from.Post
+  test-from-past-requires c κs = let s : Test = search in rw (c .both .ensures) (conjunction-room _ _ (s .args .at) (s .args .e .now) (omega (arith, s .good .0 .1)))
 
-test-from-returns-3 : (t : ℕ) → test-from-lts.Need-returns-3 (test-from-calls t) (test-from-at t) test-from.Post
-test-from-returns-3 t c =
-    let a = c .before .before .before .before .before .before .before .before .before .before .before .args in
-    rw (c .past .ensures, c .before .both .ensures)
-    (
-    conjunction-tested _ _ (a .at) (a .e .now) (c .before .before .before .before .before .if1 .left) (c .before .before .before .before .if2 .left)
-    (c .before .before .if3 .taken)
-    )
-
-test-from-condition-from-requires : (t : ℕ) → test-from-lts.Need-condition-from-requires (test-from-calls t) (test-from-at t) test-from.Post
-test-from-condition-from-requires t c κs = search needs
-
-test-from-stop-requires : (t : ℕ) → test-from-lts.Need-stop-requires (test-from-calls t) (test-from-at t) test-from.Post
-test-from-stop-requires t c κs = search needs
-
-test-from-returns-4 : (t : ℕ) → test-from-lts.Need-returns-4 (test-from-calls t) (test-from-at t) test-from.Post
-test-from-returns-4 t c = rw (c .stop .ensures, c .before .condition-from .ensures)
+  test-from-returns-3 : test-from-lts.Need-returns-3 (test-from-calls t) (test-from-at t) test-from.Post
+  test-from-returns-3 c =
+      let s : Test = search in
+      let o : test-from-lts.Else2 (test-from-calls t) (test-from-at t) test-from.Post = search in
+      rw (c .past .ensures, c .before .both .ensures)
+      (conjunction-tested _ _ (s .args .at) (s .args .e .now) (o .before .if1 .left) (o .if2 .left) (c .before .before .if3 .taken))
 
 pub +both+test-from-spec : {M : Type 1} → statement M
 +both+test-from-spec =
     close μ-both μ-test-from
-    (λ t. both-lts.spec (both-calls t) (both-at t) both.Post (both-test-from-requires t) (both-enum-known-holds t) (both-add-test-from t) (both-test-from-requires-2 t) (both-past-requires t) (both-enum-known-t t) (both-returns t) (both-returns-2 t) (both-returns-3 t))
-    (λ t. test-from-lts.spec (test-from-calls t) (test-from-at t) test-from.Post (test-from-returns t) (test-from-returns-2 t) (test-from-shared-slice-read-if3 t) (test-from-add-both t) (test-from-sub-both t) (test-from-both-requires t) (test-from-past-requires t) (test-from-returns-3 t) (test-from-condition-from-requires t) (test-from-stop-requires t) (test-from-returns-4 t))
+    (λ t. both-lts.spec (both-calls t) (both-at t) both.Post
+    (λ c κs. (omega (arith, both-measure t (search)), tt))
+    (λ c. search needs)
+    (both-add-test-from t)
+    (λ c κs. (omega (arith, both-measure t (search)), tt))
+    (both-past-requires t)
+    (λ c. search needs)
+    (both-returns t)
+    (both-returns-2 t)
+    (both-returns-3 t))
+    (λ t. test-from-lts.spec (test-from-calls t) (test-from-at t) test-from.Post
+    (test-from-returns t)
+    (test-from-returns-2 t)
+    (λ c. omega arith)
+    (test-from-add-both t)
+    (λ c. omega arith)
+    (λ c κs. (omega (arith, test-measure t (search)), tt))
+    (test-from-past-requires t)
+    (test-from-returns-3 t)
+    (λ c κs. search needs)
+    (λ c κs. search needs)
+    (λ c. rw (c .stop .ensures, c .before .condition-from .ensures)))

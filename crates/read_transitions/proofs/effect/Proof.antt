@@ -10,59 +10,59 @@ use Rattle.read_transitions.proofs.effect.Tie as tie
 
 add-if1 : tie.Need-add-if1
 add-if1 c =
-    let start = c .before .before .before .before .before in
-    record { fits = omega (arith, start .good, byte-inside (start .args .model .now) (start .args .at) 10 (omega arith) (start .pre .0)) }
+    let s : tie.Start = search in
+    record { fits = omega (arith, s .good, byte-inside (s .args .model .now) (s .args .at) 10 (omega arith) (s .pre .0)) }
 
 cast-v : tie.Need-cast-v
-cast-v c = record { fits = omega (arith, c .shared-slice-known6 .given (c .before .before .before .before .before .before .before .args .at + 1)) }
+cast-v c = let s : tie.Start = search in record { fits = omega (arith, c .shared-slice-known6 .given (s .args .at + 1)) }
 
 returns : tie.Need-returns
 returns c =
-    let start = c .before .before .before .before .before .before .before .before .before in
-    effect-again (start .args .kinds .now) (start .args .rows .now) (start .args .columns .now) (start .args .model .now) (start .args .at)
-    (start .args .n) (start .args .marks .now) (start .pre .0) (c .before .before .before .if1 .taken) (c .before .byte-at .ensures) (c .if2 .taken)
+    let s : tie.Start = search in
+    let i : tie.Then1 = search in
+    effect-again (s .args .kinds .now) (s .args .rows .now) (s .args .columns .now) (s .args .model .now) (s .args .at) (s .args .n) (s .args .marks .now)
+    (s .pre .0) (i .if1 .taken) (c .before .byte-at .ensures) (c .if2 .taken)
 
 returns-2 : tie.Need-returns-2
 returns-2 c =
-    let start = c .before .before .before .before .before .before .before .before .before .before .before in
-    effect-too-many (start .args .kinds .now) (start .args .rows .now) (start .args .columns .now) (start .args .model .now) (start .args .at)
-    (start .args .n) (start .args .marks .now) (start .pre .0) (c .before .before .before .before .before .if1 .taken)
-    (c .before .before .before .byte-at .ensures) (c .before .before .if2 .left) (c .before .if3 .taken) (c .if4 .taken)
+    let s : tie.Start = search in
+    let i : tie.Then1 = search in
+    let d : tie.Then3 = search in
+    effect-too-many (s .args .kinds .now) (s .args .rows .now) (s .args .columns .now) (s .args .model .now) (s .args .at) (s .args .n) (s .args .marks .now)
+    (s .pre .0) (i .if1 .taken) (d .before .before .byte-at .ensures) (d .before .if2 .left) (d .if3 .taken) (c .if4 .taken)
 
 returns-3 : tie.Need-returns-3
 returns-3 c =
-    let start = c .before .before .before .before .before .before .before .before .before .before .before .before .before .before .before .before in
-    effect-more (start .args .kinds .now) (start .args .rows .now) (start .args .columns .now) (start .args .model .now) (start .args .at)
-    (start .args .n) (start .args .marks .now) (start .pre .0)
-    (c .before .before .before .before .before .before .before .before .before .before .if1 .taken)
-    (c .before .before .before .before .before .before .before .before .byte-at .ensures)
-    (c .before .before .before .before .before .before .before .if2 .left) (c .before .before .before .before .before .before .if3 .taken)
-    (omega (arith, start .pre .1, c .before .before .before .before .before .if4 .left)) (start .pre .2)
+    let s : tie.Start = search in
+    let i : tie.Then1 = search in
+    let r : tie.Else4 = search in
+    let d = r .before in
+    effect-more (s .args .kinds .now) (s .args .rows .now) (s .args .columns .now) (s .args .model .now) (s .args .at) (s .args .n) (s .args .marks .now)
+    (s .pre .0) (i .if1 .taken) (d .before .before .byte-at .ensures) (d .before .if2 .left) (d .if3 .taken) (omega (arith, s .pre .1, r .if4 .left)) (s .pre .2)
     (sym (c .before .end .given .1) ∙ c .before .before .before .result-at .ensures)
 
 returns-4 : tie.Need-returns-4
 returns-4 c =
-    let start = c .before .before .before .before .before .before .before .before .before .before .before .before .before .before .before .before in
-    effect-refused (start .args .kinds .now) (start .args .rows .now) (start .args .columns .now) (start .args .model .now) (start .args .at)
-    (start .args .n) (start .args .marks .now) (start .pre .0)
-    (c .before .before .before .before .before .before .before .before .before .before .if1 .taken)
-    (c .before .before .before .before .before .before .before .before .byte-at .ensures)
-    (c .before .before .before .before .before .before .before .if2 .left) (c .before .before .before .before .before .before .if3 .taken)
-    (omega (arith, start .pre .1, c .before .before .before .before .before .if4 .left))
+    let s : tie.Start = search in
+    let i : tie.Then1 = search in
+    let r : tie.Else4 = search in
+    let d = r .before in
+    effect-refused (s .args .kinds .now) (s .args .rows .now) (s .args .columns .now) (s .args .model .now) (s .args .at) (s .args .n) (s .args .marks .now)
+    (s .pre .0) (i .if1 .taken) (d .before .before .byte-at .ensures) (d .before .if2 .left) (d .if3 .taken) (omega (arith, s .pre .1, r .if4 .left))
     (sym (c .before .t .given .1) ∙ c .before .before .before .result-at .ensures)
 
 returns-5 : tie.Need-returns-5
 returns-5 c =
-    let start = c .before .before .before .before .before .before .before .before .before .before in
-    effect-undeclared (start .args .kinds .now) (start .args .rows .now) (start .args .columns .now) (start .args .model .now) (start .args .at)
-    (start .args .n) (start .args .marks .now) (start .pre .0) (c .before .before .before .before .if1 .taken) (c .before .before .byte-at .ensures)
-    (c .before .if2 .left) (c .if3 .left)
+    let s : tie.Start = search in
+    let i : tie.Then1 = search in
+    effect-undeclared (s .args .kinds .now) (s .args .rows .now) (s .args .columns .now) (s .args .model .now) (s .args .at) (s .args .n) (s .args .marks .now)
+    (s .pre .0) (i .if1 .taken) (c .before .before .byte-at .ensures) (c .before .if2 .left) (c .if3 .left)
 
 returns-6 : tie.Need-returns-6
 returns-6 c =
-    let start = c .before .before .before .before .before .before in
-    effect-cut (start .args .kinds .now) (start .args .rows .now) (start .args .columns .now) (start .args .model .now) (start .args .at)
-    (start .args .n) (start .args .marks .now) (start .pre .0) (c .if1 .left)
+    let s : tie.Start = search in
+    effect-cut (s .args .kinds .now) (s .args .rows .now) (s .args .columns .now) (s .args .model .now) (s .args .at) (s .args .n) (s .args .marks .now)
+    (s .pre .0) (c .if1 .left)
 
 pub effect-spec : {M : Type 1} → statement M
 effect-spec =

@@ -5,6 +5,8 @@ use native.Mathlib.Omega.{arith}
 use borrow.Author.Needs.{needs}
 use Rattle.words.specs.Signature.{variablesOf, tablesOf}
 use Rattle.read_transitions.specs.Transitions.{ChangedAs}
+use Rattle.read_transitions.specs.declared.Change.{Change}
+use Rattle.read_transitions.specs.declared.Change.the-variants as C
 use Rattle.read_declarations.specs.Positions.{positionOf}
 use Rattle.read_transitions.proofs.Reading.{EffectsSoFar, no-effects, effects-more, effects-end, effects-early}
 use Rattle.read_transitions.proofs.effects.Statement.{statement}
@@ -16,96 +18,51 @@ Inv-loop model start kinds rows columns at₀ n₀ marks₀ at n marks = Effects
 abbrev μ-loop : tie.MeasureT-loop
 μ-loop model start kinds rows columns at₀ n₀ marks₀ at n marks = 16 - n
 
-loop-holds : tie.Need-loop-holds Inv-loop μ-loop
-loop-holds c =
-    let start = c .before .before .before .before in
-    no-effects (variablesOf (start .args .kinds .now)) (tablesOf (start .args .rows .now) (start .args .columns .now)) (start .args .model .now) (start .args .start)
+-- a turn of the loop: the start behind it, and what a change is there
+abbrev Turn : Type 0
+Turn = tie.At-loop Inv-loop μ-loop
 
-byte-at-requires : tie.Need-byte-at-requires Inv-loop μ-loop
-byte-at-requires c κs = search needs
+abbrev start : Turn → tie.Start Inv-loop μ-loop
+start c = c .before .before .before .before .before
+
+abbrev ChangedHere : Turn → Change → Type 0
+ChangedHere c =
+    ChangedAs (variablesOf (start c .args .kinds .now)) (tablesOf (start c .args .rows .now) (start c .args .columns .now)) (start c .args .model .now) (c .loop .at) (c .loop .n) (c .loop .marks)
+
+-- a variable is set
+changed : (c : tie.After-v Inv-loop μ-loop) → ChangedHere (c .before .before .before .before .before .before) (C.Of (c .v .given .0 .0) (c .v .given .0 .1 .0))
+changed c = let t : Turn = search in subst (ChangedHere t) (c .v .given .1) (c .before .before .effect .ensures)
 
 slice-aggregate-effect : tie.Need-slice-aggregate-effect Inv-loop μ-loop
-slice-aggregate-effect c = omega (arith, c .before .before .before .loop .inv .marks-length)
+slice-aggregate-effect c = let t : Turn = search in omega (arith, t .loop .inv .marks-length)
 
 effect-requires : tie.Need-effect-requires Inv-loop μ-loop
-effect-requires c κs = (
-  sym (c .before .before .byte-at .ensures) ∙ c .before .if1 .taken,
-  c .before .before .before .loop .inv .few,
-  c .before .before .before .before .before .before .before .before .pre,
-)
-
-enum-known-v : tie.Need-enum-known-v Inv-loop μ-loop
-enum-known-v c = search needs
+effect-requires c κs = let t : Turn = search in (sym (c .before .before .byte-at .ensures) ∙ c .before .if1 .taken, t .loop .inv .few, start t .pre)
 
 array-write-marks : tie.Need-array-write-marks Inv-loop μ-loop
 array-write-marks c =
-    let start = c .before .before .before .before .before .before .before .before .before .before .before .before in
-    let turn = c .before .before .before .before .before .before .before .loop in
-    let h = subst (ChangedAs (variablesOf (start .args .kinds .now)) (tablesOf (start .args .rows .now) (start .args .columns .now)) (start .args .model .now) (turn .at) (turn .n) (turn .marks)) (c .before .v .given .1) (c .before .before .before .effect .ensures) in omega (arith, h (turn .inv .items) (turn .inv .marked) .declared, turn .inv .marks-length)
+    let t : Turn = search in omega (arith, changed (search) (t .loop .inv .items) (t .loop .inv .marked) .declared, t .loop .inv .marks-length)
 
 add-n : tie.Need-add-n Inv-loop μ-loop
-add-n c = omega (arith, c .before .before .before .before .before .before .before .loop .inv .few)
+add-n c = let t : Turn = search in omega (arith, t .loop .inv .few)
 
 loop-less : tie.Need-loop-less Inv-loop μ-loop
-loop-less c =
-    let start = c .before .before .before .before .before .before .before .before .before .before .before .before in
-    let turn = c .before .before .before .before .before .before .before .loop in
-    let h = subst (ChangedAs (variablesOf (start .args .kinds .now)) (tablesOf (start .args .rows .now) (start .args .columns .now)) (start .args .model .now) (turn .at) (turn .n) (turn .marks)) (c .before .v .given .1) (c .before .before .before .effect .ensures) in omega (arith, h (turn .inv .items) (turn .inv .marked) .room)
+loop-less c = let t : Turn = search in omega (arith, changed (search) (t .loop .inv .items) (t .loop .inv .marked) .room)
 
 loop-again : tie.Need-loop-again Inv-loop μ-loop
-loop-again c =
-    let start = c .before .before .before .before .before .before .before .before .before .before .before .before in
-    let turn = c .before .before .before .before .before .before .before .loop in
-    effects-more (variablesOf (start .args .kinds .now)) (tablesOf (start .args .rows .now) (start .args .columns .now)) (start .args .model .now)
-    (start .args .start) (turn .at) (turn .n) (turn .marks) (turn .inv)
-    (
-    subst (
-    ChangedAs (variablesOf (start .args .kinds .now)) (tablesOf (start .args .rows .now) (start .args .columns .now)) (start .args .model .now)
-    (turn .at) (turn .n) (turn .marks)
-    ) (c .before .v .given .1) (c .before .before .before .effect .ensures)
-    )
-
-enum-known-t : tie.Need-enum-known-t Inv-loop μ-loop
-enum-known-t c = search needs
+loop-again c = let t : Turn = search in effects-more (t .loop .inv) (changed (search))
 
 returns : tie.Need-returns Inv-loop μ-loop
 returns c =
-    let start = c .before .before .before .before .before .before .before .before .before .before .before .before in
-    let turn = c .before .before .before .before .before .before .before .loop in
-    sym
-    (
-    ap positionOf (
-    sym (turn .inv .goes-on) ∙ subst (
-    ChangedAs (variablesOf (start .args .kinds .now)) (tablesOf (start .args .rows .now) (start .args .columns .now)) (start .args .model .now)
-    (turn .at) (turn .n) (turn .marks)
-    ) (c .before .t .given .1) (c .before .before .before .effect .ensures) (turn .inv .items) (turn .inv .marked)
-    )
-    )
+    let t : Turn = search in
+    let refused = subst (ChangedHere t) (c .before .t .given .1) (c .before .before .before .effect .ensures) in
+    sym (ap positionOf (sym (t .loop .inv .goes-on) ∙ refused (t .loop .inv .items) (t .loop .inv .marked)))
 
 returns-2 : tie.Need-returns-2 Inv-loop μ-loop
-returns-2 c =
-    let start = c .before .before .before .before .before .before .before .before in
-    let turn = c .before .before .before .loop in
-    sym
-    (
-    ap positionOf (
-    effects-end (variablesOf (start .args .kinds .now)) (tablesOf (start .args .rows .now) (start .args .columns .now)) (start .args .model .now)
-    (start .args .start) (turn .at) (turn .n) (turn .marks) (turn .inv) (c .if2 .taken)
-    (λ q. c .before .if1 .left (c .before .before .byte-at .ensures ∙ q))
-    )
-    )
+returns-2 c = let t : Turn = search in sym (ap positionOf (effects-end (t .loop .inv) (c .if2 .taken) (λ q. c .before .if1 .left (c .before .before .byte-at .ensures ∙ q))))
 
 returns-3 : tie.Need-returns-3 Inv-loop μ-loop
-returns-3 c =
-    let start = c .before .before .before .before .before .before .before .before in
-    let turn = c .before .before .before .loop in
-    sym
-    (
-    ap positionOf (
-    effects-early (variablesOf (start .args .kinds .now)) (tablesOf (start .args .rows .now) (start .args .columns .now))
-    (start .args .model .now) (start .args .start) (turn .at) (turn .n) (turn .marks) (turn .inv) (c .if2 .left)
-    )
-    )
+returns-3 c = let t : Turn = search in sym (ap positionOf (effects-early (t .loop .inv) (c .if2 .left)))
 
 pub effects-spec : {M : Type 1} → statement M
 effects-spec =
@@ -113,16 +70,16 @@ effects-spec =
     (tie.spec
     Inv-loop
     μ-loop
-    loop-holds
-    byte-at-requires
+    (λ c. no-effects)
+    (λ c κs. search needs)
     slice-aggregate-effect
     effect-requires
-    enum-known-v
+    (λ c. search needs)
     array-write-marks
     add-n
     loop-less
     loop-again
-    enum-known-t
+    (λ c. search needs)
     returns
     returns-2
     returns-3)

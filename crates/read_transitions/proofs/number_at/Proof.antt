@@ -1,22 +1,28 @@
 -- `read_transitions::number_at` meets its contract. The position behind a number.
-use mathlib.Core.Path.{_∙_}
+use mathlib.Core.Path.{ap, _∙_}
+use native.Mathlib.Omega.{arith}
 use borrow.Author.Needs.{needs}
 use Rattle.words.specs.Signature.{variablesOf, tablesOf}
-use Rattle.read_transitions.proofs.Reading.{number-place}
+use Rattle.read_forms.specs.declared.Due.the-variants as D
+use Rattle.read_transitions.specs.Transitions.{placeOfPart}
+use Rattle.read_transitions.proofs.Reading.{moved-fits, part-from, number-place}
 use Rattle.read_transitions.proofs.number_at.Statement.{statement}
 use Rattle.read_transitions.proofs.number_at.Tie as tie
 
-expression-at-requires : tie.Need-expression-at-requires
-expression-at-requires c κs = search needs
+abbrev start : tie.After-suffix-at → tie.Start
+start c = c .before .before .before .before .before
 
-placed-requires : tie.Need-placed-requires
-placed-requires c κs = search needs
+moved-requires : tie.Need-moved-requires
+moved-requires c κs =
+    let s = start (c .before) in
+    let a = s .args in
+    moved-fits (a .kinds .now) (a .rows .now) (a .columns .now) (a .at) (a .model .now) D.Number (c .before .suffix-at .ensures) (c .number .ensures) (omega (arith, s .good)) (omega (arith, s .fits .at))
 
 returns : tie.Need-returns
 returns c =
-    let start = c .before .before .before .before .before .before in
-    c .placed .ensures ∙ number-place (variablesOf (start .args .kinds .now)) (tablesOf (start .args .rows .now) (start .args .columns .now))
-    (start .args .at) (start .args .model .now) (c .before .expression-at .ensures)
+    let a = start (c .before .before .before) .args in
+    c .placed .ensures ∙ ap placeOfPart (c .before .moved .ensures) ∙ number-place (variablesOf (a .kinds .now)) (tablesOf (a .rows .now) (a .columns .now)) (a .at) (a .model .now)
+    (part-from (a .kinds .now) (a .rows .now) (a .columns .now) (a .at) (a .model .now) D.Number (c .before .before .before .suffix-at .ensures) (c .before .before .number .ensures))
 
 pub number-at-spec : {M : Type 1} → statement M
-number-at-spec = tie.close (tie.spec expression-at-requires placed-requires returns)
+number-at-spec = tie.close (tie.spec (λ c κs. search needs) (λ c κs. search needs) moved-requires (λ c κs. search needs) returns)

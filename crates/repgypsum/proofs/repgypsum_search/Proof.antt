@@ -16,9 +16,7 @@ same-length-2 : tie.Need-same-length-2
 same-length-2 c = search needs
 
 returns : tie.Need-returns
-returns c =
-    let search = c .before .before .before .before .before .search in
-    (c .fields .ensures .same _ (search .ensures .0), (search .ensures .1 .0, search .ensures .1 .1))
+returns c = rw (c .fields .ensures) (c .before .before .before .before .before .search .ensures)
 
 pub repgypsum-search-spec : {M : Type 1} → statement M
 repgypsum-search-spec =

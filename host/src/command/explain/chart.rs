@@ -1,7 +1,7 @@
-//! The plan as a chart: a row and a bar for each step, over an axis of hours.
+//! The plan as a chart: a row and a bar for each step, over an axis of costs.
 
 use super::walk::Stage;
-use super::Known;
+use crate::command::known::Known;
 use crate::command::words::{counted, grouped};
 use crate::reference::syntax::CostRule;
 use std::fmt::Write;
@@ -33,13 +33,18 @@ struct Bar {
 pub fn svg(heading: &str, known: &Known, stages: &[Stage]) -> String {
     let cost = stages.last().map_or(0, |stage| stage.total);
     let bars = bars(known, stages);
-    let (steps, hours) = (counted(stages.len() as u64, "step"), grouped(cost as u64));
-    let heading = format!("{heading}, {steps}, cost {hours}");
-    let note = match known.model.rule {
-        CostRule::Sum => "Hours from the start: a bar is a step, as wide as its cost. The line is the plan's cost.",
-        CostRule::Largest => "Hours: a bar is a step, as wide as its cost. The line is the plan's cost, the largest.",
+    let (steps, total) = (counted(stages.len() as u64, "step"), grouped(cost as u64));
+    let heading = format!("{heading}, {steps}, cost {total}");
+    let unit = if known.speaks_of_hours() {
+        "Hours"
+    } else {
+        "Cost"
     };
-    Chart::new(&bars, cost).draw(&heading, note, &bars)
+    let note = match known.model.rule {
+        CostRule::Sum => format!("{unit} from the start: a bar is a step, as wide as its cost. The line is the plan's cost."),
+        CostRule::Largest => format!("{unit}: a bar is a step, as wide as its cost. The line is the plan's cost, the largest."),
+    };
+    Chart::new(&bars, cost).draw(&heading, &note, &bars)
 }
 
 /// Under the sum a bar begins where the last ended; under the largest each begins at 0.
@@ -124,8 +129,8 @@ impl Chart {
         }
     }
 
-    fn x(&self, hours: i64) -> f64 {
-        self.left + hours as f64 / self.greatest as f64 * PLOT
+    fn x(&self, cost: i64) -> f64 {
+        self.left + cost as f64 / self.greatest as f64 * PLOT
     }
 
     fn draw(mut self, heading: &str, note: &str, bars: &[Bar]) -> String {
@@ -177,19 +182,19 @@ impl Chart {
         ));
     }
 
-    /// Upright lines with their hours above and below, and the line at the plan's cost.
+    /// Upright lines with their costs above and below, and the line at the plan's cost.
     fn axis(&mut self) {
         let label = width(&grouped(self.greatest as u64)) + GAP;
         let step = tick(self.greatest, (PLOT / label) as i64);
-        let mut hours = 0;
-        while hours <= self.greatest {
-            let x = self.x(hours);
-            let words = grouped(hours as u64);
+        let mut mark = 0;
+        while mark <= self.greatest {
+            let x = self.x(mark);
+            let words = grouped(mark as u64);
             self.upright(x, "stroke=\"#ddd\"");
             self.words(x, TOP - 10.0, "middle", "fill=\"#555\"", &words);
             let below = TOP + self.height + 20.0;
             self.words(x, below, "middle", "fill=\"#555\"", &words);
-            hours += step;
+            mark += step;
         }
         let cost = self.x(self.cost);
         self.upright(cost, "stroke=\"#b03030\" stroke-width=\"1.5\"");

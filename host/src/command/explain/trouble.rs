@@ -1,7 +1,8 @@
 //! Refusals by the state: where the trouble was met, and in which expression.
 
 use super::walk::{follow, last_state};
-use super::{Known, Part};
+use crate::command::known::Known;
+use crate::command::part::Part;
 use crate::command::settings::Run;
 use crate::command::words::{counted, grouped, refusal_name};
 use crate::numbers::refusal::NEGATIVE_COST;

@@ -1,8 +1,8 @@
 //! What is proved of each verdict, and what a stopped or contradicted run leaves open.
 
-use super::walk::follow;
-use super::{Known, Part};
 use crate::command::input::Source;
+use crate::command::known::Known;
+use crate::command::part::Part;
 use crate::command::settings::{Run, Settings};
 use crate::command::words::{counted, grouped};
 use crate::numbers::{limit, verdict};
@@ -65,7 +65,7 @@ pub fn more(known: &Known, settings: &Settings, run: &Run) -> Option<Part> {
         verdict::WIDTH_STOP | verdict::LENGTH_STOP | verdict::BUDGET_SPENT => {
             Some(stopped(known, settings, run))
         }
-        verdict::CONTRADICTED => Some(contradicted(known, run)),
+        verdict::CONTRADICTED => Some(contradicted(run)),
         _ => None,
     }
 }
@@ -148,8 +148,8 @@ fn budget_spent(settings: &Settings, part: &mut Part) {
     }
 }
 
-/// The plan against the bound, and a bound that the plan itself shows to be false.
-fn contradicted(known: &Known, run: &Run) -> Part {
+/// The plan against the bound.
+fn contradicted(run: &Run) -> Part {
     let answer = &run.answer;
     let mut part = Part::new("What is contradicted");
     part.say(format!(
@@ -157,39 +157,8 @@ fn contradicted(known: &Known, run: &Run) -> Part {
         grouped(answer.bound),
         grouped(answer.cost)
     ));
-    match false_bound(known, &run.steps) {
-        Some(sentence) => part.say(sentence),
-        None => part.say("Along this plan no bound is above the cost of the steps that follow: what is false shows elsewhere."),
-    }
     part.say("Until the declarations are put right, this model's marks say no more than that a plan given is a plan.");
     part
-}
-
-/// The first state of the plan where a bound is above the cost of the rest of the plan.
-fn false_bound(known: &Known, steps: &[u8]) -> Option<String> {
-    let model = &known.model;
-    let stages = follow(model, steps)?;
-    for done in 0..=stages.len() {
-        let rest = &stages[done..];
-        let to_go = rest
-            .iter()
-            .fold(0, |cost, stage| model.join(cost, stage.cost));
-        let state = match done {
-            0 => model.target(),
-            _ => stages[done - 1].state.clone(),
-        };
-        for (number, bound) in model.bounds.iter().enumerate() {
-            let value = model.number(bound, &state).ok()?;
-            if value > to_go {
-                return Some(format!(
-                    "After {} of it bound {number}, {}, is {value}, and the rest of the plan costs {to_go}.",
-                    counted(done as u64, "step"),
-                    known.listing.bounds[number],
-                ));
-            }
-        }
-    }
-    None
 }
 
 /// The proved plan check on the plan given.

@@ -1,9 +1,9 @@
 //! A plan or a path step by step, by the independent implementation.
 
-use super::{Known, Part};
+use crate::command::known::Known;
+use crate::command::part::Part;
 use crate::command::words::grouped;
-use crate::reference::{Model, State, Value};
-use crate::text::braces;
+use crate::reference::{Model, State};
 
 /// A step: its transition, its cost, the cost of the path up to and with it, and the state after it.
 pub struct Stage {
@@ -41,39 +41,6 @@ pub fn last_state(model: &Model, stages: &[Stage]) -> State {
     last.map_or_else(|| model.target(), |stage| stage.state.clone())
 }
 
-impl Known {
-    /// A variable's value in the words of the text; objects without names in runs, such as `{0, 2..5}`.
-    fn value(&self, variable: usize, value: &Value) -> String {
-        match value {
-            Value::Set(members) if self.names.variables[variable].group.is_none() => {
-                braces(*members)
-            }
-            _ => self.names.value(variable, value),
-        }
-    }
-
-    /// The transition's number, and its name if the text gives one.
-    pub fn transition(&self, number: usize) -> String {
-        match self.names.transitions.get(number) {
-            Some(Some(name)) => format!("{number} {name}"),
-            _ => number.to_string(),
-        }
-    }
-
-    /// The values of a state by name.
-    pub fn state(&self, state: &State) -> String {
-        let value = |(variable, value)| {
-            let name = self.names.variable(variable);
-            format!("{name} = {}", self.value(variable, value))
-        };
-        let values: Vec<String> = state.iter().enumerate().map(value).collect();
-        if values.is_empty() {
-            return "no variables".to_string();
-        }
-        values.join(", ")
-    }
-}
-
 /// Columns of text, each as wide as its widest cell; the marked ones end together, the rest begin together.
 fn columns(rows: &[[String; 5]], right: [bool; 5]) -> Vec<String> {
     let widest = |column: usize| {
@@ -109,7 +76,7 @@ pub fn part(heading: &'static str, known: &Known, steps: &[u8]) -> Part {
         "cost",
         "so far",
         "transition",
-        "state after it",
+        "what changes",
     ])];
     rows.push([
         "start".to_string(),
@@ -118,6 +85,7 @@ pub fn part(heading: &'static str, known: &Known, steps: &[u8]) -> Part {
         String::new(),
         known.state(&known.model.target()),
     ]);
+    let mut before = known.model.target();
     for (place, stage) in stages.iter().enumerate() {
         let number = usize::from(stage.number);
         rows.push([
@@ -125,8 +93,9 @@ pub fn part(heading: &'static str, known: &Known, steps: &[u8]) -> Part {
             grouped(stage.cost as u64),
             grouped(stage.total as u64),
             known.transition(number),
-            known.state(&stage.state),
+            known.changes(&before, &stage.state),
         ]);
+        before = stage.state.clone();
     }
     part.lines = columns(&rows, [true, true, true, false, false]);
     part.say(

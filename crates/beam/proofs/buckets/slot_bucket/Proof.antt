@@ -13,7 +13,7 @@ use Rattle.beam.proofs.buckets.slot_bucket.Tie as tie
 returns : tie.Need-returns
 unfolding bucketIn wordsIn
 returns c =
-    let start = c .before .before .before .before in
+    let start = c .before .before .before .before .before in
     let e : start .args .s * 20 + 16 - start .args .s * 20 ≡ 16 = omega arith in
     rw (take-take 16 20 (drop (start .args .s * slotWords) (start .args .slots .now)) (omega arith)) (rw e at (c .bucket .ensures))
 

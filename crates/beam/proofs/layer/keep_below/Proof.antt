@@ -26,73 +26,30 @@ Inv-loop layer width n best a left₀ left = (left ≤ n) × ((i : ℕ) → left
 abbrev μ-loop : tie.MeasureT-loop
 μ-loop layer width n best a left₀ left = left
 
-mul-a : tie.Need-mul-a Inv-loop μ-loop
-mul-a c = search needs
+abbrev layer-at : (c : tie.In-loop Inv-loop μ-loop) → ℕ → ℕ
+layer-at c i = getD (c .before .before .args .layer .now) i 0
 
-loop-holds : tie.Need-loop-holds Inv-loop μ-loop
-loop-holds c = (omega arith, (λ i a b. absurd (omega arith)))
+-- the last place that is left, and its slot, are inside
+place : (c : tie.In-loop Inv-loop μ-loop) → c .before .loop .left - 1 < c .before .before .args .width
+place c = omega (arith, few-in (c .before .before .pre), c .loop-test .taken, c .before .loop .inv .0)
 
-sub-s : tie.Need-sub-s Inv-loop μ-loop
-sub-s c = search needs
-
-add-s : tie.Need-add-s Inv-loop μ-loop
-add-s c =
-    let start = c .before .before in
-    record { fits = omega (arith, few-in (start .pre), start .pre .long, c .before .loop .inv .0) }
-
-mul-s : tie.Need-mul-s Inv-loop μ-loop
-mul-s c =
-    let start = c .before .before in
-    omega (arith, few-in (start .pre), start .pre .long, c .before .loop .inv .0)
-
-shared-slice-read-s : tie.Need-shared-slice-read-s Inv-loop μ-loop
-shared-slice-read-s c =
-    let start = c .before .before .before in
-    omega (arith, few-in (start .pre), start .pre .long, c .before .before .loop .inv .0)
-
-mul-if1 : tie.Need-mul-if1 Inv-loop μ-loop
-mul-if1 c =
-    let start = c .before .before .before in
-    let turn = c .before .before .loop in
-    record { fits = omega (arith, place-below (start .pre) (turn .left - 1) (omega (arith, turn .inv .0)), start .pre .long) }
-
-add-if1 : tie.Need-add-if1 Inv-loop μ-loop
-add-if1 c =
-    let start = c .before .before .before in
-    let turn = c .before .before .loop in
-    record { fits = omega (arith, place-below (start .pre) (turn .left - 1) (omega (arith, turn .inv .0)), start .pre .long) }
-
-mul-if1-2 : tie.Need-mul-if1-2 Inv-loop μ-loop
-mul-if1-2 c =
-    let start = c .before .before .before in
-    let turn = c .before .before .loop in
-    omega (arith, place-below (start .pre) (turn .left - 1) (omega (arith, turn .inv .0)), start .pre .long)
-
-shared-slice-read-if1 : tie.Need-shared-slice-read-if1 Inv-loop μ-loop
-shared-slice-read-if1 c =
-    let start = c .before .before .before .before in
-    let turn = c .before .before .before .loop in
-    omega (arith, place-below (start .pre) (turn .left - 1) (omega (arith, turn .inv .0)), start .pre .long)
+slot : (c : tie.In-loop Inv-loop μ-loop) → layer-at c (20 * c .before .before .args .width + (c .before .loop .left - 1)) < c .before .before .args .width
+slot c = place-below (c .before .before .pre) (c .before .loop .left - 1) (omega (arith, c .loop-test .taken, c .before .loop .inv .0))
 
 returns : tie.Need-returns Inv-loop μ-loop
 returns c =
-    let start = c .before .before .before .before .before in
-    let turn = c .before .before .before .before .loop in
-    below-at (start .pre) (turn .left) (start .args .best) (omega arith) (turn .inv .0) (c .if1 .taken) (turn .inv .1)
-
-sub-left : tie.Need-sub-left Inv-loop μ-loop
-sub-left c = search needs
-
-loop-less : tie.Need-loop-less Inv-loop μ-loop
-loop-less c = search needs
+    let here = c .before .before .before in
+    let start = here .before .before in
+    let turn = here .before .loop in
+    below-at (start .pre) (turn .left) (start .args .best) (here .loop-test .taken) (turn .inv .0) (c .if1 .taken) (turn .inv .1)
 
 loop-again : tie.Need-loop-again Inv-loop μ-loop
 loop-again c =
-    let start = c .before .before .before .before .before in
-    let turn = c .before .before .before .before .loop in (
+    let here = c .before .before .before in
+    let start = here .before .before in
+    let turn = here .before .loop in (
       omega (arith, turn .inv .0),
-      lower (λ i. getD (start .args .layer .now) (getD (start .args .layer .now) (20 * start .args .width + i) 0 * slotWords + fAt) 0)
-          (start .args .best) (start .args .n) (turn .left) (omega arith) (c .if1 .left) (turn .inv .1),
+      lower (λ i. layer-at here (layer-at here (20 * start .args .width + i) * slotWords + fAt)) (start .args .best) (start .args .n) (turn .left) (here .loop-test .taken) (c .if1 .left) (turn .inv .1),
     )
 
 returns-2 : tie.Need-returns-2 Inv-loop μ-loop
@@ -106,18 +63,18 @@ keep-below-spec =
     (tie.spec
     Inv-loop
     μ-loop
-    mul-a
-    loop-holds
-    sub-s
-    add-s
-    mul-s
-    shared-slice-read-s
-    mul-if1
-    add-if1
-    mul-if1-2
-    shared-slice-read-if1
+    (λ c. search needs)
+    (λ c. (omega arith, (λ i a b. absurd (omega arith))))
+    (λ c. search needs)
+    (λ c. record { fits = omega (arith, place c, c .before .before .pre .long) })
+    (λ c. omega (arith, place c, c .before .before .pre .long))
+    (λ c. omega (arith, place (c .before), c .before .before .before .pre .long))
+    (λ c. record { fits = omega (arith, slot (c .before), c .before .before .before .pre .long) })
+    (λ c. record { fits = omega (arith, slot (c .before), c .before .before .before .pre .long) })
+    (λ c. omega (arith, slot (c .before), c .before .before .before .pre .long))
+    (λ c. omega (arith, slot (c .before .before), c .before .before .before .before .pre .long))
     returns
-    sub-left
-    loop-less
+    (λ c. search needs)
+    (λ c. search needs)
     loop-again
     returns-2)

@@ -6,18 +6,22 @@ use borrow.Author.Needs.{needs}
 use Rattle.beam.specs.Parts.{bucketIn}
 use Rattle.beam.specs.Layers.{slotsOf}
 use Rattle.beam.proofs.Layers.{slot-room}
-use Rattle.beam.proofs.Moves.{slots-length, order-at, rest-held, width-positive, slot-at, last-replaced-in}
+use Rattle.beam.proofs.Moves.{slots-length, order-at, width-positive, slot-at}
+use Rattle.beam.proofs.Cases.{last-replaced}
 use Rattle.beam.proofs.layer.replace_last.Statement.{statement}
 use Rattle.beam.proofs.layer.replace_last.Tie as tie
 
+abbrev begun : tie.After-slot-bucket → tie.Start
+begun c = c .before .before .before .before .before .before .before
+
 slice-aggregate-slot-bucket : tie.Need-slice-aggregate-slot-bucket
 slice-aggregate-slot-bucket c =
-    let start = c .before .before .before .before .before in
+    let start = c .before .before .before .before .before .before in
     sym (slots-length (start .args .w) (start .args .layer .now) (start .pre .0 .long))
 
 slot-bucket-requires : tie.Need-slot-bucket-requires
 slot-bucket-requires c κs =
-    let start = c .before .before .before .before .before in (
+    let start = c .before .before .before .before .before .before in (
       start .pre .1 .0,
       (
         slot-room (start .pre .0 .parts) _ (slot-at (start .pre .0) (start .args .w - 1) (omega (arith, width-positive (start .pre .0)))),
@@ -27,7 +31,7 @@ slot-bucket-requires c κs =
 
 remove-position-requires : tie.Need-remove-position-requires
 remove-position-requires c κs =
-    let start = c .before .before .before .before .before .before .before in
+    let start = begun (c .before) in
     let k = c .before .slot-bucket in (
       start .pre .0,
       (
@@ -43,18 +47,17 @@ remove-position-requires c κs =
 
 add-child-requires : tie.Need-add-child-requires
 add-child-requires c κs =
-    let start = c .before .before .before .before .before .before .before .before .before .before .before in
+    let start = begun (c .before .before .before .before .before) in
     let out = c .before .before .before .remove-position in (
-      rest-held (start .args .layer .now) (out .last .0) (start .pre .0 .long) (out .kept .0) (out .ensures .0) (out .ensures .1 .held),
+      out .ensures .held,
       (omega (arith, width-positive (start .pre .0)), (start .pre .1 .1 .0, (start .pre .1 .1 .1 .0, start .pre .1 .1 .1 .1))),
     )
 
 returns : tie.Need-returns
 returns c =
-    let remove-position = c .before .before .before .before .before .before .remove-position in
-    last-replaced-in (remove-position .last .0)
-    (c .before .before .before .before .before .before .before .before .before .before .before .before .before .before .pre .0)
-    (remove-position .ensures .0) (remove-position .ensures .1) (c .before .before .add-child .ensures)
+    let out = c .before .before .before .before .before .before in
+    let start = begun (out .before .before) in
+    last-replaced (out .remove-position .last .0) (start .args .child .now) (start .pre .0) (out .remove-position .ensures) (c .before .before .add-child .ensures)
 
 pub replace-last-spec : {M : Type 1} → statement M
 replace-last-spec =

@@ -3,7 +3,6 @@ use mathlib.Core.Path.{sym}
 use native.Mathlib.Omega.{arith}
 use borrow.Author.Needs.{needs}
 use lib.Seq.{length-take-le}
-use Rattle.outline.specs.Outline.{modelOf}
 use Rattle.beam.proofs.Mapped.{beats-by, beats-not}
 use Rattle.beam.proofs.slots.beats.Statement.{statement}
 use Rattle.beam.proofs.slots.beats.Tie as tie
@@ -26,7 +25,7 @@ returns c =
 returns-2 : tie.Need-returns-2
 returns-2 c =
     let start = c .before .before .before .before .before .before .before in
-    beats-not (modelOf (start .args .model .now) .variables) (start .args .a .now) (start .args .b .now) (c .if1 .left)
+    beats-not (start .args .model .now) (start .args .a .now) (start .args .b .now) (c .if1 .left)
 
 pub beats-spec : {M : Type 1} → statement M
 beats-spec =

@@ -4,7 +4,6 @@ use mathlib.Core.Path.{_≡_, sym, _∙_}
 use mathlib.Core.Bool.{Bool}
 use native.Mathlib.Omega.{arith}
 use borrow.Author.Needs.{needs}
-use Rattle.outline.specs.Outline.{modelOf}
 use Rattle.beam_index.specs.Links.{Index, Walked, levelAt}
 use Rattle.beam_index.proofs.Linked.{level-slot, level-head, walk-start, walk-next}
 use Rattle.beam.specs.Parts.{sought}
@@ -12,7 +11,7 @@ use Rattle.beam.proofs.slots.find.Statement.{statement}
 use Rattle.beam.proofs.slots.find.Tie as tie
 
 abbrev Inv-loop : tie.InvT-loop
-Inv-loop model outline slots links w b child beaten link₀ link = (link ≤ w) × ((used : ℕ → Bool) (bucket : ℕ → ℕ) → Index w used bucket links → Walked w b link used bucket (sought (modelOf model .variables) slots child beaten))
+Inv-loop model outline slots links w b child beaten link₀ link = (link ≤ w) × ((used : ℕ → Bool) (bucket : ℕ → ℕ) → Index w used bucket links → Walked w b link used bucket (sought model slots child beaten))
 
 abbrev μ-loop : tie.MeasureT-loop
 μ-loop model outline slots links w b child beaten link₀ link = link
@@ -31,7 +30,7 @@ loop-holds c =
     let start = c .before .before .before .before .before .before in
     let e : levelAt (start .args .w) (start .args .w + start .args .b) ≡ start .args .w = level-head (start .args .w) (start .args .w + start .args .b) (omega arith) in (
       omega (arith, start .pre .1 .1 .0 (start .args .w + start .args .b) (start .pre .1 .0)),
-      (λ used bucket ix. walk-start (start .args .links .now) (start .args .w) (start .args .b) (sought (modelOf (start .args .model .now) .variables) (start .args .slots .now) (start .args .child .now) (start .args .beaten)) used bucket ix (start .pre .1 .0)),
+      (λ used bucket ix. walk-start (start .args .links .now) (start .args .w) (start .args .b) (sought (start .args .model .now) (start .args .slots .now) (start .args .child .now) (start .args .beaten)) used bucket ix (start .pre .1 .0)),
     )
 
 sub-s : tie.Need-sub-s Inv-loop μ-loop
@@ -68,7 +67,7 @@ loop-again c =
     let turn = c .before .before .before .before .loop in
     let s : turn .link - 1 < start .args .w = omega arith in (
       omega (arith, start .pre .1 .1 .0 (turn .link - 1) (omega arith), level-slot (start .args .w) (turn .link - 1) s),
-      (λ used bucket ix. walk-next (start .args .links .now) (start .args .w) (start .args .b) (sought (modelOf (start .args .model .now) .variables) (start .args .slots .now) (start .args .child .now) (start .args .beaten)) used bucket ix (turn .link) (omega arith) (turn .inv .0) (omega arith) (turn .inv .1 used bucket ix) (sym (c .before .before .sought .ensures) ∙ c .before .if1 .left)),
+      (λ used bucket ix. walk-next (start .args .links .now) (start .args .w) (start .args .b) (sought (start .args .model .now) (start .args .slots .now) (start .args .child .now) (start .args .beaten)) used bucket ix (turn .link) (omega arith) (turn .inv .0) (omega arith) (turn .inv .1 used bucket ix) (sym (c .before .before .sought .ensures) ∙ c .before .if1 .left)),
     )
 
 returns-2 : tie.Need-returns-2 Inv-loop μ-loop

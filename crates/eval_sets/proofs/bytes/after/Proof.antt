@@ -1,8 +1,7 @@
 -- `eval_sets::bytes::after` meets its contract.
 use native.Mathlib.Omega.{arith}
 use borrow.Author.Needs.{needs}
-use Rattle.eval_sets.proofs.Slices.{no-suffix}
-use Rattle.words.proofs.Literal.{suffix}
+use Rattle.words.proofs.Literal.{suffix, no-suffix}
 use Rattle.eval_sets.proofs.bytes.after.Statement.{statement}
 use Rattle.eval_sets.proofs.bytes.after.Tie as tie
 

@@ -1,9 +1,9 @@
 -- `eval_sets::bytes::skip` meets its contract.
 use Prim.Native.Nat.{_+_, _-_, _*_, _≤_}
 use native.Mathlib.Omega.{arith}
-use lib.ListN.{length}
+use lib.ListN.{length, getD}
 use borrow.Author.Needs.{needs}
-use Rattle.eval_sets.proofs.Passing.{Passed, passed-start, passed-step, passed-end, passed-all}
+use Rattle.eval_sets.proofs.Passing.{Passed, shape-small, passed-start, passed-step, passed-end, passed-all}
 use Rattle.eval_sets.proofs.bytes.skip.Statement.{statement}
 use Rattle.eval_sets.proofs.bytes.skip.Tie as tie
 
@@ -17,38 +17,30 @@ loop-holds : tie.Need-loop-holds Inv-loop μ-loop
 loop-holds c = (omega arith, omega arith, passed-start (c .before .args .e .now))
 
 returns : tie.Need-returns Inv-loop μ-loop
-returns c = passed-end (c .before .before .before .before .args .e .now) (c .before .before .loop .at) (c .before .before .loop .due) (c .before .before .loop .inv .2) (omega arith) (omega arith)
+returns c = let l = c .before .before .loop in passed-end (c .before .before .before .before .args .e .now) (l .at) (l .due) (l .inv .2) (omega arith) (omega arith)
 
-shared-slice-read-shape-of : tie.Need-shared-slice-read-shape-of Inv-loop μ-loop
-shared-slice-read-shape-of c = omega arith
-
-shape-of-requires : tie.Need-shape-of-requires Inv-loop μ-loop
-shape-of-requires c κs = search needs
-
-add-at : tie.Need-add-at Inv-loop μ-loop
-add-at c = omega arith
+-- the shape of the byte at `at` is small
+small : (c : tie.After-shape-of Inv-loop μ-loop) → (c .shape-of .result .operands ≤ 9) × (c .shape-of .result .parts ≤ 3)
+small c =
+    let at = c .before .before .before .before .loop .at in
+    let e = c .before .before .before .before .before .before .args .e .now in
+    rw (c .shape-of .ensures) (shape-small (getD e at 0) (omega (arith, c .before .shared-slice-known2 .given at)))
 
 add-at-2 : tie.Need-add-at-2 Inv-loop μ-loop
-add-at-2 c = omega (arith, c .before .shape-of .ensures .0, c .before .shape-of .ensures .2)
-
-sub-due : tie.Need-sub-due Inv-loop μ-loop
-sub-due c = search needs
+add-at-2 c = omega (arith, small (c .before))
 
 add-due : tie.Need-add-due Inv-loop μ-loop
-add-due c = omega (arith, c .before .before .before .before .before .before .loop .inv .0, c .before .before .shape-of .ensures .1, c .before .before .shape-of .ensures .3)
-
-loop-less : tie.Need-loop-less Inv-loop μ-loop
-loop-less c = omega arith
+add-due c = omega (arith, c .before .before .before .before .before .before .loop .inv .0, small (c .before .before))
 
 loop-again : tie.Need-loop-again Inv-loop μ-loop
-loop-again c = (
-  omega (arith, c .before .before .before .before .before .before .loop .inv .0, c .before .before .shape-of .ensures .1, c .before .before .shape-of .ensures .3),
-  omega (arith, c .before .before .shape-of .ensures .0, c .before .before .shape-of .ensures .2),
-  passed-step (c .before .before .before .before .before .before .before .before .args .e .now) (c .before .before .before .before .before .before .loop .at) (c .before .before .before .before .before .before .loop .due) (c .before .before .shape-of .result .operands) (c .before .before .shape-of .result .parts) (c .before .before .before .before .before .before .loop .inv .2) (omega arith) (omega arith) (c .before .before .shape-of .ensures .0) (c .before .before .shape-of .ensures .1),
-)
+loop-again c =
+    let s = c .before .before in
+    let l = s .before .before .before .before .loop in
+    let e = s .before .before .before .before .before .before .args .e .now in
+    (omega (arith, l .inv .0, small s), omega (arith, small s), passed-step e (l .at) (l .due) (s .shape-of .result) (l .inv .2) (omega arith) (omega arith) (s .shape-of .ensures))
 
 returns-2 : tie.Need-returns-2 Inv-loop μ-loop
-returns-2 c = passed-all (c .before .before .before .args .e .now) (c .before .loop .at) (c .before .loop .due) (c .before .loop .inv .2) (omega arith)
+returns-2 c = let l = c .before .loop in passed-all (c .before .before .before .args .e .now) (l .at) (l .due) (l .inv .2) (omega arith)
 
 pub skip-spec : {M : Type 1} → statement M
 skip-spec =
@@ -58,12 +50,12 @@ skip-spec =
     μ-loop
     loop-holds
     returns
-    shared-slice-read-shape-of
-    shape-of-requires
-    add-at
+    (λ c. omega arith)
+    (λ c κs. search needs)
+    (λ c. omega arith)
     add-at-2
-    sub-due
+    (λ c. search needs)
     add-due
-    loop-less
+    (λ c. omega arith)
     loop-again
     returns-2)

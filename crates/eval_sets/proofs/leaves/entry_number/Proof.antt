@@ -13,33 +13,44 @@ use Rattle.eval_sets.proofs.leaves.entry_number.Tie as tie
 
 returns : tie.Need-returns
 returns c =
-    let start = c .before .before .before .before .before in
+    let start : tie.Start = search in
     sym (entry-none (start .args .model .now) (start .args .state .now) (start .args .tables .now) (start .args .e .now) (c .if1 .taken))
 
 entry-requires : tie.Need-entry-requires
-entry-requires c κs = let h = rw (← (c .two-elements .ensures)) at (elements-small (c .before .before .before .before .before .before .before .before .before .args .state .now) (c .before .after .result .now)) in omega (arith, h .0, h .1)
+entry-requires c κs =
+    let start : tie.Start = search in
+    let h = rw (← (c .two-elements .ensures)) at (elements-small (start .args .state .now) (c .before .after .result .now)) in omega (arith, h .0, h .1)
 
 add-ranged : tie.Need-add-ranged
 add-ranged c =
+    let start : tie.Start = search in
+    let after-after : tie.After-after = search in
     omega (
       arith,
       rw (← (c .before .before .two-elements .ensures)) at (
-          elements-used (c .before .before .before .before .before .before .before .before .before .before .before .args .state .now)
-          (c .before .before .before .after .result .now)
+          elements-used (start .args .state .now)
+          (after-after .after .result .now)
           ),
     )
 
 returns-2 : tie.Need-returns-2
 unfolding entryOf
-returns-2 c = let f : SFits w64 (c .before .before .entry .result) = record { sfits = omega (arith, c .before .before .entry .ensures .1) } in
-    rw (rw (back f, c .before .before .entry .ensures .0, c .before .before .before .two-elements .ensures, c .before .before .before .before .after .ensures, c .before .before .before .before .before .word-at .ensures, c .before .before .before .before .before .before .name .ensures) at (c .ranged .ensures))
+returns-2 c =
+    let start : tie.Start = search in
+    let else1 : tie.Else1 = search in
+    let after-name : tie.After-name = search in
+    let after-word-at : tie.After-word-at = search in
+    let after-after : tie.After-after = search in
+    let after-two-elements : tie.After-two-elements = search in
+    let f : SFits w64 (c .before .before .entry .result) = record { sfits = omega (arith, c .before .before .entry .ensures .1) } in
+    rw (rw (back f, c .before .before .entry .ensures .0, after-two-elements .two-elements .ensures, after-after .after .ensures, after-word-at .word-at .ensures, after-name .name .ensures) at (c .ranged .ensures))
     (
     sym (
-    entry-some (c .before .before .before .before .before .before .before .before .before .before .before .before .args .model .now)
-    (c .before .before .before .before .before .before .before .before .before .before .before .before .args .state .now)
-    (c .before .before .before .before .before .before .before .before .before .before .before .before .args .tables .now)
-    (c .before .before .before .before .before .before .before .before .before .before .before .before .args .e .now)
-    (c .before .before .before .before .before .before .before .if1 .left)
+    entry-some (start .args .model .now)
+    (start .args .state .now)
+    (start .args .tables .now)
+    (start .args .e .now)
+    (else1 .if1 .left)
     )
     )
 

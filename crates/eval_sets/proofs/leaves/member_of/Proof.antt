@@ -8,46 +8,52 @@ use Rattle.eval_sets.proofs.Slices.{behind}
 use Rattle.eval_sets.proofs.leaves.member_of.Statement.{statement}
 use Rattle.eval_sets.proofs.leaves.member_of.Tie as tie
 
-after-requires : tie.Need-after-requires
-after-requires c κs = search needs
-
-element-requires : tie.Need-element-requires
-element-requires c κs = search needs
-
 add-set-near : tie.Need-add-set-near
 add-set-near c =
-    let a = c .before .before .before .before .before .before .args in
+    let start : tie.Start = search in
+    let a = start .args in
     let after = c .before .before .after in
     omega (
       arith,
       element-past (a .state .now) (a .at) (a .e .now) (after .result .now) (c .before .element .result) (after .ensures)
           (c .before .element .ensures .0),
-      c .before .before .before .before .before .before .good .0 .1,
+      start .good .0 .1,
     )
-
-set-near-requires : tie.Need-set-near-requires
-set-near-requires c κs = search needs
-
-is-member-requires : tie.Need-is-member-requires
-is-member-requires c κs = search needs
 
 add-t9 : tie.Need-add-t9
 add-t9 c =
-    let a = c .before .before .before .before .before .before .before .before .before .before .args in
-    let after = c .before .before .before .before .before .before .after in
-    let element = c .before .before .before .before .before .element in
-    let set-near = c .before .before .before .set-near in
+    let start : tie.Start = search in
+    let after-after : tie.After-after = search in
+    let after-element : tie.After-element = search in
+    let after-set-near : tie.After-set-near = search in
+    let a = start .args in
+    let after = after-after .after in
+    let element = after-element .element in
+    let set-near = after-set-near .set-near in
     omega (
       arith,
       element-past (a .state .now) (a .at) (a .e .now) (after .result .now) (element .result) (after .ensures) (element .ensures .0),
       set-past (a .depth) (a .state .now) (a .full .now) (a .at + element .result .used) (a .e .now) (set-near .result) (set-near .ensures),
-      c .before .before .before .before .before .before .before .before .before .before .good .0 .1,
+      start .good .0 .1,
     )
 
 returns : tie.Need-returns
 unfolding memberOf elementThenSet
 returns c =
-    let a = c .before .before .before .before .before .before .before .before .before .before .args in rw (c .before .before .is-member .ensures, c .before .before .before .set-near .ensures, behind (a .at) (c .before .before .before .before .before .element .result .used) (a .e .now), c .before .before .before .before .before .element .ensures .0, c .before .before .before .before .before .before .after .ensures)
+    let start : tie.Start = search in
+    let after-after : tie.After-after = search in
+    let after-element : tie.After-element = search in
+    let after-set-near : tie.After-set-near = search in
+    let a = start .args in rw (c .before .before .is-member .ensures, after-set-near .set-near .ensures, behind (a .at) (after-element .element .result .used) (a .e .now), after-element .element .ensures .0, after-after .after .ensures)
 
 pub member-of-spec : {M : Type 1} → statement M
-member-of-spec = tie.close (tie.spec after-requires element-requires add-set-near set-near-requires is-member-requires add-t9 returns)
+member-of-spec =
+    tie.close
+    (tie.spec
+    (λ c κs. search needs)
+    (λ c κs. search needs)
+    add-set-near
+    (λ c κs. search needs)
+    (λ c κs. search needs)
+    add-t9
+    returns)

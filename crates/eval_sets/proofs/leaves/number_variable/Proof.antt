@@ -10,15 +10,21 @@ use Rattle.eval_sets.proofs.leaves.number_variable.Statement.{statement
 use Rattle.eval_sets.proofs.leaves.number_variable.Tie as tie
 
 returns : tie.Need-returns
-returns c = sym (number-variable-none (c .before .before .before .args .state .now) (c .before .before .before .args .e .now) (c .if1 .taken))
+returns c =
+    let start : tie.Start = search in
+    sym (number-variable-none (start .args .state .now) (start .args .e .now) (c .if1 .taken))
 
 returns-2 : tie.Need-returns-2
-returns-2 c = let f : SFits w64 (c .before .signed-word .result) = record { sfits = omega (arith, c .before .signed-word .ensures .1) } in
-    rw (rw (back f, c .before .signed-word .ensures .0, c .before .before .word-at .ensures, c .before .before .before .name .ensures) at (c .ranged .ensures))
+returns-2 c =
+    let start : tie.Start = search in
+    let else1 : tie.Else1 = search in
+    let after-name : tie.After-name = search in
+    let f : SFits w64 (c .before .signed-word .result) = record { sfits = omega (arith, c .before .signed-word .ensures .1) } in
+    rw (rw (back f, c .before .signed-word .ensures .0, c .before .before .word-at .ensures, after-name .name .ensures) at (c .ranged .ensures))
     (
     sym (
-    number-variable-some (c .before .before .before .before .before .before .before .args .state .now)
-    (c .before .before .before .before .before .before .before .args .e .now) (c .before .before .before .before .if1 .left)
+    number-variable-some (start .args .state .now)
+    (start .args .e .now) (else1 .if1 .left)
     )
     )
 

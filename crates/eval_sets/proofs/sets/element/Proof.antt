@@ -10,7 +10,9 @@ use Rattle.eval_sets.proofs.sets.element.Tie as tie
 
 returns : tie.Need-returns
 unfolding runElement
-returns c = element-kept (c .before .before .before .args .state .now) (c .before .before .before .args .e .now) (rw (lt-ltb (length (c .before .before .before .args .e .now)) 2 (c .if1 .taken)))
+returns c =
+    let start : tie.Start = search in
+    element-kept (start .args .state .now) (start .args .e .now) (rw (lt-ltb (length (start .args .e .now)) 2 (c .if1 .taken)))
 
 cast-k : tie.Need-cast-k
 cast-k c = omega (arith, c .shared-slice-known3 .given 1)
@@ -18,24 +20,27 @@ cast-k c = omega (arith, c .shared-slice-known3 .given 1)
 returns-2 : tie.Need-returns-2
 unfolding runElement elementOf
 returns-2 c =
-    let start = c .before .before .before .before .before .before in
-    element-kept (start .args .state .now) (start .args .e .now) (rw (le-ltb (length (start .args .e .now)) 2 (c .before .before .before .if1 .left), c .match .keys1))
+    let start : tie.Start = search in
+    let else1 : tie.Else1 = search in
+    element-kept (start .args .state .now) (start .args .e .now) (rw (le-ltb (length (start .args .e .now)) 2 (else1 .if1 .left), c .match .keys1))
 
 returns-3 : tie.Need-returns-3
 unfolding runElement elementOf
 returns-3 c =
-    let start = c .before .before .before .before .before .before .before in
+    let start : tie.Start = search in
+    let else1 : tie.Else1 = search in
     element-kept (start .args .state .now) (start .args .e .now)
-    (rw (le-ltb (length (start .args .e .now)) 2 (c .before .before .before .before .if1 .left), c .before .match .keys2, c .word-at .ensures))
+    (rw (le-ltb (length (start .args .e .now)) 2 (else1 .if1 .left), c .before .match .keys2, c .word-at .ensures))
 
 returns-4 : tie.Need-returns-4
 unfolding runElement elementOf
 returns-4 c =
-    let start = c .before .before .before .before .before .before in
+    let start : tie.Start = search in
+    let else1 : tie.Else1 = search in
     element-kept (start .args .state .now) (start .args .e .now)
     (
     simp (
-      le-ltb (length (start .args .e .now)) 2 (c .before .before .before .if1 .left),
+      le-ltb (length (start .args .e .now)) 2 (else1 .if1 .left),
       ne-eqb (getD (start .args .e .now) 0 0) 0x30 (c .match .rest .0 .1),
       ne-eqb (getD (start .args .e .now) 0 0) 0x31 (c .match .rest .1),
     )

@@ -12,17 +12,24 @@ use Rattle.eval_sets.proofs.sets.literal_set.Tie as tie
 
 returns : tie.Need-returns
 unfolding literalSet
-returns c = rw (lt-ltb (length (c .before .before .before .args .e .now)) 9 (c .before .if1 .taken)) (c .no-set .ensures)
+returns c =
+    let start : tie.Start = search in
+    rw (lt-ltb (length (start .args .e .now)) 9 (c .before .if1 .taken)) (c .no-set .ensures)
 
 returns-2 : tie.Need-returns-2
-returns-2 c = c .no-set2 .ensures ∙ sym (literal-many (c .before .before .before .before .before .before .args .e .now) (omega (arith, c .before .before .wide .ensures .0)))
+returns-2 c =
+    let start : tie.Start = search in
+    c .no-set2 .ensures ∙ sym (literal-many (start .args .e .now) (omega (arith, c .before .before .wide .ensures .0)))
 
 returns-3 : tie.Need-returns-3
-returns-3 c = rw (c .full .ensures, c .before .before .before .before .wide .ensures .0)
+returns-3 c =
+    let start : tie.Start = search in
+    let after-wide : tie.After-wide = search in
+    rw (c .full .ensures, after-wide .wide .ensures .0)
     (
     sym (
-    literal-few (c .before .before .before .before .before .before .before .before .args .e .now) (c .before .long .result) (omega arith)
-    (omega (arith, c .before .before .before .before .wide .ensures .0)) (rw suffix at (c .before .long .ensures))
+    literal-few (start .args .e .now) (c .before .long .result) (omega arith)
+    (omega (arith, after-wide .wide .ensures .0)) (rw suffix at (c .before .long .ensures))
     )
     )
 

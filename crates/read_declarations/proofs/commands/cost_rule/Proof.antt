@@ -14,38 +14,42 @@ returns c = sym (ap positionOf (refuses-at costRule 0 (c .before .args .model .n
 
 returns-2 : tie.Need-returns-2
 returns-2 c =
-    let start = c .before .before .before .before in
+    let start : tie.Start = search in
     sym (ap positionOf (refuses-at costRule 0 (start .args .model .now) (rule-cut (start .args .model .now) (c .if3 .taken) (c .before .if2 .taken))))
 
 returns-3 : tie.Need-returns-3
 returns-3 c =
-    let start = c .before .before .before .before .before .before in
+    let start : tie.Start = search in
+    let else1 : tie.Else1 = search in
+    let then2 : tie.Then2 = search in
     sym
     (
     ap positionOf (
     reads-at costRule 0 (start .args .model .now) (
-    rule-good (start .args .model .now) (omega (arith, c .before .before .before .before .before .if1 .left, c .before .before .if3 .left))
-    (c .before .before .before .if2 .taken) (c .if4 .taken)
+    rule-good (start .args .model .now) (omega (arith, else1 .if1 .left, c .before .before .if3 .left))
+    (then2 .if2 .taken) (c .if4 .taken)
     )
     )
     )
 
 returns-4 : tie.Need-returns-4
 returns-4 c =
-    let start = c .before .before .before .before .before .before in
+    let start : tie.Start = search in
+    let else1 : tie.Else1 = search in
+    let then2 : tie.Then2 = search in
     sym
     (
     ap positionOf (
     refuses-at costRule 0 (start .args .model .now) (
-    rule-beyond (start .args .model .now) (omega (arith, c .before .before .before .before .before .if1 .left, c .before .before .if3 .left))
-    (c .before .before .before .if2 .taken) (c .if4 .left)
+    rule-beyond (start .args .model .now) (omega (arith, else1 .if1 .left, c .before .before .if3 .left))
+    (then2 .if2 .taken) (c .if4 .left)
     )
     )
     )
 
 returns-5 : tie.Need-returns-5
 returns-5 c =
-    let start = c .before .before .before in
+    let start : tie.Start = search in
     sym (ap positionOf (refuses-at costRule 0 (start .args .model .now) (rule-other (start .args .model .now) (omega (arith, c .before .before .if1 .left)) (c .if2 .left))))
 
 pub cost-rule-spec : {M : Type 1} → statement M

@@ -15,39 +15,39 @@ Inv-loop model start count at₀ left₀ at left = positionOf (readAt (entries l
 abbrev μ-loop : tie.MeasureT-loop
 μ-loop model start count at₀ left₀ at left = left
 
-loop-holds : tie.Need-loop-holds Inv-loop μ-loop
-loop-holds c = refl
-
-entry-requires : tie.Need-entry-requires Inv-loop μ-loop
-entry-requires c κs = search needs
-
-enum-known-p : tie.Need-enum-known-p Inv-loop μ-loop
-enum-known-p c = search needs
-
 sub-left : tie.Need-sub-left Inv-loop μ-loop
-sub-left c = omega (arith, c .before .before .before .before .loop-test .taken)
+sub-left c =
+    let in-loop : tie.In-loop Inv-loop μ-loop = search in
+    omega (arith, in-loop .loop-test .taken)
 
 loop-less : tie.Need-loop-less Inv-loop μ-loop
-loop-less c = omega (arith, c .before .before .before .before .loop-test .taken)
+loop-less c =
+    let in-loop : tie.In-loop Inv-loop μ-loop = search in
+    omega (arith, in-loop .loop-test .taken)
 
 loop-again : tie.Need-loop-again Inv-loop μ-loop
 loop-again c =
-    let turn = c .before .before .before .before .before .loop in
-    entries-more (c .before .before .before .before .before .before .before .args .model .now) (turn .at) (turn .left)
-    (c .before .before .before .before .loop-test .taken) (sym (c .before .p .given .1) ∙ c .before .before .before .entry .ensures) ∙ turn .inv
-
-enum-known-t : tie.Need-enum-known-t Inv-loop μ-loop
-enum-known-t c = search needs
+    let start : tie.Start Inv-loop μ-loop = search in
+    let at-loop : tie.At-loop Inv-loop μ-loop = search in
+    let in-loop : tie.In-loop Inv-loop μ-loop = search in
+    let after-entry : tie.After-entry Inv-loop μ-loop = search in
+    let turn = at-loop .loop in
+    entries-more (start .args .model .now) (turn .at) (turn .left)
+    (in-loop .loop-test .taken) (sym (c .before .p .given .1) ∙ after-entry .entry .ensures) ∙ turn .inv
 
 returns : tie.Need-returns Inv-loop μ-loop
 returns c =
-    let turn = c .before .before .before .before .before .loop in
-    entries-refused (c .before .before .before .before .before .before .before .args .model .now) (turn .at) (turn .left)
-    (c .before .before .before .before .loop-test .taken) (sym (c .before .t .given .1) ∙ c .before .before .before .entry .ensures) ∙ turn .inv
+    let start : tie.Start Inv-loop μ-loop = search in
+    let at-loop : tie.At-loop Inv-loop μ-loop = search in
+    let in-loop : tie.In-loop Inv-loop μ-loop = search in
+    let after-entry : tie.After-entry Inv-loop μ-loop = search in
+    let turn = at-loop .loop in
+    entries-refused (start .args .model .now) (turn .at) (turn .left)
+    (in-loop .loop-test .taken) (sym (c .before .t .given .1) ∙ after-entry .entry .ensures) ∙ turn .inv
 
 returns-2 : tie.Need-returns-2 Inv-loop μ-loop
 returns-2 c =
-    let start = c .before .before .before in
+    let start : tie.Start Inv-loop μ-loop = search in
     let z : c .before .loop .left ≡ 0 = omega (arith, c .loop-test .left) in no-entries (start .args .model .now) (c .before .loop .at) ∙ (ap (λ (n : ℕ). positionOf (readAt (entries n) (c .before .loop .at) (start .args .model .now))) (sym z) ∙ c .before .loop .inv)
 
 pub entries-spec : {M : Type 1} → statement M
@@ -56,12 +56,12 @@ entries-spec =
     (tie.spec
     Inv-loop
     μ-loop
-    loop-holds
-    entry-requires
-    enum-known-p
+    (λ c. refl)
+    (λ c κs. search needs)
+    (λ c. search needs)
     sub-left
     loop-less
     loop-again
-    enum-known-t
+    (λ c. search needs)
     returns
     returns-2)

@@ -8,25 +8,25 @@ use Rattle.read_declarations.proofs.tables.packed.Tie as tie
 
 mul-result : tie.Need-mul-result
 mul-result c =
-    let start = c .before .before .before in
+    let start : tie.Start = search in
     record
     { fits = let h : c .before .wide2 .result * c .wide3 .result ≤ 4096 = cells-bound (c .before .wide2 .result) (c .wide3 .result) (omega (arith, c .before .wide2 .ensures .0, start .pre)) (omega (arith, c .wide3 .ensures .0, start .pre)) in omega (arith, c .before .before .wide .ensures .0, start .pre) }
 
 add-result : tie.Need-add-result
 add-result c =
-    let start = c .before .before .before in
+    let start : tie.Start = search in
     record
     { fits = let h : c .before .wide2 .result * c .wide3 .result ≤ 4096 = cells-bound (c .before .wide2 .result) (c .wide3 .result) (omega (arith, c .before .wide2 .ensures .0, start .pre)) (omega (arith, c .wide3 .ensures .0, start .pre)) in omega (arith, c .before .before .wide .ensures .0, start .pre) }
 
 mul-result-3 : tie.Need-mul-result-3
 mul-result-3 c =
-    let start = c .before .before .before in
+    let start : tie.Start = search in
     record
     { fits = let h : c .before .wide2 .result * c .wide3 .result ≤ 4096 = cells-bound (c .before .wide2 .result) (c .wide3 .result) (omega (arith, c .before .wide2 .ensures .0, start .pre)) (omega (arith, c .wide3 .ensures .0, start .pre)) in omega (arith, c .before .before .wide .ensures .0, start .pre) }
 
 add-result-2 : tie.Need-add-result-2
 add-result-2 c =
-    let start = c .before .before .before in
+    let start : tie.Start = search in
     record
     { fits = let h : c .before .wide2 .result * c .wide3 .result ≤ 4096 = cells-bound (c .before .wide2 .result) (c .wide3 .result) (omega (arith, c .before .wide2 .ensures .0, start .pre)) (omega (arith, c .wide3 .ensures .0, start .pre)) in omega (arith, c .before .before .wide .ensures .0, start .pre) }
 

@@ -1,15 +1,17 @@
 -- `read_declarations::tables::tables` meets its contract. The invariant: so many tables are read and stored, and the loop goes on from here. The measure is the room that is left.
-use Prim.Native.Nat.{ℕ, _+_, _-_, _*_, _≤_}
-use mathlib.Core.Path.{sym, ap, _∙_}
+use Prim.Native.Nat.{ℕ, _+_, _-_, _*_, _≤_, _<_}
+use mathlib.Core.Path.{_≡_, sym, _∙_}
+use mathlib.Core.List.{List}
 use native.Mathlib.Omega.{arith}
-use lib.ListN.{drop}
+use lib.ListN.{length, getD, drop}
 use borrow.Author.Needs.{needs}
 use Rattle.laws.proofs.Lists.{byte-inside}
 use Rattle.words.proofs.Literal.{suffix}
-use Rattle.model.specs.Commands.{entries}
+use Rattle.model.specs.Commands.{sides, entries}
 use Rattle.read_declarations.specs.Positions.{readAt, positionOf}
+use Rattle.read_declarations.specs.Declarations.{sidesOf}
 use Rattle.read_declarations.proofs.Declarations.{TablesSoFar, no-tables, table-head-refused, table-too-many, table-body-refused, table-more, tables-end, tables-early}
-use Rattle.read_declarations.proofs.Entries.{sides-told, sides-refused}
+use Rattle.read_declarations.proofs.Entries.{Sided, sides-told, sides-refused}
 use Rattle.read_declarations.proofs.Operands.{cells-bound}
 use Rattle.read_declarations.proofs.tables.tables.Statement.{statement}
 use Rattle.read_declarations.proofs.tables.tables.Tie as tie
@@ -20,319 +22,137 @@ Inv-loop model start rows₀ columns₀ words₀ at₀ n₀ rows columns words a
 abbrev μ-loop : tie.MeasureT-loop
 μ-loop model start rows₀ columns₀ words₀ at₀ n₀ rows columns words at n = 32 - n
 
-loop-holds : tie.Need-loop-holds Inv-loop μ-loop
-loop-holds c =
-    let start = c .before .before .before .before in
-    no-tables (start .args .model .now) (start .args .start) (start .args .rows .now) (start .args .columns .now) (start .args .words .now)
-    (start .pre .1) (start .pre .2) (start .pre .3)
+-- a turn of the loop: the bytes, and the lengths as they came
+abbrev Turn : Type 0
+Turn = tie.At-loop Inv-loop μ-loop
 
-byte-at-requires : tie.Need-byte-at-requires Inv-loop μ-loop
-byte-at-requires c κs = search needs
+abbrev start : Turn → tie.Start Inv-loop μ-loop
+start c = c .before .before .before .before .before
+
+abbrev model : Turn → List ℕ
+model c = start c .args .model .now
+
+rows-same : (c : Turn) → length (c .loop .rows) ≡ length (start c .args .rows .now)
+rows-same c = c .loop .inv .rows-length ∙ sym (start c .pre .1)
+
+columns-same : (c : Turn) → length (c .loop .columns) ≡ length (start c .args .columns .now)
+columns-same c = c .loop .inv .columns-length ∙ sym (start c .pre .2)
+
+words-same : (c : Turn) → length (c .loop .words) ≡ length (start c .args .words .now)
+words-same c = c .loop .inv .words-length ∙ sym (start c .pre .3)
+
+-- a table is due, and begins inside the model
+module _ (c : tie.Then1 Inv-loop μ-loop) where
+  abbrev turn : Turn
+  turn = c .before .before
+
+  due : getD (model turn) (turn .loop .at) 0 ≡ 5
+  due = sym (c .before .byte-at .ensures) ∙ c .if1 .taken
+
+  inside : turn .loop .at < length (model turn)
+  inside = byte-inside (model turn) (turn .loop .at) 5 (omega arith) due
+
+-- its sides are what the definition reads
+module _ (c : tie.After-sides Inv-loop μ-loop) where
+  abbrev sides-turn : Turn
+  sides-turn = turn (c .before .before)
+
+  sides-here : c .sides .result ≡ sidesOf (sides (drop (sides-turn .loop .at + 1) (model sides-turn)))
+  sides-here = rw (suffix (sides-turn .loop .at + 1) (model sides-turn)) at (c .sides .ensures)
+
+module _ (c : tie.After-r Inv-loop μ-loop) where
+  abbrev r-turn : Turn
+  r-turn = sides-turn (c .before .before)
+
+  told : Sided (drop (r-turn .loop .at + 1) (model r-turn)) (c .r .given .0 .0) (c .r .given .0 .1 .0)
+  told = sides-told (drop (r-turn .loop .at + 1) (model r-turn)) (c .r .given .0 .0) (c .r .given .0 .1 .0) (sym (c .r .given .1) ∙ sides-here (search))
+
+-- there is room for it
+room : (c : tie.Else2 Inv-loop μ-loop) → r-turn (c .before .before) .loop .n < 32
+room c = let t : Turn = search in omega (arith, t .loop .inv .few, c .if2 .left)
+
+-- its entries are what the definition reads
+module _ (c : tie.After-entries Inv-loop μ-loop) where
+  abbrev sized : tie.After-r Inv-loop μ-loop
+  sized = c .before .before .before .before .before
+
+  entries-here : (let t = r-turn sized in c .entries .result ≡ positionOf (readAt (entries (sized .r .given .0 .0 * sized .r .given .0 .1 .0)) (t .loop .at + 3) (model t)))
+  entries-here = rw (c .before .before .wide .ensures .0, c .before .wide2 .ensures .0) at (c .entries .ensures)
+
+loop-holds : tie.Need-loop-holds Inv-loop μ-loop
+loop-holds c = let s : tie.Start Inv-loop μ-loop = search in no-tables (s .pre .1) (s .pre .2) (s .pre .3)
 
 add-behind : tie.Need-add-behind Inv-loop μ-loop
-add-behind c =
-    let start = c .before .before .before .before .before .before .before in
-    record { fits = omega (arith, (byte-inside (start .args .model .now) (c .before .before .loop .at) 5 (omega arith) (sym (c .before .byte-at .ensures) ∙ c .if1 .taken)), start .good) }
-
-sub-sides : tie.Need-sub-sides Inv-loop μ-loop
-sub-sides c =
-    omega (
-      arith,
-      (
-          byte-inside (c .before .before .before .before .before .before .before .args .model .now) (c .before .before .loop .at) 5 (omega arith)
-          (sym (c .before .byte-at .ensures) ∙ c .if1 .taken)
-          ),
-    )
-
-part-sides-start : tie.Need-part-sides-start Inv-loop μ-loop
-part-sides-start c =
-    omega (
-      arith,
-      (
-          byte-inside (c .before .before .before .before .before .before .before .args .model .now) (c .before .before .loop .at) 5 (omega arith)
-          (sym (c .before .byte-at .ensures) ∙ c .if1 .taken)
-          ),
-    )
-
-part-sides-end : tie.Need-part-sides-end Inv-loop μ-loop
-part-sides-end c = search needs
-
-sides-requires : tie.Need-sides-requires Inv-loop μ-loop
-sides-requires c κs = search needs
-
-enum-known-r : tie.Need-enum-known-r Inv-loop μ-loop
-enum-known-r c = search needs
-
-same-length : tie.Need-same-length Inv-loop μ-loop
-same-length c =
-    omega (
-      arith,
-      c .before .before .before .before .before .before .before .before .loop .inv .rows-length,
-      c .before .before .before .before .before .before .before .before .before .before .before .before .before .pre,
-    )
-
-same-length-2 : tie.Need-same-length-2 Inv-loop μ-loop
-same-length-2 c =
-    omega (
-      arith,
-      c .before .before .before .before .before .before .before .before .loop .inv .columns-length,
-      c .before .before .before .before .before .before .before .before .before .before .before .before .before .pre,
-    )
-
-same-length-3 : tie.Need-same-length-3 Inv-loop μ-loop
-same-length-3 c =
-    omega (
-      arith,
-      c .before .before .before .before .before .before .before .before .loop .inv .words-length,
-      c .before .before .before .before .before .before .before .before .before .before .before .before .before .pre,
-    )
+add-behind c = record { fits = omega (arith, inside c, start (turn c) .good) }
 
 returns : tie.Need-returns Inv-loop μ-loop
 returns c =
-    let start = c .before .before .before .before .before .before .before .before .before .before .before .before .before in
-    let turn = c .before .before .before .before .before .before .before .before .loop in
-    let byte-at = c .before .before .before .before .before .before .before .byte-at in
-    let if1 = c .before .before .before .before .before .before .if1 in
-    let r = c .before .before .r in (
-      turn .inv .rows-length,
-      turn .inv .columns-length,
-      turn .inv .words-length,
-      table-too-many (start .args .model .now) (start .args .start) (turn .rows) (turn .columns) (turn .words) (turn .at) (turn .n) (turn .inv)
-          (byte-inside (start .args .model .now) (turn .at) 5 (omega arith) (sym (byte-at .ensures) ∙ if1 .taken)) (sym (byte-at .ensures) ∙ if1 .taken)
-          (r .given .0 .0) (r .given .0 .1 .0) (
-          sides-told (drop (turn .at + 1) (start .args .model .now)) (r .given .0 .0) (r .given .0 .1 .0)
-          (sym (r .given .1) ∙ rw (suffix (turn .at + 1) (start .args .model .now)) at (c .before .before .before .before .sides .ensures))
-          ) (c .if2 .taken),
+    let t : Turn = search in (
+      t .loop .inv .rows-length,
+      t .loop .inv .columns-length,
+      t .loop .inv .words-length,
+      table-too-many (t .loop .inv) (inside (search)) (due (search)) (told (search)) (c .if2 .taken),
     )
 
 add-first : tie.Need-add-first Inv-loop μ-loop
-add-first c =
-    let start = c .before .before .before .before .before .before .before .before .before .before .before .before .before in
-    record
-    { fits = omega (arith, (byte-inside (start .args .model .now) (c .before .before .before .before .before .before .before .before .loop .at) 5 (omega arith) (sym (c .before .before .before .before .before .before .before .byte-at .ensures) ∙ c .before .before .before .before .before .before .if1 .taken)), start .good) }
-
-wide-requires : tie.Need-wide-requires Inv-loop μ-loop
-wide-requires c κs = search needs
-
-wide-requires-2 : tie.Need-wide-requires-2 Inv-loop μ-loop
-wide-requires-2 c κs = search needs
+add-first c = let t : Turn = search in record { fits = omega (arith, inside (search), start t .good) }
 
 mul-entries : tie.Need-mul-entries Inv-loop μ-loop
 mul-entries c =
-    let start = c .before .before .before .before .before .before .before .before .before .before .before .before .before .before .before in
-    let turn = c .before .before .before .before .before .before .before .before .before .before .loop in
-    let r = c .before .before .before .before .r in
-    record
-    { fits = let g = (sides-told (drop (turn .at + 1) (start .args .model .now)) (r .given .0 .0) (r .given .0 .1 .0) (sym (r .given .1) ∙ rw (suffix (turn .at + 1) (start .args .model .now)) at (c .before .before .before .before .before .before .sides .ensures))) in let h : c .before .wide .result * c .wide2 .result ≤ 4096 = cells-bound (c .before .wide .result) (c .wide2 .result) (omega (arith, c .before .wide .ensures .0, g .low-rows)) (omega (arith, c .wide2 .ensures .0, g .low-columns)) in omega arith }
-
-entries-requires : tie.Need-entries-requires Inv-loop μ-loop
-entries-requires c κs = search needs
-
-enum-known-end : tie.Need-enum-known-end Inv-loop μ-loop
-enum-known-end c = search needs
+    let g = told (search) in
+    let h : c .before .wide .result * c .wide2 .result ≤ 4096 = cells-bound (c .before .wide .result) (c .wide2 .result) (omega (arith, c .before .wide .ensures .0, g .low-rows)) (omega (arith, c .wide2 .ensures .0, g .low-columns)) in
+    record { fits = omega arith }
 
 slice-write-rows : tie.Need-slice-write-rows Inv-loop μ-loop
-slice-write-rows c =
-    let turn = c .before .before .before .before .before .before .before .before .before .before .before .before .before .before .loop in
-    omega (arith, turn .inv .rows-length, turn .inv .few, c .before .before .before .before .before .before .if2 .left)
+slice-write-rows c = let t : Turn = search in omega (arith, t .loop .inv .rows-length, room (search))
 
 slice-write-columns : tie.Need-slice-write-columns Inv-loop μ-loop
-slice-write-columns c =
-    let turn = c .before .before .before .before .before .before .before .before .before .before .before .before .before .before .loop in
-    omega (arith, turn .inv .columns-length, turn .inv .few, c .before .before .before .before .before .before .if2 .left)
+slice-write-columns c = let t : Turn = search in omega (arith, t .loop .inv .columns-length, room (search))
 
 packed-requires : tie.Need-packed-requires Inv-loop μ-loop
-packed-requires c κs =
-    let start = c .before .before .before .before .before .before .before .before .before .before .before .before .before .before .before .before .before .before .before in
-    let turn = c .before .before .before .before .before .before .before .before .before .before .before .before .before .before .loop in
-    let g = (sides-told (drop (turn .at + 1) (start .args .model .now)) (c .before .before .before .before .before .before .before .before .r .given .0 .0) (c .before .before .before .before .before .before .before .before .r .given .0 .1 .0) (sym (c .before .before .before .before .before .before .before .before .r .given .1) ∙ rw (suffix (turn .at + 1) (start .args .model .now)) at (c .before .before .before .before .before .before .before .before .before .before .sides .ensures))) in (omega (arith, (byte-inside (start .args .model .now) (turn .at) 5 (omega arith) (sym (c .before .before .before .before .before .before .before .before .before .before .before .before .before .byte-at .ensures) ∙ c .before .before .before .before .before .before .before .before .before .before .before .before .if1 .taken)), start .pre .0), g .low-rows, g .low-columns)
-
-mul-words : tie.Need-mul-words Inv-loop μ-loop
-mul-words c = search needs
+packed-requires c κs = let t : Turn = search in let g = told (search) in (omega (arith, inside (search), start t .pre .0), g .low-rows, g .low-columns)
 
 slice-write-words : tie.Need-slice-write-words Inv-loop μ-loop
-slice-write-words c =
-    let turn = c .before .before .before .before .before .before .before .before .before .before .before .before .before .before .before .loop in
-    omega (arith, turn .inv .words-length, turn .inv .few, c .before .before .before .before .before .before .before .if2 .left)
-
-add-n : tie.Need-add-n Inv-loop μ-loop
-add-n c = omega (arith, c .before .before .before .before .before .before .before .before .before .before .before .before .before .before .before .loop .inv .few)
-
-loop-less : tie.Need-loop-less Inv-loop μ-loop
-loop-less c =
-    omega (
-      arith,
-      c .before .before .before .before .before .before .before .before .before .before .before .before .before .before .before .loop .inv .few,
-      c .before .before .before .before .before .before .before .if2 .left,
-    )
+slice-write-words c = let t : Turn = search in omega (arith, t .loop .inv .words-length, room (search))
 
 loop-again : tie.Need-loop-again Inv-loop μ-loop
 loop-again c =
-    let start = c .before .before .before .before .before .before .before .before .before .before .before .before .before .before .before .before .before .before .before .before in
-    let turn = c .before .before .before .before .before .before .before .before .before .before .before .before .before .before .before .loop in
-    let byte-at = c .before .before .before .before .before .before .before .before .before .before .before .before .before .before .byte-at in
-    let if1 = c .before .before .before .before .before .before .before .before .before .before .before .before .before .if1 in
-    let r = c .before .before .before .before .before .before .before .before .before .r in
-    let wide2 = c .before .before .before .before .before .wide2 in
-    table-more (start .args .model .now) (start .args .start) (turn .rows) (turn .columns) (turn .words) (turn .at) (turn .n) (turn .inv)
-    (byte-inside (start .args .model .now) (turn .at) 5 (omega arith) (sym (byte-at .ensures) ∙ if1 .taken)) (sym (byte-at .ensures) ∙ if1 .taken)
-    (r .given .0 .0) (r .given .0 .1 .0)
-    (
-    sides-told (drop (turn .at + 1) (start .args .model .now)) (r .given .0 .0) (r .given .0 .1 .0) (
-    sym (r .given .1) ∙ rw (suffix (turn .at + 1) (start .args .model .now)) at
-    (c .before .before .before .before .before .before .before .before .before .before .before .sides .ensures)
-    )
-    )
-    (omega (arith, turn .inv .few, c .before .before .before .before .before .before .before .if2 .left)) (start .pre .0)
-    (
-    sym (c .before .before .end .given .1)
-    ∙ (
-    c .before .before .before .before .entries .ensures ∙ ap (λ (k : ℕ). positionOf (readAt (entries k) (turn .at + 3) (start .args .model .now))) (
-    ap (λ (a : ℕ). a * wide2 .result) (c .before .before .before .before .before .before .wide .ensures .0) ∙ ap (λ (a : ℕ). r .given .0 .0 * a)
-    (wide2 .ensures .0)
-    )
-    )
-    )
+    let t : Turn = search in
+    table-more (t .loop .inv) (inside (search)) (due (search)) (told (search)) (room (search)) (start t .pre .0) (sym (c .before .before .end .given .1) ∙ entries-here (search))
     (c .packed .ensures)
-
-enum-known-t : tie.Need-enum-known-t Inv-loop μ-loop
-enum-known-t c = search needs
-
-same-length-4 : tie.Need-same-length-4 Inv-loop μ-loop
-same-length-4 c =
-    omega (
-      arith,
-      c .before .before .before .before .before .before .before .before .before .before .before .before .before .before .loop .inv .rows-length,
-      c .before .before .before .before .before .before .before .before .before .before .before .before .before .before .before .before .before .before .before .pre,
-    )
-
-same-length-5 : tie.Need-same-length-5 Inv-loop μ-loop
-same-length-5 c =
-    omega (
-      arith,
-      c .before .before .before .before .before .before .before .before .before .before .before .before .before .before .loop .inv .columns-length,
-      c .before .before .before .before .before .before .before .before .before .before .before .before .before .before .before .before .before .before .before .pre,
-    )
-
-same-length-6 : tie.Need-same-length-6 Inv-loop μ-loop
-same-length-6 c =
-    omega (
-      arith,
-      c .before .before .before .before .before .before .before .before .before .before .before .before .before .before .loop .inv .words-length,
-      c .before .before .before .before .before .before .before .before .before .before .before .before .before .before .before .before .before .before .before .pre,
-    )
 
 returns-2 : tie.Need-returns-2 Inv-loop μ-loop
 returns-2 c =
-    let start = c .before .before .before .before .before .before .before .before .before .before .before .before .before .before .before .before .before .before .before in
-    let turn = c .before .before .before .before .before .before .before .before .before .before .before .before .before .before .loop in
-    let byte-at = c .before .before .before .before .before .before .before .before .before .before .before .before .before .byte-at in
-    let if1 = c .before .before .before .before .before .before .before .before .before .before .before .before .if1 in
-    let r = c .before .before .before .before .before .before .before .before .r in
-    let wide2 = c .before .before .before .before .wide2 in (
-      turn .inv .rows-length,
-      turn .inv .columns-length,
-      turn .inv .words-length,
-      table-body-refused (start .args .model .now) (start .args .start) (turn .rows) (turn .columns) (turn .words) (turn .at) (turn .n) (turn .inv)
-          (byte-inside (start .args .model .now) (turn .at) 5 (omega arith) (sym (byte-at .ensures) ∙ if1 .taken)) (sym (byte-at .ensures) ∙ if1 .taken)
-          (r .given .0 .0) (r .given .0 .1 .0) (
-          sides-told (drop (turn .at + 1) (start .args .model .now)) (r .given .0 .0) (r .given .0 .1 .0) (
-          sym (r .given .1) ∙ rw (suffix (turn .at + 1) (start .args .model .now)) at
-          (c .before .before .before .before .before .before .before .before .before .before .sides .ensures)
-          )
-          ) (omega (arith, turn .inv .few, c .before .before .before .before .before .before .if2 .left)) (
-          sym (c .before .t .given .1)
-          ∙ (
-          c .before .before .before .entries .ensures ∙ ap (λ (k : ℕ). positionOf (readAt (entries k) (turn .at + 3) (start .args .model .now))) (
-          ap (λ (a : ℕ). a * wide2 .result) (c .before .before .before .before .before .wide .ensures .0) ∙ ap (λ (a : ℕ). r .given .0 .0 * a)
-          (wide2 .ensures .0)
-          )
-          )
-          ),
-    )
-
-enum-known-t-2 : tie.Need-enum-known-t-2 Inv-loop μ-loop
-enum-known-t-2 c = search needs
-
-same-length-7 : tie.Need-same-length-7 Inv-loop μ-loop
-same-length-7 c =
-    omega (
-      arith,
-      c .before .before .before .before .before .before .before .loop .inv .rows-length,
-      c .before .before .before .before .before .before .before .before .before .before .before .before .pre,
-    )
-
-same-length-8 : tie.Need-same-length-8 Inv-loop μ-loop
-same-length-8 c =
-    omega (
-      arith,
-      c .before .before .before .before .before .before .before .loop .inv .columns-length,
-      c .before .before .before .before .before .before .before .before .before .before .before .before .pre,
-    )
-
-same-length-9 : tie.Need-same-length-9 Inv-loop μ-loop
-same-length-9 c =
-    omega (
-      arith,
-      c .before .before .before .before .before .before .before .loop .inv .words-length,
-      c .before .before .before .before .before .before .before .before .before .before .before .before .pre,
+    let t : Turn = search in (
+      t .loop .inv .rows-length,
+      t .loop .inv .columns-length,
+      t .loop .inv .words-length,
+      table-body-refused (t .loop .inv) (inside (search)) (due (search)) (told (search)) (room (search)) (sym (c .before .t .given .1) ∙ entries-here (search)),
     )
 
 returns-3 : tie.Need-returns-3 Inv-loop μ-loop
 returns-3 c =
-    let start = c .before .before .before .before .before .before .before .before .before .before .before .before in
-    let turn = c .before .before .before .before .before .before .before .loop in
-    let byte-at = c .before .before .before .before .before .before .byte-at in
-    let if1 = c .before .before .before .before .before .if1 in (
-      turn .inv .rows-length,
-      turn .inv .columns-length,
-      turn .inv .words-length,
-      table-head-refused (start .args .model .now) (start .args .start) (turn .rows) (turn .columns) (turn .words) (turn .at) (turn .n) (turn .inv)
-          (byte-inside (start .args .model .now) (turn .at) 5 (omega arith) (sym (byte-at .ensures) ∙ if1 .taken)) (sym (byte-at .ensures) ∙ if1 .taken) (
-          sides-refused (drop (turn .at + 1) (start .args .model .now))
-          (sym (c .before .t2 .given .1) ∙ rw (suffix (turn .at + 1) (start .args .model .now)) at (c .before .before .before .sides .ensures))
-          ),
+    let t : Turn = search in (
+      t .loop .inv .rows-length,
+      t .loop .inv .columns-length,
+      t .loop .inv .words-length,
+      table-head-refused (t .loop .inv) (inside (search)) (due (search))
+          (sides-refused (drop (t .loop .at + 1) (model t)) (sym (c .before .t2 .given .1) ∙ sides-here (search))),
     )
-
-same-length-10 : tie.Need-same-length-10 Inv-loop μ-loop
-same-length-10 c = omega (arith, c .before .before .before .loop .inv .rows-length, c .before .before .before .before .before .before .before .before .pre)
-
-same-length-11 : tie.Need-same-length-11 Inv-loop μ-loop
-same-length-11 c = omega (arith, c .before .before .before .loop .inv .columns-length, c .before .before .before .before .before .before .before .before .pre)
-
-same-length-12 : tie.Need-same-length-12 Inv-loop μ-loop
-same-length-12 c = omega (arith, c .before .before .before .loop .inv .words-length, c .before .before .before .before .before .before .before .before .pre)
 
 returns-4 : tie.Need-returns-4 Inv-loop μ-loop
 returns-4 c =
-    let start = c .before .before .before .before .before .before .before .before in
-    let turn = c .before .before .before .loop in (
-      turn .inv .rows-length,
-      turn .inv .columns-length,
-      turn .inv .words-length,
-      tables-end (start .args .model .now) (start .args .start) (turn .rows) (turn .columns) (turn .words) (turn .at) (turn .n) (turn .inv)
-          (c .if3 .taken) (λ q. c .before .if1 .left (c .before .before .byte-at .ensures ∙ q)),
+    let t : Turn = search in
+    let b : tie.After-byte-at Inv-loop μ-loop = search in (
+      t .loop .inv .rows-length,
+      t .loop .inv .columns-length,
+      t .loop .inv .words-length,
+      tables-end (t .loop .inv) (c .if3 .taken) (λ q. c .before .if1 .left (b .byte-at .ensures ∙ q)),
     )
-
-same-length-13 : tie.Need-same-length-13 Inv-loop μ-loop
-same-length-13 c = omega (arith, c .before .before .before .loop .inv .rows-length, c .before .before .before .before .before .before .before .before .pre)
-
-same-length-14 : tie.Need-same-length-14 Inv-loop μ-loop
-same-length-14 c = omega (arith, c .before .before .before .loop .inv .columns-length, c .before .before .before .before .before .before .before .before .pre)
-
-same-length-15 : tie.Need-same-length-15 Inv-loop μ-loop
-same-length-15 c = omega (arith, c .before .before .before .loop .inv .words-length, c .before .before .before .before .before .before .before .before .pre)
 
 returns-5 : tie.Need-returns-5 Inv-loop μ-loop
 returns-5 c =
-    let start = c .before .before .before .before .before .before .before .before in
-    let turn = c .before .before .before .loop in (
-      turn .inv .rows-length,
-      turn .inv .columns-length,
-      turn .inv .words-length,
-      tables-early (start .args .model .now) (start .args .start) (turn .rows) (turn .columns) (turn .words) (turn .at) (turn .n) (turn .inv)
-          (c .if3 .left),
-    )
+    let t : Turn = search in (t .loop .inv .rows-length, t .loop .inv .columns-length, t .loop .inv .words-length, tables-early (t .loop .inv) (c .if3 .left))
 
 pub tables-spec : {M : Type 1} → statement M
 tables-spec =
@@ -341,46 +161,46 @@ tables-spec =
     Inv-loop
     μ-loop
     loop-holds
-    byte-at-requires
+    (λ c κs. search needs)
     add-behind
-    sub-sides
-    part-sides-start
-    part-sides-end
-    sides-requires
-    enum-known-r
-    same-length
-    same-length-2
-    same-length-3
+    (λ c. omega (arith, inside c))
+    (λ c. omega (arith, inside c))
+    (λ c. search needs)
+    (λ c κs. search needs)
+    (λ c. search needs)
+    (λ c. rows-same (search))
+    (λ c. columns-same (search))
+    (λ c. words-same (search))
     returns
     add-first
-    wide-requires
-    wide-requires-2
+    (λ c κs. search needs)
+    (λ c κs. search needs)
     mul-entries
-    entries-requires
-    enum-known-end
+    (λ c κs. search needs)
+    (λ c. search needs)
     slice-write-rows
     slice-write-columns
     packed-requires
-    mul-words
+    (λ c. search needs)
     slice-write-words
-    add-n
-    loop-less
+    (λ c. omega (arith, room (search)))
+    (λ c. omega (arith, room (search)))
     loop-again
-    enum-known-t
-    same-length-4
-    same-length-5
-    same-length-6
+    (λ c. search needs)
+    (λ c. rows-same (search))
+    (λ c. columns-same (search))
+    (λ c. words-same (search))
     returns-2
-    enum-known-t-2
-    same-length-7
-    same-length-8
-    same-length-9
+    (λ c. search needs)
+    (λ c. rows-same (search))
+    (λ c. columns-same (search))
+    (λ c. words-same (search))
     returns-3
-    same-length-10
-    same-length-11
-    same-length-12
+    (λ c. rows-same (search))
+    (λ c. columns-same (search))
+    (λ c. words-same (search))
     returns-4
-    same-length-13
-    same-length-14
-    same-length-15
+    (λ c. rows-same (search))
+    (λ c. columns-same (search))
+    (λ c. words-same (search))
     returns-5)

@@ -7,14 +7,19 @@ use Rattle.read_declarations.proofs.variables.element_variable.Statemen
 use Rattle.read_declarations.proofs.variables.element_variable.Tie as tie
 
 returns : tie.Need-returns
-returns c = let e = c .before .before .before .before .before .before .before .before .args .e .now in
+returns c =
+    let start : tie.Start = search in
+    let then1 : tie.Then1 = search in
+    let e = start .args .e .now in
     let t = sym (c .before .before .element-fits .ensures) ∙ c .before .if2 .taken in
-    element-declares _ (getD e 0 0) (getD e 1 0) (getD e 2 0) _ (element-good e (c .before .before .before .before .before .before .if1 .taken) t) t
+    element-declares _ (getD e 0 0) (getD e 1 0) (getD e 2 0) _ (element-good e (then1 .if1 .taken) t) t
     refl refl refl (c .wide .ensures .0)
 
 returns-2 : tie.Need-returns-2
 returns-2 c =
-    element-beyond (c .before .before .before .before .before .before .before .args .e .now) (c .before .before .before .before .before .if1 .taken)
+    let start : tie.Start = search in
+    let then1 : tie.Then1 = search in
+    element-beyond (start .args .e .now) (then1 .if1 .taken)
     (sym (c .before .element-fits .ensures) ∙ c .if2 .left)
 
 returns-3 : tie.Need-returns-3

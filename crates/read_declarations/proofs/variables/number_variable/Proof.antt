@@ -11,23 +11,29 @@ use Rattle.read_declarations.proofs.variables.number_variable.Tie as ti
 
 integer-requires : tie.Need-integer-requires
 integer-requires c κs =
-    let start = c .before .before .before .before .before in
-    rw (suffix 1 (start .args .e .now)) (omega (arith, length-drop 1 (start .args .e .now), c .before .before .before .if1 .taken))
+    let start : tie.Start = search in
+    let then1 : tie.Then1 = search in
+    rw (suffix 1 (start .args .e .now)) (omega (arith, length-drop 1 (start .args .e .now), then1 .if1 .taken))
 
 biased-requires : tie.Need-biased-requires
 biased-requires c κs = rw (back {z = c .integer .result} (record { sfits = c .integer .ok })) (c .integer .ensures .1)
 
 returns : tie.Need-returns
 returns c =
-    let e = c .before .before .before .before .before .before .before .args .e .now in
-    let if2 = c .before .before .before .if2 in
+    let start : tie.Start = search in
+    let then1 : tie.Then1 = search in
+    let then2 : tie.Then2 = search in
+    let e = start .args .e .now in
+    let if2 = then2 .if2 in
     number-declares _ (getD e 0 0) (c .before .integer .result) _
-    (number-good e (c .before .before .before .before .before .if1 .taken) (rw (suffix 1 e) at (c .before .integer .ensures .0)) (if2 .taken))
+    (number-good e (then1 .if1 .taken) (rw (suffix 1 e) at (c .before .integer .ensures .0)) (if2 .taken))
     (if2 .taken) refl refl refl (rw (back {z = c .before .integer .result} (record { sfits = c .before .integer .ok })) at (c .biased .ensures .0))
     (c .biased .ensures .1)
 
 returns-2 : tie.Need-returns-2
-returns-2 c = number-beyond (c .before .before .before .before .args .e .now) (c .before .before .if1 .taken) (c .if2 .left)
+returns-2 c =
+    let start : tie.Start = search in
+    number-beyond (start .args .e .now) (c .before .before .if1 .taken) (c .if2 .left)
 
 returns-3 : tie.Need-returns-3
 returns-3 c = number-cut (c .before .before .args .e .now) (c .if1 .left)

@@ -13,31 +13,41 @@ use Rattle.read_declarations.proofs.variables.set_variable.Statement.{s
 use Rattle.read_declarations.proofs.variables.set_variable.Tie as tie
 
 long-requires : tie.Need-long-requires
-long-requires c κs = rw (suffix 1 (c .before .before .before .before .args .e .now)) (omega (arith, length-drop 1 (c .before .before .before .before .args .e .now), c .before .before .if1 .taken))
+long-requires c κs =
+    let start : tie.Start = search in
+    rw (suffix 1 (start .args .e .now)) (omega (arith, length-drop 1 (start .args .e .now), c .before .before .if1 .taken))
 
 add-t14 : tie.Need-add-t14
 add-t14 c =
-    let start = c .before .before .before .before .before .before .before in
+    let start : tie.Start = search in
     let h = and-both (isCount (getD (start .args .e .now) 0 0)) (ltb (c .before .before .long .result) (2 ^ getD (start .args .e .now) 0 0)) (sym (c .before .members-fit .ensures) ∙ c .if2 .taken) in omega (arith, count-bounds (getD (start .args .e .now) 0 0) (h .0))
 
 full-requires : tie.Need-full-requires
 full-requires c κs =
-    let start = c .before .before .before .before .before .before .before .before in
-    let h = and-both (isCount (getD (start .args .e .now) 0 0)) (ltb (c .before .before .before .long .result) (2 ^ getD (start .args .e .now) 0 0)) (sym (c .before .before .members-fit .ensures) ∙ c .before .if2 .taken) in omega (arith, c .wide .ensures .0, count-bounds (getD (start .args .e .now) 0 0) (h .0))
+    let start : tie.Start = search in
+    let after-long : tie.After-long = search in
+    let h = and-both (isCount (getD (start .args .e .now) 0 0)) (ltb (after-long .long .result) (2 ^ getD (start .args .e .now) 0 0)) (sym (c .before .before .members-fit .ensures) ∙ c .before .if2 .taken) in omega (arith, c .wide .ensures .0, count-bounds (getD (start .args .e .now) 0 0) (h .0))
 
 returns : tie.Need-returns
 returns c =
-    let e = c .before .before .before .before .before .before .before .before .before .args .e .now in
-    let t = sym (c .before .before .before .members-fit .ensures) ∙ c .before .before .if2 .taken in
-    let h = and-both (isCount (getD e 0 0)) (ltb (c .before .before .before .before .long .result) (2 ^ getD e 0 0)) t in
-    let long = c .before .before .before .before .long in
+    let start : tie.Start = search in
+    let then1 : tie.Then1 = search in
+    let after-long : tie.After-long = search in
+    let after-members-fit : tie.After-members-fit = search in
+    let e = start .args .e .now in
+    let t = sym (after-members-fit .members-fit .ensures) ∙ c .before .before .if2 .taken in
+    let h = and-both (isCount (getD e 0 0)) (ltb (after-long .long .result) (2 ^ getD e 0 0)) t in
+    let long = after-long .long in
     set-declares _ (getD e 0 0) (long .result) _
-    (set-good e (c .before .before .before .before .before .before .before .if1 .taken) (rw (suffix 1 e) at (long .ensures)) t) (h .0) refl refl refl
+    (set-good e (then1 .if1 .taken) (rw (suffix 1 e) at (long .ensures)) t) (h .0) refl refl refl
     refl (c .full .ensures ∙ ap (λ (n : ℕ). 2 ^ n - 1) (c .before .wide .ensures .0))
 
 returns-2 : tie.Need-returns-2
-returns-2 c = let e = c .before .before .before .before .before .before .before .args .e .now in
-    set-beyond e (c .before .before .before .before .before .if1 .taken) (rw (suffix 1 e) at (c .before .before .long .ensures))
+returns-2 c =
+    let start : tie.Start = search in
+    let then1 : tie.Then1 = search in
+    let e = start .args .e .now in
+    set-beyond e (then1 .if1 .taken) (rw (suffix 1 e) at (c .before .before .long .ensures))
     (sym (c .before .members-fit .ensures) ∙ c .if2 .left)
 
 returns-3 : tie.Need-returns-3

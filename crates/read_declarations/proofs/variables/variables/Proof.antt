@@ -1,7 +1,14 @@
 -- `read_declarations::variables::variables` meets its contract. The invariant: so many variables are read and stored, and the loop goes on from here. The measure is the room that is left.
-use Prim.Native.Nat.{_-_}
+use Prim.Native.Nat.{ℕ, _+_, _-_, _<_}
+use mathlib.Core.Path.{_≡_, sym, _∙_}
+use mathlib.Core.Bool.{true}
+use mathlib.Core.List.{List}
 use native.Mathlib.Omega.{arith}
+use lib.ListN.{length, getD, drop}
 use borrow.Author.Needs.{needs}
+use Rattle.model.specs.Expressions.{among}
+use Rattle.model.specs.Commands.{variableOf}
+use Rattle.read_declarations.specs.Declarations.{Declares}
 use Rattle.read_declarations.proofs.Declarations.{variable-due, variable-inside, declared-here, VariablesSoFar, no-variables, variable-more, variable-too-many, variable-refused, variables-end, variables-early}
 use Rattle.read_declarations.proofs.variables.variables.Statement.{statement}
 use Rattle.read_declarations.proofs.variables.variables.Tie as tie
@@ -12,200 +19,98 @@ Inv-loop model start kinds₀ words₀ at₀ n₀ kinds words at n = VariablesSo
 abbrev μ-loop : tie.MeasureT-loop
 μ-loop model start kinds₀ words₀ at₀ n₀ kinds words at n = 16 - n
 
+-- a turn of the loop: the bytes, and the lengths as they came
+abbrev Turn : Type 0
+Turn = tie.At-loop Inv-loop μ-loop
+
+abbrev start : Turn → tie.Start Inv-loop μ-loop
+start c = c .before .before .before .before
+
+abbrev model : Turn → List ℕ
+model c = start c .args .model .now
+
+kinds-same : (c : Turn) → length (c .loop .kinds) ≡ length (start c .args .kinds .now)
+kinds-same c = c .loop .inv .kinds-length ∙ sym (start c .pre .0)
+
+words-same : (c : Turn) → length (c .loop .words) ≡ length (start c .args .words .now)
+words-same c = c .loop .inv .words-length ∙ sym (start c .pre .1)
+
+-- a variable is due, and begins inside the model
+module _ (c : tie.Then1 Inv-loop μ-loop) where
+  abbrev turn : Turn
+  turn = c .before .before .before
+
+  due : among 0x02 3 (getD (model turn) (turn .loop .at) 0) ≡ true
+  due = variable-due (model turn) (turn .loop .at) (c .before .before .byte-at .ensures) (c .before .declares-variable .ensures) (c .if1 .taken)
+
+  inside : turn .loop .at < length (model turn)
+  inside = variable-inside (model turn) (turn .loop .at) due
+
+-- a variable is declared
+told : (c : tie.After-d Inv-loop μ-loop)
+    → (let t = turn (c .before .before .before .before .before) in Declares (variableOf (getD (model t) (t .loop .at) 0) (drop (t .loop .at + 1) (model t))) (c .d .given .0 .0))
+told c =
+    let t : Turn = search in
+    let v : tie.After-variable Inv-loop μ-loop = search in
+    declared-here (model t) (t .loop .at) (v .before .before .byte-at2 .ensures) (c .d .given .1) (v .variable .ensures)
+
+-- there is room for it
+room : (c : tie.Else2 Inv-loop μ-loop) → (let t = turn (c .before .before .before .before .before .before .before) in t .loop .n < 16)
+room c = let t : Turn = search in omega (arith, t .loop .inv .few, c .if2 .left)
+
 loop-holds : tie.Need-loop-holds Inv-loop μ-loop
-loop-holds c =
-    let start = c .before .before .before in
-    no-variables (start .args .model .now) (start .args .start) (start .args .kinds .now) (start .args .words .now) (start .pre .0) (start .pre .1)
-
-byte-at-requires : tie.Need-byte-at-requires Inv-loop μ-loop
-byte-at-requires c κs = search needs
-
-declares-variable-requires : tie.Need-declares-variable-requires Inv-loop μ-loop
-declares-variable-requires c κs = search needs
+loop-holds c = let s : tie.Start Inv-loop μ-loop = search in no-variables (s .pre .0) (s .pre .1)
 
 add-behind : tie.Need-add-behind Inv-loop μ-loop
-add-behind c =
-    let start = c .before .before .before .before .before .before .before in
-    let turn = c .before .before .before .loop in
-    record
-    { fits = let i = variable-inside (start .args .model .now) (turn .at) (variable-due (start .args .model .now) (turn .at) (c .before .before .byte-at .ensures) (c .before .declares-variable .ensures) (c .if1 .taken)) in omega (arith, start .good) }
-
-byte-at-requires-2 : tie.Need-byte-at-requires-2 Inv-loop μ-loop
-byte-at-requires-2 c κs = search needs
-
-sub-variable : tie.Need-sub-variable Inv-loop μ-loop
-sub-variable c =
-    let start = c .before .before .before .before .before .before .before .before in
-    let turn = c .before .before .before .before .loop in
-    let i = variable-inside (start .args .model .now) (turn .at) (variable-due (start .args .model .now) (turn .at) (c .before .before .before .byte-at .ensures) (c .before .before .declares-variable .ensures) (c .before .if1 .taken)) in omega arith
-
-part-variable-start : tie.Need-part-variable-start Inv-loop μ-loop
-part-variable-start c =
-    let start = c .before .before .before .before .before .before .before .before in
-    let turn = c .before .before .before .before .loop in
-    let i = variable-inside (start .args .model .now) (turn .at) (variable-due (start .args .model .now) (turn .at) (c .before .before .before .byte-at .ensures) (c .before .before .declares-variable .ensures) (c .before .if1 .taken)) in omega arith
-
-part-variable-end : tie.Need-part-variable-end Inv-loop μ-loop
-part-variable-end c = search needs
-
-variable-requires : tie.Need-variable-requires Inv-loop μ-loop
-variable-requires c κs = search needs
-
-enum-known-d : tie.Need-enum-known-d Inv-loop μ-loop
-enum-known-d c = search needs
-
-same-length : tie.Need-same-length Inv-loop μ-loop
-same-length c =
-    omega (
-      arith,
-      c .before .before .before .before .before .before .before .before .before .before .loop .inv .kinds-length,
-      c .before .before .before .before .before .before .before .before .before .before .before .before .before .before .pre .0,
-    )
-
-same-length-2 : tie.Need-same-length-2 Inv-loop μ-loop
-same-length-2 c =
-    omega (
-      arith,
-      c .before .before .before .before .before .before .before .before .before .before .loop .inv .words-length,
-      c .before .before .before .before .before .before .before .before .before .before .before .before .before .before .pre .1,
-    )
+add-behind c = record { fits = omega (arith, inside c, start (turn c) .good) }
 
 returns : tie.Need-returns Inv-loop μ-loop
 returns c =
-    let start = c .before .before .before .before .before .before .before .before .before .before .before .before .before .before in
-    let turn = c .before .before .before .before .before .before .before .before .before .before .loop in
-    let byte-at = c .before .before .before .before .before .before .before .before .before .byte-at in
-    let declares-variable = c .before .before .before .before .before .before .before .before .declares-variable in
-    let if1 = c .before .before .before .before .before .before .before .if1 in
-    let d = c .before .before .d in (
-      turn .inv .kinds-length,
-      turn .inv .words-length,
-      variable-too-many (start .args .model .now) (start .args .start) (turn .kinds) (turn .words) (turn .at) (turn .n) (turn .inv) (
-          variable-inside (start .args .model .now) (turn .at)
-          (variable-due (start .args .model .now) (turn .at) (byte-at .ensures) (declares-variable .ensures) (if1 .taken))
-          ) (variable-due (start .args .model .now) (turn .at) (byte-at .ensures) (declares-variable .ensures) (if1 .taken)) (d .given .0 .0) (
-          declared-here (start .args .model .now) (turn .at) (c .before .before .before .before .before .before .byte-at2 .ensures) (d .given .1)
-          (c .before .before .before .before .variable .ensures)
-          ) (c .if2 .taken),
-    )
+    let t : Turn = search in
+    (t .loop .inv .kinds-length, t .loop .inv .words-length, variable-too-many (t .loop .inv) (inside (search)) (due (search)) (told (search)) (c .if2 .taken))
 
 slice-write-kinds : tie.Need-slice-write-kinds Inv-loop μ-loop
-slice-write-kinds c =
-    let turn = c .before .before .before .before .before .before .before .before .before .before .loop in
-    omega (arith, turn .inv .kinds-length, turn .inv .few, c .if2 .left)
+slice-write-kinds c = let t : Turn = search in omega (arith, t .loop .inv .kinds-length, room c)
 
 store-requires : tie.Need-store-requires Inv-loop μ-loop
-store-requires c κs =
-    let turn = c .before .before .before .before .before .before .before .before .before .before .before .loop in
-    (turn .inv .words-length, omega (arith, turn .inv .few, c .before .if2 .left))
+store-requires c κs = let t : Turn = search in (t .loop .inv .words-length, room (search))
 
 add-at : tie.Need-add-at Inv-loop μ-loop
-add-at c =
-    let start = c .before .before .before .before .before .before .before .before .before .before .before .before .before .before .before .before .before .before .before in
-    let turn = c .before .before .before .before .before .before .before .before .before .before .before .before .before .before .before .loop in
-    record
-    { fits = let i = variable-inside (start .args .model .now) (turn .at) (variable-due (start .args .model .now) (turn .at) (c .before .before .before .before .before .before .before .before .before .before .before .before .before .before .byte-at .ensures) (c .before .before .before .before .before .before .before .before .before .before .before .before .before .declares-variable .ensures) (c .before .before .before .before .before .before .before .before .before .before .before .before .if1 .taken)) in let u = declared-here (start .args .model .now) (turn .at) (c .before .before .before .before .before .before .before .before .before .before .before .byte-at2 .ensures) (c .before .before .before .before .before .before .before .d .given .1) (c .before .before .before .before .before .before .before .before .before .variable .ensures) in omega (arith, start .good, u .short) }
+add-at c = let t : Turn = search in record { fits = omega (arith, inside (search), start t .good, told (search) .short) }
 
 add-n : tie.Need-add-n Inv-loop μ-loop
-add-n c = omega (arith, c .before .before .before .before .before .before .before .before .before .before .before .before .before .before .before .loop .inv .few)
+add-n c = omega (arith, room (search))
 
 loop-less : tie.Need-loop-less Inv-loop μ-loop
-loop-less c =
-    omega (
-      arith,
-      c .before .before .before .before .before .before .before .before .before .before .before .before .before .before .before .loop .inv .few,
-      c .before .before .before .before .before .if2 .left,
-    )
+loop-less c = omega (arith, room (search))
 
 loop-again : tie.Need-loop-again Inv-loop μ-loop
 loop-again c =
-    let start = c .before .before .before .before .before .before .before .before .before .before .before .before .before .before .before .before .before .before .before in
-    let turn = c .before .before .before .before .before .before .before .before .before .before .before .before .before .before .before .loop in
-    let byte-at = c .before .before .before .before .before .before .before .before .before .before .before .before .before .before .byte-at in
-    let declares-variable = c .before .before .before .before .before .before .before .before .before .before .before .before .before .declares-variable in
-    let if1 = c .before .before .before .before .before .before .before .before .before .before .before .before .if1 in
-    let d = c .before .before .before .before .before .before .before .d in
-    rw (c .before .before .before .store .ensures)
-    (
-    variable-more (start .args .model .now) (start .args .start) (turn .kinds) (turn .words) (turn .at) (turn .n) (turn .inv) (
-    variable-inside (start .args .model .now) (turn .at)
-    (variable-due (start .args .model .now) (turn .at) (byte-at .ensures) (declares-variable .ensures) (if1 .taken))
-    ) (variable-due (start .args .model .now) (turn .at) (byte-at .ensures) (declares-variable .ensures) (if1 .taken)) (d .given .0 .0) (
-    declared-here (start .args .model .now) (turn .at)
-    (c .before .before .before .before .before .before .before .before .before .before .before .byte-at2 .ensures) (d .given .1)
-    (c .before .before .before .before .before .before .before .before .before .variable .ensures)
-    ) (omega (arith, turn .inv .few, c .before .before .before .before .before .if2 .left))
-    )
-
-enum-known-t : tie.Need-enum-known-t Inv-loop μ-loop
-enum-known-t c = search needs
-
-same-length-3 : tie.Need-same-length-3 Inv-loop μ-loop
-same-length-3 c =
-    omega (
-      arith,
-      c .before .before .before .before .before .before .before .before .before .loop .inv .kinds-length,
-      c .before .before .before .before .before .before .before .before .before .before .before .before .before .pre .0,
-    )
-
-same-length-4 : tie.Need-same-length-4 Inv-loop μ-loop
-same-length-4 c =
-    omega (
-      arith,
-      c .before .before .before .before .before .before .before .before .before .loop .inv .words-length,
-      c .before .before .before .before .before .before .before .before .before .before .before .before .before .pre .1,
-    )
+    let t : Turn = search in
+    let stored : tie.After-store Inv-loop μ-loop = search in
+    rw (stored .store .ensures) (variable-more (t .loop .inv) (inside (search)) (due (search)) (told (search)) (room (search)))
 
 returns-2 : tie.Need-returns-2 Inv-loop μ-loop
 returns-2 c =
-    let start = c .before .before .before .before .before .before .before .before .before .before .before .before .before in
-    let turn = c .before .before .before .before .before .before .before .before .before .loop in
-    let byte-at = c .before .before .before .before .before .before .before .before .byte-at in
-    let declares-variable = c .before .before .before .before .before .before .before .declares-variable in
-    let if1 = c .before .before .before .before .before .before .if1 in (
-      turn .inv .kinds-length,
-      turn .inv .words-length,
-      variable-refused (start .args .model .now) (start .args .start) (turn .kinds) (turn .words) (turn .at) (turn .n) (turn .inv) (
-          variable-inside (start .args .model .now) (turn .at)
-          (variable-due (start .args .model .now) (turn .at) (byte-at .ensures) (declares-variable .ensures) (if1 .taken))
-          ) (variable-due (start .args .model .now) (turn .at) (byte-at .ensures) (declares-variable .ensures) (if1 .taken)) (
-          declared-here (start .args .model .now) (turn .at) (c .before .before .before .before .before .byte-at2 .ensures) (c .before .t .given .1)
-          (c .before .before .before .variable .ensures)
-          ),
+    let t : Turn = search in
+    let v : tie.After-variable Inv-loop μ-loop = search in (
+      t .loop .inv .kinds-length,
+      t .loop .inv .words-length,
+      variable-refused (t .loop .inv) (inside (search)) (due (search))
+          (declared-here (model t) (t .loop .at) (v .before .before .byte-at2 .ensures) (c .before .t .given .1) (v .variable .ensures)),
     )
-
-same-length-5 : tie.Need-same-length-5 Inv-loop μ-loop
-same-length-5 c = omega (arith, c .before .before .before .before .loop .inv .kinds-length, c .before .before .before .before .before .before .before .before .pre .0)
-
-same-length-6 : tie.Need-same-length-6 Inv-loop μ-loop
-same-length-6 c = omega (arith, c .before .before .before .before .loop .inv .words-length, c .before .before .before .before .before .before .before .before .pre .1)
 
 returns-3 : tie.Need-returns-3 Inv-loop μ-loop
 returns-3 c =
-    let start = c .before .before .before .before .before .before .before .before in
-    let turn = c .before .before .before .before .loop in (
-      turn .inv .kinds-length,
-      turn .inv .words-length,
-      variables-end (start .args .model .now) (start .args .start) (turn .kinds) (turn .words) (turn .at) (turn .n) (turn .inv) (c .if3 .taken) (
-          variable-due (start .args .model .now) (turn .at) (c .before .before .before .byte-at .ensures)
-          (c .before .before .declares-variable .ensures) (c .before .if1 .left)
-          ),
+    let t : Turn = search in
+    let d : tie.After-declares-variable Inv-loop μ-loop = search in (
+      t .loop .inv .kinds-length,
+      t .loop .inv .words-length,
+      variables-end (t .loop .inv) (c .if3 .taken) (variable-due (model t) (t .loop .at) (d .before .byte-at .ensures) (d .declares-variable .ensures) (c .before .if1 .left)),
     )
-
-same-length-7 : tie.Need-same-length-7 Inv-loop μ-loop
-same-length-7 c = omega (arith, c .before .before .before .before .loop .inv .kinds-length, c .before .before .before .before .before .before .before .before .pre .0)
-
-same-length-8 : tie.Need-same-length-8 Inv-loop μ-loop
-same-length-8 c = omega (arith, c .before .before .before .before .loop .inv .words-length, c .before .before .before .before .before .before .before .before .pre .1)
 
 returns-4 : tie.Need-returns-4 Inv-loop μ-loop
-returns-4 c =
-    let start = c .before .before .before .before .before .before .before .before in
-    let turn = c .before .before .before .before .loop in (
-      turn .inv .kinds-length,
-      turn .inv .words-length,
-      variables-early (start .args .model .now) (start .args .start) (turn .kinds) (turn .words) (turn .at) (turn .n) (turn .inv) (c .if3 .left),
-    )
+returns-4 c = let t : Turn = search in (t .loop .inv .kinds-length, t .loop .inv .words-length, variables-early (t .loop .inv) (c .if3 .left))
 
 pub variables-spec : {M : Type 1} → statement M
 variables-spec =
@@ -214,17 +119,17 @@ variables-spec =
     Inv-loop
     μ-loop
     loop-holds
-    byte-at-requires
-    declares-variable-requires
+    (λ c κs. search needs)
+    (λ c κs. search needs)
     add-behind
-    byte-at-requires-2
-    sub-variable
-    part-variable-start
-    part-variable-end
-    variable-requires
-    enum-known-d
-    same-length
-    same-length-2
+    (λ c κs. search needs)
+    (λ c. omega (arith, inside (search)))
+    (λ c. omega (arith, inside (search)))
+    (λ c. search needs)
+    (λ c κs. search needs)
+    (λ c. search needs)
+    (λ c. kinds-same (search))
+    (λ c. words-same (search))
     returns
     slice-write-kinds
     store-requires
@@ -232,13 +137,13 @@ variables-spec =
     add-n
     loop-less
     loop-again
-    enum-known-t
-    same-length-3
-    same-length-4
+    (λ c. search needs)
+    (λ c. kinds-same (search))
+    (λ c. words-same (search))
     returns-2
-    same-length-5
-    same-length-6
+    (λ c. kinds-same (search))
+    (λ c. words-same (search))
     returns-3
-    same-length-7
-    same-length-8
+    (λ c. kinds-same (search))
+    (λ c. words-same (search))
     returns-4)

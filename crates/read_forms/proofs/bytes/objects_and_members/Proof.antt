@@ -9,13 +9,22 @@ use Rattle.words.proofs.Literal.{suffix}
 use Rattle.read_forms.proofs.bytes.objects_and_members.Statement.{statement}
 use Rattle.read_forms.proofs.bytes.objects_and_members.Tie as tie
 
+abbrev there : tie.After-long → tie.Then1
+there c = c .before .before .before
+
+-- the members, as they stand behind the count
+members : (c : tie.After-long) → word 8 (drop 1 (there c .before .before .args .e .now)) ≡ read (c .long .result) 8
+members c = rw suffix at (c .long .ensures)
+
 returns : tie.Need-returns
-returns c = let e = c .before .before .before .before .before .before .before .args .e .now in let w : word 8 (drop 1 e) ≡ read (c .before .before .long .result) 8 = rw suffix at (c .before .before .long .ensures) in
-    members-read e (c .before .before .before .before .before .if1 .taken) (c .before .before .long .result) w true (sym (c .if2 .taken) ∙ c .before .members-fit .ensures)
+returns c =
+    let l = c .before .before in
+    members-read (there l .before .before .args .e .now) (there l .if1 .taken) (l .long .result) (members l) true (sym (c .if2 .taken) ∙ c .before .members-fit .ensures)
 
 returns-2 : tie.Need-returns-2
-returns-2 c = let e = c .before .before .before .before .before .before .before .args .e .now in let w : word 8 (drop 1 e) ≡ read (c .before .before .long .result) 8 = rw suffix at (c .before .before .long .ensures) in
-    members-read e (c .before .before .before .before .before .if1 .taken) (c .before .before .long .result) w false (sym (c .if2 .left) ∙ c .before .members-fit .ensures)
+returns-2 c =
+    let l = c .before .before in
+    members-read (there l .before .before .args .e .now) (there l .if1 .taken) (l .long .result) (members l) false (sym (c .if2 .left) ∙ c .before .members-fit .ensures)
 
 returns-3 : tie.Need-returns-3
 returns-3 c = members-short (c .before .before .args .e .now) (c .if1 .left)

@@ -14,7 +14,7 @@ enum-told c = search needs
 returns : tie.Need-returns
 unfolding itemOf
 returns c =
-    let start = c .before .before .before .before .before .before .before in
+    let start : tie.Start = search in
     subst
     (λ (g : Group). c .transition .result ≡ positionOf (readAt (itemOf (variablesOf (start .args .kinds .now)) (tablesOf (start .args .rows .now) (start .args .columns .now)) g) (start .args .at) (start .args .model .now)))
     (sym (c .before .enum-told .given .1)) (c .transition .ensures)
@@ -22,7 +22,7 @@ returns c =
 returns-2 : tie.Need-returns-2
 unfolding itemOf
 returns-2 c =
-    let start = c .before .before .before .before .before .before .before in
+    let start : tie.Start = search in
     subst
     (λ (g : Group). c .conditions .result ≡ positionOf (readAt (itemOf (variablesOf (start .args .kinds .now)) (tablesOf (start .args .rows .now) (start .args .columns .now)) g) (start .args .at) (start .args .model .now)))
     (sym (c .before .enum-told2 .given .1)) (c .conditions .ensures)
@@ -30,7 +30,7 @@ returns-2 c =
 returns-3 : tie.Need-returns-3
 unfolding itemOf
 returns-3 c =
-    let start = c .before .before .before .before .before .before .before in
+    let start : tie.Start = search in
     subst
     (λ (g : Group). c .condition-at .result ≡ positionOf (readAt (itemOf (variablesOf (start .args .kinds .now)) (tablesOf (start .args .rows .now) (start .args .columns .now)) g) (start .args .at) (start .args .model .now)))
     (sym (c .before .enum-told3 .given .1)) (c .condition-at .ensures)
@@ -38,7 +38,7 @@ returns-3 c =
 returns-4 : tie.Need-returns-4
 unfolding itemOf
 returns-4 c =
-    let start = c .before .before .before .before .before .before .before in
+    let start : tie.Start = search in
     subst
     (λ (g : Group). c .number-at .result ≡ positionOf (readAt (itemOf (variablesOf (start .args .kinds .now)) (tablesOf (start .args .rows .now) (start .args .columns .now)) g) (start .args .at) (start .args .model .now)))
     (sym (c .before .enum-told4 .given .1)) (c .number-at .ensures)

@@ -1,12 +1,13 @@
 -- `read_model::groups::items` meets its contract. The invariant: so many items are read, their offsets are stored, and the loop goes on from here. The measure is the room that is left.
-use Prim.Native.Nat.{_-_, _+_}
-use mathlib.Core.Path.{sym, _∙_}
+use Prim.Native.Nat.{_-_, _+_, _<_}
+use mathlib.Core.Path.{_≡_, sym, _∙_}
 use native.Mathlib.Omega.{arith}
-use lib.ListN.{length}
+use lib.ListN.{length, getD}
 use borrow.Author.Needs.{needs}
 use Rattle.laws.proofs.Lists.{byte-inside}
+use Rattle.model.specs.Readers.{Reader}
 use Rattle.words.specs.Signature.{variablesOf, tablesOf}
-use Rattle.read_model.specs.Groups.{codeOf, itemOf}
+use Rattle.read_model.specs.Groups.{Item, codeOf, itemOf}
 use Rattle.read_declarations.specs.Positions.{readAt}
 use Rattle.read_model.proofs.Outlining.{code-positive}
 use Rattle.read_declarations.proofs.Items.{item-too-many, item-refused, items-early}
@@ -21,142 +22,68 @@ Inv-loop group model start kinds rows columns offsets₀ c at₀ n₀ offsets at
 abbrev μ-loop : tie.MeasureT-loop
 μ-loop group model start kinds rows columns offsets₀ c at₀ n₀ offsets at n = length offsets₀ - n
 
-code-requires : tie.Need-code-requires Inv-loop μ-loop
-code-requires c κs = search needs
+-- a turn of the loop: the start behind it, and what reads an item
+abbrev Turn : Type 0
+Turn = tie.At-loop Inv-loop μ-loop
 
-loop-holds : tie.Need-loop-holds Inv-loop μ-loop
-loop-holds c =
-    let start = c .before .before .before .before .before .before in
-    no-offsets (codeOf (start .args .group))
-    (itemOf (variablesOf (start .args .kinds .now)) (tablesOf (start .args .rows .now) (start .args .columns .now)) (start .args .group))
-    (start .args .model .now) (start .args .start) (start .args .offsets .now)
+abbrev start : Turn → tie.Start Inv-loop μ-loop
+start c = c .before .before .before .before .before .before .before
 
-byte-at-requires : tie.Need-byte-at-requires Inv-loop μ-loop
-byte-at-requires c κs = search needs
+abbrev reader : (c : Turn) → Reader (Item (start c .args .group))
+reader c = itemOf (variablesOf (start c .args .kinds .now)) (tablesOf (start c .args .rows .now) (start c .args .columns .now)) (start c .args .group)
 
-same-length : tie.Need-same-length Inv-loop μ-loop
-same-length c = c .before .before .before .loop .inv .size
+size : (c : Turn) → length (c .loop .offsets) ≡ length (start c .args .offsets .now)
+size c = c .loop .inv .size
+
+-- an item is due, inside the model
+module _ (c : tie.Then1 Inv-loop μ-loop) where
+  abbrev turn : Turn
+  turn = c .before .before
+
+  due : getD (start turn .args .model .now) (turn .loop .at) 0 ≡ codeOf (start turn .args .group)
+  due = sym (c .before .byte-at .ensures) ∙ (c .if1 .taken ∙ turn .before .code .ensures)
+
+  positive : 0 < codeOf (start turn .args .group)
+  positive = code-positive (start turn .args .group)
+
+  inside : turn .loop .at < length (start turn .args .model .now)
+  inside = byte-inside (start turn .args .model .now) (turn .loop .at) (codeOf (start turn .args .group)) positive due
 
 returns : tie.Need-returns Inv-loop μ-loop
-returns c =
-    let start = c .before .before .before .before .before .before .before .before .before .before in
-    let turn = c .before .before .before .loop in
-    item-too-many (codeOf (start .args .group))
-    (itemOf (variablesOf (start .args .kinds .now)) (tablesOf (start .args .rows .now) (start .args .columns .now)) (start .args .group))
-    (start .args .model .now) (length (start .args .offsets .now)) (start .args .start) (turn .at) (turn .n) (turn .inv .so-far)
-    (code-positive (start .args .group))
-    (sym (c .before .before .byte-at .ensures) ∙ (c .before .if1 .taken ∙ c .before .before .before .before .code .ensures))
-    (omega (arith, c .if2 .taken, turn .inv .size))
+returns c = let t : Turn = search in item-too-many (t .loop .inv .so-far) (positive (search)) (due (search)) (omega (arith, c .if2 .taken, t .loop .inv .size))
+
+-- there is room for it
+room : (c : tie.Else2 Inv-loop μ-loop) → (let t = turn (c .before) in t .loop .n < length (start t .args .offsets .now))
+room c = let t : Turn = search in omega (arith, t .loop .inv .so-far .few, c .if2 .left, t .loop .inv .size)
 
 add-behind : tie.Need-add-behind Inv-loop μ-loop
-add-behind c =
-    let start = c .before .before .before .before .before .before .before .before .before .before in
-    record
-    { fits = omega (arith, start .good, byte-inside (start .args .model .now) (c .before .before .before .loop .at) (codeOf (start .args .group)) (code-positive (start .args .group)) (sym (c .before .before .byte-at .ensures) ∙ (c .before .if1 .taken ∙ c .before .before .before .before .code .ensures))) }
-
-item-requires : tie.Need-item-requires Inv-loop μ-loop
-item-requires c κs = search needs
-
-enum-known-end : tie.Need-enum-known-end Inv-loop μ-loop
-enum-known-end c = search needs
+add-behind c = let s : tie.Start Inv-loop μ-loop = search in record { fits = omega (arith, s .good, inside (search)) }
 
 mul-offsets : tie.Need-mul-offsets Inv-loop μ-loop
-mul-offsets c =
-    let turn = c .before .before .before .before .before .before .before .loop in
-    omega (
-      arith,
-      turn .inv .so-far .few,
-      c .before .before .before .before .if2 .left,
-      turn .inv .size,
-      c .before .before .before .before .before .before .before .before .before .before .before .before .before .before .good,
-    )
+mul-offsets c = let s : tie.Start Inv-loop μ-loop = search in omega (arith, room (search), s .good)
 
 slice-write-offsets : tie.Need-slice-write-offsets Inv-loop μ-loop
-slice-write-offsets c =
-    let turn = c .before .before .before .before .before .before .before .loop in
-    omega (arith, turn .inv .so-far .few, c .before .before .before .before .if2 .left, turn .inv .size)
+slice-write-offsets c = let t : Turn = search in omega (arith, room (search), t .loop .inv .size)
 
 add-n : tie.Need-add-n Inv-loop μ-loop
-add-n c =
-    omega (
-      arith,
-      c .before .before .before .before .before .before .before .loop .inv .so-far .few,
-      c .before .before .before .before .before .before .before .before .before .before .before .before .before .before .good,
-    )
-
-loop-less : tie.Need-loop-less Inv-loop μ-loop
-loop-less c =
-    let turn = c .before .before .before .before .before .before .before .loop in
-    omega (arith, turn .inv .so-far .few, c .before .before .before .before .if2 .left, turn .inv .size)
+add-n c = let s : tie.Start Inv-loop μ-loop = search in omega (arith, room (search), s .good)
 
 loop-again : tie.Need-loop-again Inv-loop μ-loop
 loop-again c =
-    let start = c .before .before .before .before .before .before .before .before .before .before .before .before .before .before in
-    let turn = c .before .before .before .before .before .before .before .loop in
-    offset-more (codeOf (start .args .group))
-    (itemOf (variablesOf (start .args .kinds .now)) (tablesOf (start .args .rows .now) (start .args .columns .now)) (start .args .group))
-    (start .args .model .now) (length (start .args .offsets .now)) (start .args .start) (turn .at) (turn .n) (turn .offsets) (turn .inv)
-    (code-positive (start .args .group))
-    (
-    sym (c .before .before .before .before .before .before .byte-at .ensures)
-    ∙ (c .before .before .before .before .before .if1 .taken ∙ c .before .before .before .before .before .before .before .before .code .ensures)
-    )
-    (omega (arith, turn .inv .so-far .few, c .before .before .before .before .if2 .left, turn .inv .size))
-    (
-    position-read (
-    readAt (itemOf (variablesOf (start .args .kinds .now)) (tablesOf (start .args .rows .now) (start .args .columns .now)) (start .args .group))
-    (turn .at + 1) (start .args .model .now)
-    ) (sym (c .before .end .given .1) ∙ c .before .before .before .item .ensures) .1
-    )
-
-enum-known-t : tie.Need-enum-known-t Inv-loop μ-loop
-enum-known-t c = search needs
-
-same-length-2 : tie.Need-same-length-2 Inv-loop μ-loop
-same-length-2 c = c .before .before .before .before .before .before .before .loop .inv .size
+    let t : Turn = search in
+    offset-more (t .loop .inv) (positive (search)) (due (search)) (room (search))
+    (position-read (readAt (reader t) (t .loop .at + 1) (start t .args .model .now)) (sym (c .before .end .given .1) ∙ c .before .before .before .item .ensures) .1)
 
 returns-2 : tie.Need-returns-2 Inv-loop μ-loop
 returns-2 c =
-    let start = c .before .before .before .before .before .before .before .before .before .before .before .before .before .before in
-    let turn = c .before .before .before .before .before .before .before .loop in
-    item-refused (codeOf (start .args .group))
-    (itemOf (variablesOf (start .args .kinds .now)) (tablesOf (start .args .rows .now) (start .args .columns .now)) (start .args .group))
-    (start .args .model .now) (length (start .args .offsets .now)) (start .args .start) (turn .at) (turn .n) (turn .inv .so-far)
-    (code-positive (start .args .group))
-    (
-    sym (c .before .before .before .before .before .before .byte-at .ensures)
-    ∙ (c .before .before .before .before .before .if1 .taken ∙ c .before .before .before .before .before .before .before .before .code .ensures)
-    )
-    (omega (arith, turn .inv .so-far .few, c .before .before .before .before .if2 .left, turn .inv .size))
-    (
-    position-refused (
-    readAt (itemOf (variablesOf (start .args .kinds .now)) (tablesOf (start .args .rows .now) (start .args .columns .now)) (start .args .group))
-    (turn .at + 1) (start .args .model .now)
-    ) (sym (c .before .t .given .1) ∙ c .before .before .before .item .ensures)
-    )
-
-same-length-3 : tie.Need-same-length-3 Inv-loop μ-loop
-same-length-3 c = c .before .before .before .loop .inv .size
+    let t : Turn = search in
+    item-refused (t .loop .inv .so-far) (positive (search)) (due (search)) (room (search))
+    (position-refused (readAt (reader t) (t .loop .at + 1) (start t .args .model .now)) (sym (c .before .t .given .1) ∙ c .before .before .before .item .ensures))
 
 returns-3 : tie.Need-returns-3 Inv-loop μ-loop
 returns-3 c =
-    let start = c .before .before .before .before .before .before .before .before .before .before in
-    let turn = c .before .before .before .loop in
-    offsets-end (codeOf (start .args .group))
-    (itemOf (variablesOf (start .args .kinds .now)) (tablesOf (start .args .rows .now) (start .args .columns .now)) (start .args .group))
-    (start .args .model .now) (length (start .args .offsets .now)) (start .args .start) (turn .at) (turn .n) (turn .offsets) (turn .inv)
-    (c .if3 .taken) (λ q. c .before .if1 .left (c .before .before .byte-at .ensures ∙ (q ∙ sym (c .before .before .before .before .code .ensures))))
-
-same-length-4 : tie.Need-same-length-4 Inv-loop μ-loop
-same-length-4 c = c .before .before .before .loop .inv .size
-
-returns-4 : tie.Need-returns-4 Inv-loop μ-loop
-returns-4 c =
-    let start = c .before .before .before .before .before .before .before .before .before .before in
-    let turn = c .before .before .before .loop in
-    items-early (codeOf (start .args .group))
-    (itemOf (variablesOf (start .args .kinds .now)) (tablesOf (start .args .rows .now) (start .args .columns .now)) (start .args .group))
-    (start .args .model .now) (length (start .args .offsets .now)) (start .args .start) (turn .at) (turn .n) (turn .inv .so-far) (c .if3 .left)
+    let t : Turn = search in
+    offsets-end (t .loop .inv) (c .if3 .taken) (λ q. c .before .if1 .left (c .before .before .byte-at .ensures ∙ (q ∙ sym (t .before .code .ensures))))
 
 pub items-spec : {M : Type 1} → statement M
 items-spec =
@@ -164,23 +91,23 @@ items-spec =
     (tie.spec
     Inv-loop
     μ-loop
-    code-requires
-    loop-holds
-    byte-at-requires
-    same-length
+    (λ c κs. search needs)
+    (λ c. no-offsets)
+    (λ c κs. search needs)
+    (λ c. size (search))
     returns
     add-behind
-    item-requires
-    enum-known-end
+    (λ c κs. search needs)
+    (λ c. search needs)
     mul-offsets
     slice-write-offsets
     add-n
-    loop-less
+    (λ c. omega (arith, room (search)))
     loop-again
-    enum-known-t
-    same-length-2
+    (λ c. search needs)
+    (λ c. size (search))
     returns-2
-    same-length-3
+    (λ c. size (search))
     returns-3
-    same-length-4
-    returns-4)
+    (λ c. size (search))
+    (λ c. let t : Turn = search in items-early (t .loop .inv .so-far) (c .if3 .left)))

@@ -1,127 +1,72 @@
 -- `search_expansion::children::expand` meets its contract. The invariant: the first t transitions are tried, and the definition goes on from there.
 use borrow.Author.Needs.{needs}
-use Prim.Native.Nat.{_-_}
+use Prim.Native.Nat.{_-_, _<_}
 use native.Mathlib.Omega.{arith}
 use mathlib.Core.Path.{_∙_}
-use Rattle.search_expansion.proofs.TrialLoop.{Expanding, transitions-in, few-in, expanding-first, expanding-more, expanded-all, expanded-before, expanded-at}
+use Rattle.steps.specs.InBytes.{systemIn}
+use Rattle.steps.proofs.Promises.{few-transitions}
+use Rattle.search_expansion.proofs.TrialLoop.{Expanding, expanding-first, expanding-more, expanded-all, expanded-before, expanded-at}
 use Rattle.search_expansion.proofs.children.expand.Statement.{statement}
 use Rattle.search_expansion.proofs.children.expand.Tie as tie
 
 abbrev Inv-loop : tie.InvT-loop
-Inv-loop layer₀ model outline w n found best node i transitions count₀ cut₀ t₀ layer count cut t = Expanding model outline w n i found best node layer₀ layer count cut t
+Inv-loop layer₀ model outline w n found best node i all count₀ cut₀ t₀ layer count cut t = Expanding model outline w n i found best node layer₀ layer count cut t
 
 abbrev μ-loop : tie.MeasureT-loop
-μ-loop layer₀ model outline w n found best node i transitions count₀ cut₀ t₀ layer count cut t = transitions - t
+μ-loop layer₀ model outline w n found best node i all count₀ cut₀ t₀ layer count cut t = all - t
 
-word-at-requires : tie.Need-word-at-requires Inv-loop μ-loop
-word-at-requires c κs = search needs
+abbrev begun : tie.After-transitions Inv-loop μ-loop → tie.Start Inv-loop μ-loop
+begun c = c .before .before .before .before .before
+
+-- the turn in which a transition is tried
+abbrev turn : tie.After-try-transition Inv-loop μ-loop → tie.In-loop Inv-loop μ-loop
+turn c = c .before .before
+
+-- transition t is one of the model's
+one-left : (c : tie.In-loop Inv-loop μ-loop) → c .before .loop .t < systemIn (begun (c .before .before) .args .model .now) .transitions
+one-left c = omega (arith, c .loop-test .taken, c .before .before .transitions .ensures)
 
 loop-holds : tie.Need-loop-holds Inv-loop μ-loop
-loop-holds c =
-    let start = c .before .before .before .before .before in
-    expanding-first _ _ _ _ _ _ _ _ _ (start .pre .0)
+loop-holds c = expanding-first _ _ _ _ _ _ _ _ _ (begun c .pre .0)
 
 try-transition-requires : tie.Need-try-transition-requires Inv-loop μ-loop
 try-transition-requires c κs =
-    let start = c .before .before .before .before .before .before .before .before in (
-      c .before .before .loop .inv .held,
-      (
-        start .pre .1 .0,
-        (
-          start .pre .1 .1 .0,
-          (
-            start .pre .1 .1 .1 .0,
-            (
-              start .pre .1 .1 .1 .1,
-              omega (
-                arith,
-                c .before .loop-test .taken,
-                c .before .before .before .word-at .ensures,
-                transitions-in (start .pre .1 .0),
-                few-in (start .pre .1 .0),
-              ),
-            ),
-          ),
-        ),
-      ),
+    let here = c .before in
+    let pre = begun (here .before .before) .pre in (
+      here .before .loop .inv .held,
+      (pre .1 .0, (pre .1 .1 .0, (pre .1 .1 .1 .0, (pre .1 .1 .1 .1, omega (arith, one-left here, few-transitions (pre .1 .0)))))),
     )
-
-either-requires : tie.Need-either-requires Inv-loop μ-loop
-either-requires c κs = search needs
-
-enum-told : tie.Need-enum-told Inv-loop μ-loop
-enum-told c = search needs
-
-add-t : tie.Need-add-t Inv-loop μ-loop
-add-t c = search needs
-
-loop-less : tie.Need-loop-less Inv-loop μ-loop
-loop-less c = search needs
 
 loop-again : tie.Need-loop-again Inv-loop μ-loop
 loop-again c =
-    let start = c .before .before .before .before .before .before .before .before .before .before .before .before .before .before in
-    let try-transition = c .before .before .before .before .before .try-transition in
-    expanding-more _ _ _ _ _ _ _ _ _ (c .before .before .before .before .before .before .before .before .loop .inv)
-    (
-    omega (
-      arith,
-      c .before .before .before .before .before .before .before .loop-test .taken,
-      c .before .before .before .before .before .before .before .before .before .word-at .ensures,
-      transitions-in (start .pre .1 .0),
-    )
-    )
-    (try-transition .ensures) (c .before .before .either .ensures) (try-transition .kept .0) (c .enum-told .given .1)
-
-enum-known-trial : tie.Need-enum-known-trial Inv-loop μ-loop
-enum-known-trial c = search needs
+    let tried = c .before .before .before .before .before in
+    expanding-more _ _ _ _ _ _ _ _ _ (turn tried .before .loop .inv) (one-left (turn tried)) (tried .try-transition .ensures) (c .before .before .either .ensures)
+    (tried .try-transition .kept .0) (c .enum-told .given .1)
 
 same-length : tie.Need-same-length Inv-loop μ-loop
-same-length c = c .before .before .before .before .before .before .try-transition .kept .0 ∙ c .before .before .before .before .before .before .before .before .before .loop .inv .long
+same-length c =
+    let tried = c .before .before .before .before .before .before in
+    tried .try-transition .kept .0 ∙ turn tried .before .loop .inv .long
 
 returns : tie.Need-returns Inv-loop μ-loop
 returns c =
-    let start = c .before .before .before .before .before .before .before .before .before .before .before .before .before .before .before in
-    expanded-before _ _ _ _ _ _ _ _ _ (c .before .before .before .before .before .before .before .before .before .loop .inv)
-    (
-    omega (
-      arith,
-      c .before .before .before .before .before .before .before .before .loop-test .taken,
-      c .before .before .before .before .before .before .before .before .before .before .word-at .ensures,
-      transitions-in (start .pre .1 .0),
-    )
-    )
-    (c .before .before .before .before .before .before .try-transition .ensures) (c .before .before .before .either .ensures)
+    let tried = c .before .before .before .before .before .before in
+    expanded-before _ _ _ _ _ _ _ _ _ (turn tried .before .loop .inv) (one-left (turn tried)) (tried .try-transition .ensures) (c .before .before .before .either .ensures)
     (c .before .trial .given .1)
 
-enum-known-trial-2 : tie.Need-enum-known-trial-2 Inv-loop μ-loop
-enum-known-trial-2 c = search needs
-
 same-length-2 : tie.Need-same-length-2 Inv-loop μ-loop
-same-length-2 c = c .before .before .before .before .before .before .try-transition .kept .0 ∙ c .before .before .before .before .before .before .before .before .before .loop .inv .long
+same-length-2 c =
+    let tried = c .before .before .before .before .before .before in
+    tried .try-transition .kept .0 ∙ turn tried .before .loop .inv .long
 
 returns-2 : tie.Need-returns-2 Inv-loop μ-loop
 returns-2 c =
-    let start = c .before .before .before .before .before .before .before .before .before .before .before .before .before .before .before in
-    expanded-at _ _ _ _ _ _ _ _ _ (c .before .before .before .before .before .before .before .before .before .loop .inv)
-    (
-    omega (
-      arith,
-      c .before .before .before .before .before .before .before .before .loop-test .taken,
-      c .before .before .before .before .before .before .before .before .before .before .word-at .ensures,
-      transitions-in (start .pre .1 .0),
-    )
-    )
-    (c .before .before .before .before .before .before .try-transition .ensures) (c .before .before .before .either .ensures)
+    let tried = c .before .before .before .before .before .before in
+    expanded-at _ _ _ _ _ _ _ _ _ (turn tried .before .loop .inv) (one-left (turn tried)) (tried .try-transition .ensures) (c .before .before .before .either .ensures)
     (c .before .trial2 .given .1)
 
-same-length-3 : tie.Need-same-length-3 Inv-loop μ-loop
-same-length-3 c = c .before .loop .inv .long
-
 returns-3 : tie.Need-returns-3 Inv-loop μ-loop
-returns-3 c =
-    let start = c .before .before .before .before .before .before .before in
-    expanded-all _ _ _ _ _ _ _ _ _ (c .before .loop .inv) (omega (arith, c .loop-test .left, c .before .before .word-at .ensures, transitions-in (start .pre .1 .0)))
+returns-3 c = expanded-all _ _ _ _ _ _ _ _ _ (c .before .loop .inv) (omega (arith, c .loop-test .left, c .before .before .transitions .ensures))
 
 pub expand-spec : {M : Type 1} → statement M
 expand-spec =
@@ -129,19 +74,19 @@ expand-spec =
     (tie.spec
     Inv-loop
     μ-loop
-    word-at-requires
+    (λ c κs. search needs)
     loop-holds
     try-transition-requires
-    either-requires
-    enum-told
-    add-t
-    loop-less
+    (λ c κs. search needs)
+    (λ c. search needs)
+    (λ c. search needs)
+    (λ c. search needs)
     loop-again
-    enum-known-trial
+    (λ c. search needs)
     same-length
     returns
-    enum-known-trial-2
+    (λ c. search needs)
     same-length-2
     returns-2
-    same-length-3
+    (λ c. c .before .loop .inv .long)
     returns-3)

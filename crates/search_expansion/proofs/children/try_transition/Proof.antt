@@ -5,60 +5,48 @@ use borrow.Author.Needs.{needs}
 use Rattle.search_expansion.proofs.children.try_transition.Statement.{statement}
 use Rattle.search_expansion.proofs.children.try_transition.Tie as tie
 
-enum-told : tie.Need-enum-told
-enum-told c = search needs
+abbrev begun : tie.After-step → tie.Start
+begun c = c .before .before .before .before .before .before
 
 bounded-requires : tie.Need-bounded-requires
 bounded-requires c κs =
-    let start = c .before .before .before .before .before .before .before .before .before .before .before .before in (
-      start .pre .0,
+    let here = c .before .before .before .before .before .before in
+    let pre = begun here .pre in (
+      pre .0,
       (
-        start .pre .1 .0,
+        pre .1 .0,
         (
-          start .pre .1 .1 .0,
-          (
-            start .pre .1 .1 .1 .0,
-            (
-              start .pre .1 .1 .1 .1 .0,
-              (
-                start .pre .1 .1 .1 .1 .1,
-                (
-                  moved-small (c .before .before .before .before .before .before .step .ensures) (c .before .before .before .c .given .1),
-                  search needs,
-                ),
-              ),
-            ),
-          ),
+          pre .1 .1 .0,
+          (pre .1 .1 .1 .0, (pre .1 .1 .1 .1 .0, (pre .1 .1 .1 .1 .1, (moved-small (here .step .ensures) (c .before .before .before .c .given .1), search needs)))),
         ),
       ),
     )
 
 combine-requires : tie.Need-combine-requires
 combine-requires c κs =
-    let start = c .before .before .before .before .before .before .before .before .before .before .before in
-    (start .pre .1 .0, omega (arith, start .pre .1 .1 .1 .0, after-small (c .before .before .before .before .before .step .ensures) (c .before .before .c2 .given .1)))
+    let here = c .before .before .before .before .before in
+    (begun here .pre .1 .0, omega (arith, begun here .pre .1 .1 .1 .0, after-small (here .step .ensures) (c .before .before .c2 .given .1)))
 
 returns : tie.Need-returns
 returns c =
-    let start = c .before .before .before .before .before .before .before .before .before in
-    tried-blocked (start .pre .1 .0) _ _ _ _ _ _ _ _ (c .before .before .before .step .ensures) (c .enum-told .given .1) (start .pre .0)
+    let here = c .before .before .before in
+    tried-blocked (begun here .pre .1 .0) _ _ _ _ _ _ _ _ (here .step .ensures) (c .enum-told .given .1) (begun here .pre .0)
 
 returns-2 : tie.Need-returns-2
 returns-2 c =
-    let start = c .before .before .before .before .before .before .before .before .before .before .before .before .before .before .before .before in
-    tried-moved (start .pre .1 .0) _ _ _ _ _ _ _ _ (c .before .before .before .before .before .before .before .before .before .before .step .ensures)
-    _ (c .before .before .before .before .before .before .before .c .given .1) (c .before .before .before .bounded .ensures)
+    let here = c .before .before .before .before .before .before .before .before .before .before in
+    tried-moved (begun here .pre .1 .0) _ _ _ _ _ _ _ _ (here .step .ensures) _ (c .before .before .before .before .before .before .before .c .given .1) (c .before .before .before .bounded .ensures)
 
 returns-3 : tie.Need-returns-3
 returns-3 c =
-    let start = c .before .before .before .before .before .before .before .before .before .before in
-    tried-before (start .pre .1 .0) _ _ _ _ _ _ _ _ (c .before .before .before .before .step .ensures) (c .before .e .given .1) (start .pre .0)
+    let here = c .before .before .before .before in
+    tried-before (begun here .pre .1 .0) _ _ _ _ _ _ _ _ (here .step .ensures) (c .before .e .given .1) (begun here .pre .0)
 
 returns-4 : tie.Need-returns-4
 returns-4 c =
-    let start = c .before .before .before .before .before .before .before .before .before .before .before .before in
-    tried-after (start .pre .1 .0) _ _ _ _ _ _ _ _ (c .before .before .before .before .before .before .step .ensures)
-    (c .before .before .before .c2 .given .1) (start .pre .1 .1 .1 .1 .1) (c .combine .ensures) (start .pre .0)
+    let here = c .before .before .before .before .before .before in
+    let pre = begun here .pre in
+    tried-after (pre .1 .0) _ _ _ _ _ _ _ _ (here .step .ensures) (c .before .before .before .c2 .given .1) (pre .1 .1 .1 .1 .1) (c .combine .ensures) (pre .0)
 
 pub try-transition-spec : {M : Type 1} → statement M
 try-transition-spec =
@@ -66,7 +54,7 @@ try-transition-spec =
     (tie.spec
     (λ c. search needs)
     (λ c κs. search needs)
-    enum-told
+    (λ c. search needs)
     (λ c. search needs)
     (λ c. search needs)
     bounded-requires

@@ -1,5 +1,5 @@
--- `search_report::figures::fields` meets its contract, field by field.
-use Rattle.search_report.proofs.Reporting.{in-numbers}
+-- `search_report::figures::fields` gives every field its number.
+use Rattle.search_report.proofs.Numbers.{numbers-told}
 use borrow.Author.Needs.{needs}
 use Rattle.search_report.proofs.figures.fields.Statement.{statement}
 use Rattle.search_report.proofs.figures.fields.Tie as tie
@@ -14,7 +14,7 @@ flag-number-requires : tie.Need-flag-number-requires
 flag-number-requires c κs = search needs
 
 returns : tie.Need-returns
-returns c = in-numbers _ _ _ _ (c .before .before .refused-number .ensures) (c .before .outcome-number .ensures) (c .flag-number .ensures)
+returns c = numbers-told (c .before .before .before .args .answer) (c .before .before .refused-number .ensures) (c .before .outcome-number .ensures) (c .flag-number .ensures)
 
 pub fields-spec : {M : Type 1} → statement M
 fields-spec =

@@ -1,6 +1,7 @@
--- `solver::entry::search_up_to` meets its contract: the tests in their order, then the search.
+-- `solver::entry::search_up_to` meets its contract: the tests in their order, then the search. Each test's fact stands at its place.
 use mathlib.Core.Path.{_≡_, sym, _∙_}
 use mathlib.Core.Bool.{true}
+use Prim.Native.Nat.{_≤_, _<_}
 use native.Mathlib.Omega.{arith}
 use lib.ListN.{length}
 use Rattle.model.specs.Commands.{model}
@@ -12,59 +13,97 @@ use borrow.Author.Needs.{needs}
 use Rattle.solver.proofs.entry.search_up_to.Statement.{statement}
 use Rattle.solver.proofs.entry.search_up_to.Tie as tie
 
+-- the start of a run whose model is short enough
+abbrev short : tie.Else1 → tie.Start
+short c = c .before .before .before .before
+
+-- the settings are within their ranges
+abbrev start : tie.Then2 → tie.Start
+start c = short (c .before .before)
+
+fit : (c : tie.Then2) → settingsFit (settings (start c .args .width) (start c .args .limit) 0) ≡ true
+fit c = sym (c .before .settings-fit .ensures) ∙ c .if2 .taken
+
+is-width : (c : tie.Then2) → (0 < start c .args .width) × (start c .args .width ≤ 4096)
+is-width c = narrow (start c .args .width) (width-fits (start c .args .width) (start c .args .limit) 0 (fit c))
+
+few-steps : (c : tie.Then2) → start c .args .limit ≤ 256
+few-steps c = some-steps (start c .args .width) (start c .args .limit) 0 (fit c)
+
+-- enough is lent
+enough : (c : tie.Then3) → let a = start (c .before .before) .args in lentFits (settings (a .width) (a .limit) 0) (lentOf (length (a .plan .now)) (length (a .words .now))) ≡ true
+enough c = sym (c .before .lent-fits .ensures) ∙ c .if3 .taken
+
+-- the model is read
+abbrev reading : tie.Then4 → tie.Then3
+reading c = c .before .before .before .before
+
+read : (c : tie.Then4) → 0 ≡ refusalOf (model (start (reading c .before .before) .args .model .now))
+read c = sym (c .if4 .taken) ∙ c .before .before .read-model .ensures .0
+
+abbrev searching : tie.After-search-model → tie.Then4
+searching c = c .before .before .before .before
+
 returns : tie.Need-returns
-returns c = let a = c .before .before .before .before .before .args in refused-says _ 1 _ _ _ (run-long (a .most) (a .model .now) (a .plan .now) (a .words .now) (a .width) (a .length) (a .budget) (c .before .if1 .taken)) (c .refusal .ensures)
+returns c =
+    let a = c .before .before .before .before .before .args in
+    refused-says (a .most) (a .model .now) (a .plan .now) (a .words .now) (a .width) (a .limit) (a .budget) 1 _
+    (run-long (a .most) (a .model .now) (a .plan .now) (a .words .now) (a .width) (a .limit) (a .budget) (c .before .if1 .taken)) (c .refusal .ensures)
 
 lent-fits-requires : tie.Need-lent-fits-requires
-lent-fits-requires c κs =
-    let a = c .before .before .before .before .before .before .args in
-    let fit : settingsFit (settings (a .width) (a .length) 0) ≡ true = sym (c .before .settings-fit .ensures) ∙ c .if2 .taken in
-    (narrow (a .width) (width-fits (a .width) (a .length) 0 fit) .1, some-steps (a .width) (a .length) 0 fit)
+lent-fits-requires c κs = (is-width c .1, few-steps c)
 
 search-model-requires : tie.Need-search-model-requires
 search-model-requires c κs =
-    let a = c .before .before .before .before .before .before .before .before .before .before .before .before .before .before .before .args in
-    let fit : settingsFit (settings (a .width) (a .length) 0) ≡ true = sym (c .before .before .before .before .before .before .before .before .before .before .settings-fit .ensures) ∙ c .before .before .before .before .before .before .before .before .before .if2 .taken in
-    let two = width-fits (a .width) (a .length) 0 fit in
-    let enough : lentFits (settings (a .width) (a .length) 0) (lentOf (length (a .plan .now)) (length (a .words .now))) ≡ true = sym (c .before .before .before .before .before .before .before .before .lent-fits .ensures) ∙ c .before .before .before .before .before .before .before .if3 .taken in
-    let both = lent-both (a .width) (a .length) (length (a .plan .now)) (length (a .words .now)) enough in
-    let read = c .before .before .before .before .before .read-model .ensures in (
-      record { outlines = read .1 .0 (c .before .before .before .if4 .taken); long = omega (arith, read .1 .1) },
-      (record { some-width = narrow (a .width) two .0; narrow = narrow (a .width) two .1; few-steps = some-steps (a .width) (a .length) 0 fit; plan-room = both .0; words-room = both .1 }, (two, search needs)),
+    let read = c .before .before .before in
+    let room = reading read in
+    let tests = room .before .before in
+    let a = start tests .args in
+    let both = lent-both (a .width) (a .limit) (length (a .plan .now)) (length (a .words .now)) (enough room) in
+    let outlined = read .before .before .read-model .ensures in (
+      record { outlines = outlined .1 .0 (read .if4 .taken); long = omega (arith, outlined .1 .1) },
+      (
+        record { some-width = is-width tests .0; narrow = is-width tests .1; few-steps = few-steps tests; plan-room = both .0; words-room = both .1 },
+        (width-fits (a .width) (a .limit) 0 (fit tests), search needs),
+      ),
     )
 
 returns-2 : tie.Need-returns-2
 returns-2 c =
-    let a = c .before .before .before .before .before .before .before .before .before .before .before .before .before .before .before .before .before .before .before .before .args in
-    let fit : settingsFit (settings (a .width) (a .length) 0) ≡ true = sym (c .before .before .before .before .before .before .before .before .before .before .before .before .before .before .before .settings-fit .ensures) ∙ c .before .before .before .before .before .before .before .before .before .before .before .before .before .before .if2 .taken in
-    let enough : lentFits (settings (a .width) (a .length) 0) (lentOf (length (a .plan .now)) (length (a .words .now))) ≡ true = sym (c .before .before .before .before .before .before .before .before .before .before .before .before .before .lent-fits .ensures) ∙ c .before .before .before .before .before .before .before .before .before .before .before .before .if3 .taken in
-    let none : 0 ≡ refusalOf (model (a .model .now)) = sym (c .before .before .before .before .before .before .before .before .if4 .taken) ∙ c .before .before .before .before .before .before .before .before .before .before .read-model .ensures .0 in
-    run-says (a .most) (a .model .now) (a .plan .now) (a .words .now) (a .width) (a .length) (a .budget)
-    (c .before .before .before .before .before .before .before .before .before .before .before .before .before .before .before .before .if1 .left) fit
-    enough none _ _ _ (c .before .before .before .before .search-model .ensures)
+    let found = c .before .before .before .before in
+    let room = reading (searching found) in
+    let tests = room .before .before in
+    let a = start tests .args in
+    run-says (a .most) (a .model .now) (a .plan .now) (a .words .now) (a .width) (a .limit) (a .budget) (tests .before .before .if1 .left) (fit tests) (enough room)
+    (read (searching found)) _ _ _ (found .search-model .ensures)
 
 returns-3 : tie.Need-returns-3
 returns-3 c =
-    let a = c .before .before .before .before .before .before .before .before .before .before .before .before .before .args in
-    let fit : settingsFit (settings (a .width) (a .length) 0) ≡ true = sym (c .before .before .before .before .before .before .before .before .settings-fit .ensures) ∙ c .before .before .before .before .before .before .before .if2 .taken in
-    let enough : lentFits (settings (a .width) (a .length) 0) (lentOf (length (a .plan .now)) (length (a .words .now))) ≡ true = sym (c .before .before .before .before .before .before .lent-fits .ensures) ∙ c .before .before .before .before .before .if3 .taken in
-    refused-says _ _ _ _ _ (
-    run-refused (a .most) (a .model .now) (a .plan .now) (a .words .now) (a .width) (a .length) (a .budget)
-    (c .before .before .before .before .before .before .before .before .before .if1 .left) fit enough _
-    (c .before .before .before .read-model .ensures .0) (omega (arith, c .before .if4 .left))
-    ) (c .refusal2 .ensures)
+    let read = c .before .before .before in
+    let room = read .before .before in
+    let tests = room .before .before in
+    let a = start tests .args in
+    refused-says (a .most) (a .model .now) (a .plan .now) (a .words .now) (a .width) (a .limit) (a .budget) _ _
+    (run-refused (a .most) (a .model .now) (a .plan .now) (a .words .now) (a .width) (a .limit) (a .budget) (tests .before .before .if1 .left) (fit tests) (enough room)
+    _ (read .read-model .ensures .0) (omega (arith, c .before .if4 .left)))
+    (c .refusal2 .ensures)
 
 returns-4 : tie.Need-returns-4
 returns-4 c =
-    let a = c .before .before .before .before .before .before .before .before .before .args in
-    let fit : settingsFit (settings (a .width) (a .length) 0) ≡ true = sym (c .before .before .before .before .settings-fit .ensures) ∙ c .before .before .before .if2 .taken in
-    refused-says _ 3 _ _ _ (
-    run-unlent (a .most) (a .model .now) (a .plan .now) (a .words .now) (a .width) (a .length) (a .budget)
-    (c .before .before .before .before .before .if1 .left) fit (sym (c .before .before .lent-fits .ensures) ∙ c .before .if3 .left)
-    ) (c .refusal3 .ensures)
+    let tests = c .before .before .before in
+    let a = start tests .args in
+    refused-says (a .most) (a .model .now) (a .plan .now) (a .words .now) (a .width) (a .limit) (a .budget) 3 _
+    (run-unlent (a .most) (a .model .now) (a .plan .now) (a .words .now) (a .width) (a .limit) (a .budget) (tests .before .before .if1 .left) (fit tests)
+    (sym (c .before .before .lent-fits .ensures) ∙ c .before .if3 .left))
+    (c .refusal3 .ensures)
 
 returns-5 : tie.Need-returns-5
-returns-5 c = let a = c .before .before .before .before .before .before .before .args in refused-says _ 2 _ _ _ (run-unfit (a .most) (a .model .now) (a .plan .now) (a .words .now) (a .width) (a .length) (a .budget) (c .before .before .before .if1 .left) (sym (c .before .before .settings-fit .ensures) ∙ c .before .if2 .left)) (c .refusal4 .ensures)
+returns-5 c =
+    let tested = c .before .before in
+    let a = short (tested .before) .args in
+    refused-says (a .most) (a .model .now) (a .plan .now) (a .words .now) (a .width) (a .limit) (a .budget) 2 _
+    (run-unfit (a .most) (a .model .now) (a .plan .now) (a .words .now) (a .width) (a .limit) (a .budget) (tested .before .if1 .left) (sym (tested .settings-fit .ensures) ∙ c .before .if2 .left))
+    (c .refusal4 .ensures)
 
 pub search-up-to-spec : {M : Type 1} → statement M
 search-up-to-spec =

@@ -1,11 +1,12 @@
 -- `steps::bounds::bound` meets its contract. The invariant: h is the greatest of 0 and the bounds passed.
-use Rattle.steps.proofs.Signs.{range-fits}
-use Rattle.words.proofs.Integers.{back}
--- `steps::bounds::bound` meets its contract. The invariant: h is the greatest of 0 and the bounds passed.
-use Rattle.steps.proofs.Trials.{Raising, bound-inside, raising-first, raising-more, raising-troubles, raising-last, value-within}
+use Prim.Native.Nat.{_-_, _<_}
 use native.Mathlib.Omega.{arith}
-use Prim.Native.Nat.{_-_}
 use borrow.Author.Needs.{needs}
+use lib.ListN.{length}
+use Rattle.words.proofs.Integers.{back}
+use Rattle.outline.specs.Outline.{modelOf}
+use Rattle.steps.proofs.Signs.{range-fits}
+use Rattle.steps.proofs.Trials.{Raising, BoundAt, bound-at, raising-first, raising-more, raising-troubles, raising-last, value-within}
 use Rattle.steps.proofs.bounds.bound.Statement.{statement}
 use Rattle.steps.proofs.bounds.bound.Tie as tie
 
@@ -15,78 +16,38 @@ Inv-loop model outline state count h₀ k₀ h k = Raising model state k h
 abbrev μ-loop : tie.MeasureT-loop
 μ-loop model outline state count h₀ k₀ h k = count - k
 
-word-at-requires : tie.Need-word-at-requires Inv-loop μ-loop
-word-at-requires c κs = search needs
+abbrev begun : tie.After-word-at Inv-loop μ-loop → tie.Start Inv-loop μ-loop
+begun c = c .before .before .before .before
 
-loop-holds : tie.Need-loop-holds Inv-loop μ-loop
-loop-holds c = raising-first _ _ (c .before .before .before .before .pre) _
+-- there is a bound k
+more : (c : tie.In-loop Inv-loop μ-loop) → c .before .loop .k < length (modelOf (begun (c .before .before) .args .model .now) .bounds)
+more c = omega (arith, c .loop-test .taken, c .before .before .word-at .ensures, begun (c .before .before) .pre .outlines .bound-count)
+
+-- it stands where the outline says
+item : (c : tie.After-word-at2 Inv-loop μ-loop) → BoundAt (begun (c .before .before .before) .args .model .now) (c .before .before .loop .k) (c .word-at2 .result)
+item c = bound-at (begun (c .before .before .before) .pre) (more (c .before)) (c .word-at2 .ensures)
 
 add-word-at : tie.Need-add-word-at Inv-loop μ-loop
-add-word-at c =
-    let start = c .before .before .before .before .before .before in
-    record { fits = omega (arith, c .loop-test .taken, c .before .before .word-at .ensures, start .pre .outlines .bound-count, start .pre .outlines .few-bounds) }
-
-word-at-requires-2 : tie.Need-word-at-requires-2 Inv-loop μ-loop
-word-at-requires-2 c κs = search needs
+add-word-at c = record { fits = omega (arith, more c, begun (c .before .before) .pre .outlines .few-bounds) }
 
 number-at-requires : tie.Need-number-at-requires Inv-loop μ-loop
-number-at-requires c κs =
-    let start = c .before .before .before .before .before .before .before in (
-      start .pre,
-      bound-inside _ _ (start .pre) _ _
-          (omega (arith, c .before .loop-test .taken, c .before .before .before .word-at .ensures, start .pre .outlines .bound-count))
-          (c .word-at2 .ensures),
-    )
-
-enum-known-z : tie.Need-enum-known-z Inv-loop μ-loop
-enum-known-z c = search needs
-
-raise-requires : tie.Need-raise-requires Inv-loop μ-loop
-raise-requires c κs = search needs
-
-add-k : tie.Need-add-k Inv-loop μ-loop
-add-k c = search needs
-
-loop-less : tie.Need-loop-less Inv-loop μ-loop
-loop-less c = search needs
+number-at-requires c κs = (begun (c .before .before .before) .pre, item c .inside)
 
 loop-again : tie.Need-loop-again Inv-loop μ-loop
-loop-again c = rw (c .raise .ensures, back (range-fits (value-within _ (c .before .before .z .given .1) (c .before .before .before .before .number-at .ensures .1) .0)))
-    (
-    raising-more _ _ (c .before .before .before .before .before .before .before .before .before .before .before .before .pre) _ _ _
-    (c .before .before .before .before .before .before .before .loop .inv) (
-    omega (
-      arith,
-      c .before .before .before .before .before .before .loop-test .taken,
-      c .before .before .before .before .before .before .before .before .word-at .ensures,
-      c .before .before .before .before .before .before .before .before .before .before .before .before .pre .outlines .bound-count,
-    )
-    ) _ (c .before .before .before .before .before .word-at2 .ensures) _ (c .before .before .before .before .number-at .ensures .0)
-    (c .before .before .z .given .1)
-    )
-
-enum-known-t : tie.Need-enum-known-t Inv-loop μ-loop
-enum-known-t c = search needs
+loop-again c =
+    let here = c .before .before .before .before .before in
+    let number = c .before .before .before .before .number-at in
+    rw (c .raise .ensures, back (range-fits (value-within _ (c .before .before .z .given .1) (number .ensures .1) .0)))
+    (raising-more _ _ _ _ (here .before .before .loop .inv) (item here) _ (number .ensures .0) (c .before .before .z .given .1))
 
 returns : tie.Need-returns Inv-loop μ-loop
 returns c =
-    let start = c .before .before .before .before .before .before .before .before .before .before .before in
-    raising-troubles _ _ (start .pre) _ _ _ (c .before .before .before .before .before .before .loop .inv)
-    (
-    omega (
-      arith,
-      c .before .before .before .before .before .loop-test .taken,
-      c .before .before .before .before .before .before .before .word-at .ensures,
-      start .pre .outlines .bound-count,
-    )
-    )
-    _ (c .before .before .before .before .word-at2 .ensures) _ (c .before .before .before .number-at .ensures .0) (c .before .t .given .1)
+    let here = c .before .before .before .before in
+    raising-troubles _ _ _ _ (here .before .before .loop .inv) (item here) _ (c .before .before .before .number-at .ensures .0) (c .before .t .given .1)
 
 returns-2 : tie.Need-returns-2 Inv-loop μ-loop
 returns-2 c =
-    let start = c .before .before .before .before .before .before in
-    raising-last _ _ (start .pre) _ (c .before .loop .k) _ (c .before .loop .inv)
-    (omega (arith, c .loop-test .left, c .before .before .word-at .ensures, start .pre .outlines .bound-count))
+    raising-last _ _ (c .before .loop .k) _ (c .before .loop .inv) (omega (arith, c .loop-test .left, c .before .before .word-at .ensures, begun (c .before .before) .pre .outlines .bound-count))
 
 pub bound-spec : {M : Type 1} → statement M
 bound-spec =
@@ -94,16 +55,16 @@ bound-spec =
     (tie.spec
     Inv-loop
     μ-loop
-    word-at-requires
-    loop-holds
+    (λ c κs. search needs)
+    (λ c. raising-first _ _)
     add-word-at
-    word-at-requires-2
+    (λ c κs. search needs)
     number-at-requires
-    enum-known-z
-    raise-requires
-    add-k
-    loop-less
+    (λ c. search needs)
+    (λ c κs. search needs)
+    (λ c. search needs)
+    (λ c. search needs)
     loop-again
-    enum-known-t
+    (λ c. search needs)
     returns
     returns-2)

@@ -1,11 +1,11 @@
 -- `steps::conditions::conditions_hold` meets its contract. The invariant: the conditions passed hold.
+use Prim.Native.Nat.{_+_, _-_, _≤_, _<_}
+use mathlib.Core.Path.{_≡_, sym, _∙_}
+use native.Mathlib.Omega.{arith}
+use borrow.Author.Needs.{needs}
+use lib.ListN.{length, getD}
 use Rattle.laws.proofs.Lists.{byte-inside}
 use Rattle.steps.proofs.Holding.{Trying, holds-within, trying-first, trying-more, trying-fails, trying-troubles, trying-last, inside}
-use lib.ListN.{length}
-use native.Mathlib.Omega.{arith}
-use mathlib.Core.Path.{sym, _∙_}
-use Prim.Native.Nat.{_-_}
-use borrow.Author.Needs.{needs}
 use Rattle.steps.proofs.conditions.conditions_hold.Statement.{statement}
 use Rattle.steps.proofs.conditions.conditions_hold.Tie as tie
 
@@ -15,65 +15,38 @@ Inv-loop model at outline state next₀ next = Trying model state at next
 abbrev μ-loop : tie.MeasureT-loop
 μ-loop model at outline state next₀ next = length model - next
 
-loop-holds : tie.Need-loop-holds Inv-loop μ-loop
-loop-holds c = trying-first _ _ _
+abbrev begun : tie.At-loop Inv-loop μ-loop → tie.Start Inv-loop μ-loop
+begun c = c .before .before .before .before
 
-byte-at-requires : tie.Need-byte-at-requires Inv-loop μ-loop
-byte-at-requires c κs = search needs
+-- a condition 08 stands at the place
+here : (c : tie.Then1 Inv-loop μ-loop) → getD (begun (c .before .before) .args .model .now) (c .before .before .loop .next) 0 ≡ 8
+here c = sym (c .before .byte-at .ensures) ∙ c .if1 .taken
 
-add-condition-at : tie.Need-add-condition-at Inv-loop μ-loop
-add-condition-at c =
-    record
-    { fits = omega (arith, byte-inside (c .before .before .before .before .before .before .args .model .now) (c .before .before .loop .next) 8 (omega arith) (sym (c .before .byte-at .ensures) ∙ c .if1 .taken)) }
+within : (c : tie.Then1 Inv-loop μ-loop) → c .before .before .loop .next < length (begun (c .before .before) .args .model .now)
+within c = byte-inside (begun (c .before .before) .args .model .now) (c .before .before .loop .next) 8 (omega arith) (here c)
 
-condition-at-requires : tie.Need-condition-at-requires Inv-loop μ-loop
-condition-at-requires c κs =
-    let start = c .before .before .before .before .before .before in
-    (start .pre, omega (arith, byte-inside (start .args .model .now) (c .before .before .loop .next) 8 (omega arith) (sym (c .before .byte-at .ensures) ∙ c .if1 .taken)))
+-- the test of a condition that holds
+abbrev tested : tie.Then2 Inv-loop μ-loop → tie.Then1 Inv-loop μ-loop
+tested c = c .before .before .before .before .before
 
-enum-known-holds : tie.Need-enum-known-holds Inv-loop μ-loop
-enum-known-holds c = search needs
-
-add-next : tie.Need-add-next Inv-loop μ-loop
-add-next c =
-    record
-    { fits = omega (arith, byte-inside (c .before .before .before .before .before .before .before .before .before .before .before .args .model .now) (c .before .before .before .before .before .before .before .loop .next) 8 (omega arith) (sym (c .before .before .before .before .before .before .byte-at .ensures) ∙ c .before .before .before .before .before .if1 .taken)) }
-
-add-next-2 : tie.Need-add-next-2 Inv-loop μ-loop
-add-next-2 c =
-    let holds = c .before .before .holds in
-    record
-    { fits = omega (arith, inside (c .before .before .before .before .before .before .before .before .before .before .before .args .model .now) (c .before .before .before .before .before .before .before .loop .next) (holds .given .0 .1 .0) (sym (c .before .before .before .before .before .before .byte-at .ensures) ∙ c .before .before .before .before .before .if1 .taken) (omega arith) (holds-within _ (holds .given .1) (c .before .before .before .before .condition-at .ensures .1))) }
-
-loop-less : tie.Need-loop-less Inv-loop μ-loop
-loop-less c =
-    omega (
-      arith,
-      byte-inside (c .before .before .before .before .before .before .before .before .before .before .before .args .model .now)
-          (c .before .before .before .before .before .before .before .loop .next) 8 (omega arith)
-          (sym (c .before .before .before .before .before .before .byte-at .ensures) ∙ c .before .before .before .before .before .if1 .taken),
-    )
+next-within : (c : tie.Then2 Inv-loop μ-loop) → tested c .before .before .loop .next + 1 + c .before .before .holds .given .0 .1 .0 ≤ length (begun (tested c .before .before) .args .model .now)
+next-within c =
+    inside (begun (tested c .before .before) .args .model .now) (tested c .before .before .loop .next) (c .before .before .holds .given .0 .1 .0) (here (tested c)) (omega arith)
+    (holds-within _ (c .before .before .holds .given .1) (c .before .before .before .before .condition-at .ensures .1))
 
 loop-again : tie.Need-loop-again Inv-loop μ-loop
 loop-again c =
-    trying-more _ _ _ _ (c .before .before .before .before .before .before .before .loop .inv)
-    (sym (c .before .before .before .before .before .before .byte-at .ensures) ∙ c .before .before .before .before .before .if1 .taken) _
-    (c .before .before .before .before .condition-at .ensures .0) (c .before .before .holds .given .1) (c .if2 .taken)
+    trying-more _ _ _ _ (tested c .before .before .loop .inv) (here (tested c)) _ (c .before .before .before .before .condition-at .ensures .0) (c .before .before .holds .given .1) (c .if2 .taken)
 
 returns : tie.Need-returns Inv-loop μ-loop
 returns c =
-    trying-fails _ _ _ _ (c .before .before .before .before .before .before .before .loop .inv)
-    (sym (c .before .before .before .before .before .before .byte-at .ensures) ∙ c .before .before .before .before .before .if1 .taken) _
-    (c .before .before .before .before .condition-at .ensures .0) (c .before .before .holds .given .1) (c .if2 .left)
-
-enum-known-t : tie.Need-enum-known-t Inv-loop μ-loop
-enum-known-t c = search needs
+    let test = c .before .before .before .before .before in
+    trying-fails _ _ _ _ (test .before .before .loop .inv) (here test) _ (c .before .before .before .before .condition-at .ensures .0) (c .before .before .holds .given .1) (c .if2 .left)
 
 returns-2 : tie.Need-returns-2 Inv-loop μ-loop
 returns-2 c =
-    trying-troubles _ _ _ _ (c .before .before .before .before .before .before .loop .inv)
-    (sym (c .before .before .before .before .before .byte-at .ensures) ∙ c .before .before .before .before .if1 .taken) _
-    (c .before .before .before .condition-at .ensures .0) (c .before .t .given .1)
+    let test = c .before .before .before .before in
+    trying-troubles _ _ _ _ (test .before .before .loop .inv) (here test) _ (c .before .before .before .condition-at .ensures .0) (c .before .t .given .1)
 
 returns-3 : tie.Need-returns-3 Inv-loop μ-loop
 returns-3 c = trying-last _ _ _ _ (c .before .before .loop .inv) (λ e. c .if1 .left (c .before .byte-at .ensures ∙ e))
@@ -84,16 +57,16 @@ conditions-hold-spec =
     (tie.spec
     Inv-loop
     μ-loop
-    loop-holds
-    byte-at-requires
-    add-condition-at
-    condition-at-requires
-    enum-known-holds
-    add-next
-    add-next-2
-    loop-less
+    (λ c. trying-first _ _ _)
+    (λ c κs. search needs)
+    (λ c. record { fits = omega (arith, within c) })
+    (λ c κs. (begun (c .before .before) .pre, omega (arith, within c)))
+    (λ c. search needs)
+    (λ c. record { fits = omega (arith, within (tested c)) })
+    (λ c. record { fits = omega (arith, next-within c) })
+    (λ c. omega (arith, within (tested c)))
     loop-again
     returns
-    enum-known-t
+    (λ c. search needs)
     returns-2
     returns-3)

@@ -1,9 +1,11 @@
 -- `steps::conditions::status` meets its contract. The invariant: the base cases passed do not hold.
-use Rattle.steps.proofs.Trials.{Seeking, seeking-more, seeking-base, seeking-troubles, seeking-last}
-use native.Mathlib.Omega.{arith}
+use Prim.Native.Nat.{_-_, _<_}
 use mathlib.Core.Path.{refl}
-use Prim.Native.Nat.{_-_}
+use native.Mathlib.Omega.{arith}
 use borrow.Author.Needs.{needs}
+use lib.ListN.{length}
+use Rattle.outline.specs.Outline.{modelOf}
+use Rattle.steps.proofs.Trials.{Seeking, CaseAt, case-at, seeking-more, seeking-base, seeking-troubles, seeking-last}
 use Rattle.steps.proofs.conditions.status.Statement.{statement}
 use Rattle.steps.proofs.conditions.status.Tie as tie
 
@@ -13,71 +15,38 @@ Inv-loop model outline state count k₀ k = Seeking model state k
 abbrev μ-loop : tie.MeasureT-loop
 μ-loop model outline state count k₀ k = count - k
 
-word-at-requires : tie.Need-word-at-requires Inv-loop μ-loop
-word-at-requires c κs = search needs
+abbrev begun : tie.After-word-at Inv-loop μ-loop → tie.Start Inv-loop μ-loop
+begun c = c .before .before .before .before
 
-loop-holds : tie.Need-loop-holds Inv-loop μ-loop
-loop-holds c = refl
+-- there is a base case k
+more : (c : tie.In-loop Inv-loop μ-loop) → c .before .loop .k < length (modelOf (begun (c .before .before) .args .model .now) .baseCases)
+more c = omega (arith, c .loop-test .taken, c .before .before .word-at .ensures, begun (c .before .before) .pre .outlines .base-case-count)
+
+-- it stands where the outline says
+item : (c : tie.After-word-at2 Inv-loop μ-loop) → CaseAt (begun (c .before .before .before) .args .model .now) (c .before .before .loop .k) (c .word-at2 .result)
+item c = case-at (begun (c .before .before .before) .pre) (more (c .before)) (c .word-at2 .ensures)
 
 add-word-at : tie.Need-add-word-at Inv-loop μ-loop
-add-word-at c =
-    let start = c .before .before .before .before .before .before in
-    record { fits = omega (arith, c .loop-test .taken, c .before .before .word-at .ensures, start .pre .outlines .base-case-count, start .pre .outlines .few-base-cases) }
-
-word-at-requires-2 : tie.Need-word-at-requires-2 Inv-loop μ-loop
-word-at-requires-2 c κs = search needs
-
-conditions-hold-requires : tie.Need-conditions-hold-requires Inv-loop μ-loop
-conditions-hold-requires c κs = search needs
-
-enum-told : tie.Need-enum-told Inv-loop μ-loop
-enum-told c = search needs
+add-word-at c = record { fits = omega (arith, more c, begun (c .before .before) .pre .outlines .few-base-cases) }
 
 returns : tie.Need-returns Inv-loop μ-loop
 returns c =
-    let start = c .before .before .before .before .before .before .before .before .before .before in
-    seeking-base _ _ (start .pre) _ _ (c .before .before .before .before .before .loop .inv)
-    (omega (arith, c .before .before .before .before .loop-test .taken, c .before .before .before .before .before .before .word-at .ensures, start .pre .outlines .base-case-count))
-    _ (c .before .before .before .word-at2 .ensures) _ (c .before .before .conditions-hold .ensures) (c .enum-told .given .1)
-
-enum-told-2 : tie.Need-enum-told-2 Inv-loop μ-loop
-enum-told-2 c = search needs
-
-add-k : tie.Need-add-k Inv-loop μ-loop
-add-k c = search needs
-
-loop-less : tie.Need-loop-less Inv-loop μ-loop
-loop-less c = search needs
+    let here = c .before .before .before in
+    seeking-base _ _ _ (here .before .before .loop .inv) (item here) _ (c .before .before .conditions-hold .ensures) (c .enum-told .given .1)
 
 loop-again : tie.Need-loop-again Inv-loop μ-loop
 loop-again c =
-    let start = c .before .before .before .before .before .before .before .before .before .before in
-    seeking-more _ _ (start .pre) _ _ (c .before .before .before .before .before .loop .inv)
-    (omega (arith, c .before .before .before .before .loop-test .taken, c .before .before .before .before .before .before .word-at .ensures, start .pre .outlines .base-case-count))
-    _ (c .before .before .before .word-at2 .ensures) _ (c .before .before .conditions-hold .ensures) (c .enum-told2 .given .1)
-
-enum-known-t : tie.Need-enum-known-t Inv-loop μ-loop
-enum-known-t c = search needs
+    let here = c .before .before .before in
+    seeking-more _ _ _ (here .before .before .loop .inv) (item here) _ (c .before .before .conditions-hold .ensures) (c .enum-told2 .given .1)
 
 returns-2 : tie.Need-returns-2 Inv-loop μ-loop
 returns-2 c =
-    let start = c .before .before .before .before .before .before .before .before .before .before .before in
-    seeking-troubles _ _ (start .pre) _ _ (c .before .before .before .before .before .before .loop .inv)
-    (
-    omega (
-      arith,
-      c .before .before .before .before .before .loop-test .taken,
-      c .before .before .before .before .before .before .before .word-at .ensures,
-      start .pre .outlines .base-case-count,
-    )
-    )
-    _ (c .before .before .before .before .word-at2 .ensures) _ (c .before .before .before .conditions-hold .ensures) (c .before .t .given .1)
+    let here = c .before .before .before .before in
+    seeking-troubles _ _ _ (here .before .before .loop .inv) (item here) _ (c .before .before .before .conditions-hold .ensures) (c .before .t .given .1)
 
 returns-3 : tie.Need-returns-3 Inv-loop μ-loop
 returns-3 c =
-    let start = c .before .before .before .before .before .before in
-    seeking-last _ _ (start .pre) _ (c .before .loop .k) (c .before .loop .inv)
-    (omega (arith, c .loop-test .left, c .before .before .word-at .ensures, start .pre .outlines .base-case-count))
+    seeking-last _ _ (c .before .loop .k) (c .before .loop .inv) (omega (arith, c .loop-test .left, c .before .before .word-at .ensures, begun (c .before .before) .pre .outlines .base-case-count))
 
 pub status-spec : {M : Type 1} → statement M
 status-spec =
@@ -85,17 +54,17 @@ status-spec =
     (tie.spec
     Inv-loop
     μ-loop
-    word-at-requires
-    loop-holds
+    (λ c κs. search needs)
+    (λ c. refl)
     add-word-at
-    word-at-requires-2
-    conditions-hold-requires
-    enum-told
+    (λ c κs. search needs)
+    (λ c κs. search needs)
+    (λ c. search needs)
     returns
-    enum-told-2
-    add-k
-    loop-less
+    (λ c. search needs)
+    (λ c. search needs)
+    (λ c. search needs)
     loop-again
-    enum-known-t
+    (λ c. search needs)
     returns-2
     returns-3)

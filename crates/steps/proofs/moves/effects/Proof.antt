@@ -1,11 +1,10 @@
 -- `steps::moves::effects` meets its contract. The invariant: the child has the effects passed, each by its value in the old state.
-use Rattle.laws.proofs.Lists.{byte-inside}
-use Rattle.steps.proofs.Writing.{Writing, word-within, writing-first, next-inside, writing-more, writing-troubles, writing-last}
-use lib.ListN.{length}
+use Prim.Native.Nat.{_+_, _-_, _≤_, _<_}
+use mathlib.Core.Path.{_≡_, sym, _∙_}
 use native.Mathlib.Omega.{arith}
-use mathlib.Core.Path.{sym, _∙_}
-use Prim.Native.Nat.{_-_}
 use borrow.Author.Needs.{needs}
+use lib.ListN.{length, getD}
+use Rattle.steps.proofs.Writing.{Writing, word-within, writing-first, next-inside, writing-more, writing-troubles, writing-last}
 use Rattle.steps.proofs.moves.effects.Statement.{statement}
 use Rattle.steps.proofs.moves.effects.Tie as tie
 
@@ -15,101 +14,38 @@ Inv-loop model at outline state child₀ next₀ child next = Writing model stat
 abbrev μ-loop : tie.MeasureT-loop
 μ-loop model at outline state child₀ next₀ child next = length model - next
 
-loop-holds : tie.Need-loop-holds Inv-loop μ-loop
-loop-holds c = writing-first _ _ _ _
+abbrev begun : tie.At-loop Inv-loop μ-loop → tie.Start Inv-loop μ-loop
+begun c = c .before .before .before .before .before
 
-byte-at-requires : tie.Need-byte-at-requires Inv-loop μ-loop
-byte-at-requires c κs = search needs
+-- an effect 0A stands at the place
+here : (c : tie.Then1 Inv-loop μ-loop) → getD (begun (c .before .before) .args .model .now) (c .before .before .loop .next) 0 ≡ 10
+here c = sym (c .before .byte-at .ensures) ∙ c .if1 .taken
 
-add-byte-at : tie.Need-add-byte-at Inv-loop μ-loop
-add-byte-at c =
-    record
-    { fits = omega (arith, byte-inside (c .before .before .before .before .before .before .before .args .model .now) (c .before .before .loop .next) 10 (omega arith) (sym (c .before .byte-at .ensures) ∙ c .if1 .taken)) }
+-- it names a variable
+named : (c : tie.Then1 Inv-loop μ-loop) → (let bytes = begun (c .before .before) .args .model .now in let next = c .before .before .loop .next in (next + 2 ≤ length bytes) × (getD bytes (next + 1) 0 < 16))
+named c =
+    let start = begun (c .before .before) in
+    next-inside _ _ _ _ _ _ (c .before .before .loop .inv) _ (start .pre .0) (here c) (start .pre .1)
 
-byte-at-requires-2 : tie.Need-byte-at-requires-2 Inv-loop μ-loop
-byte-at-requires-2 c κs = search needs
+-- the effect whose word is written
+abbrev effect : tie.After-known-told Inv-loop μ-loop → tie.Then1 Inv-loop μ-loop
+effect c = c .before .before .before .before .before
 
-cast-v : tie.Need-cast-v Inv-loop μ-loop
-cast-v c = search needs
-
-add-word-for : tie.Need-add-word-for Inv-loop μ-loop
-add-word-for c =
-    let start = c .before .before .before .before .before .before .before .before in
-    record { fits = omega (arith, next-inside _ _ _ _ _ _ (c .before .before .before .loop .inv) _ (start .pre .0) (sym (c .before .before .byte-at .ensures) ∙ c .before .if1 .taken) (start .pre .1) .0) }
-
-word-for-requires : tie.Need-word-for-requires Inv-loop μ-loop
-word-for-requires c κs =
-    let i = next-inside _ _ _ _ _ _ (c .before .before .before .loop .inv) _ (c .before .before .before .before .before .before .before .before .pre .0) (sym (c .before .before .byte-at .ensures) ∙ c .before .if1 .taken) (c .before .before .before .before .before .before .before .before .pre .1) in
-    (c .before .before .before .before .before .before .before .before .pre .0, i .0, omega (arith, i .1, c .byte-at2 .ensures))
-
-enum-known-w : tie.Need-enum-known-w Inv-loop μ-loop
-enum-known-w c = search needs
-
-mul-child : tie.Need-mul-child Inv-loop μ-loop
-mul-child c = search needs
-
-slice-write-child : tie.Need-slice-write-child Inv-loop μ-loop
-slice-write-child c =
-    let start = c .before .before .before .before .before .before .before .before .before .before .before .before in
-    let turn = c .before .before .before .before .before .before .before .loop in
-    omega (
-      arith,
-      next-inside _ _ _ _ _ _ (turn .inv) _ (start .pre .0)
-          (sym (c .before .before .before .before .before .before .byte-at .ensures) ∙ c .before .before .before .before .before .if1 .taken)
-          (start .pre .1) .1,
-      c .before .before .before .before .byte-at2 .ensures,
-      turn .inv .long,
-      start .pre .2,
-    )
-
-add-next : tie.Need-add-next Inv-loop μ-loop
-add-next c =
-    let start = c .before .before .before .before .before .before .before .before .before .before .before .before in
-    record
-    { fits = omega (arith, next-inside _ _ _ _ _ _ (c .before .before .before .before .before .before .before .loop .inv) _ (start .pre .0) (sym (c .before .before .before .before .before .before .byte-at .ensures) ∙ c .before .before .before .before .before .if1 .taken) (start .pre .1) .0) }
-
-add-next-2 : tie.Need-add-next-2 Inv-loop μ-loop
-add-next-2 c =
-    let start = c .before .before .before .before .before .before .before .before .before .before .before .before in
-    record
-    { fits = omega (arith, next-inside _ _ _ _ _ _ (c .before .before .before .before .before .before .before .loop .inv) _ (start .pre .0) (sym (c .before .before .before .before .before .before .byte-at .ensures) ∙ c .before .before .before .before .before .if1 .taken) (start .pre .1) .0, word-within _ (c .before .w .given .1) (c .before .before .before .word-for .ensures .1)) }
-
-loop-less : tie.Need-loop-less Inv-loop μ-loop
-loop-less c =
-    let start = c .before .before .before .before .before .before .before .before .before .before .before .before in
-    omega (
-      arith,
-      next-inside _ _ _ _ _ _ (c .before .before .before .before .before .before .before .loop .inv) _ (start .pre .0)
-          (sym (c .before .before .before .before .before .before .byte-at .ensures) ∙ c .before .before .before .before .before .if1 .taken)
-          (start .pre .1) .0,
-    )
+-- the child has a place for it
+writable : (c : tie.After-known-told Inv-loop μ-loop) → c .before .before .before .before .byte-at2 .result < length (effect c .before .before .loop .child)
+writable c =
+    omega (arith, named (effect c) .1, c .before .before .before .before .byte-at2 .ensures, effect c .before .before .loop .inv .long, begun (effect c .before .before) .pre .2)
 
 loop-again : tie.Need-loop-again Inv-loop μ-loop
 loop-again c =
-    let i = next-inside _ _ _ _ _ _ (c .before .before .before .before .before .before .before .loop .inv) _ (c .before .before .before .before .before .before .before .before .before .before .before .before .pre .0) (sym (c .before .before .before .before .before .before .byte-at .ensures) ∙ c .before .before .before .before .before .if1 .taken) (c .before .before .before .before .before .before .before .before .before .before .before .before .pre .1) in
-    let pre = c .before .before .before .before .before .before .before .before .before .before .before .before .pre in
-    let loop = c .before .before .before .before .before .before .before .loop in
-    let byte-at2 = c .before .before .before .before .byte-at2 in
-    writing-more _ _ _ _ _ _ (loop .inv) _ (pre .0)
-    (sym (c .before .before .before .before .before .before .byte-at .ensures) ∙ c .before .before .before .before .before .if1 .taken) _
-    (byte-at2 .ensures) _ (c .before .before .before .word-for .ensures .0) (omega (arith, i .1, byte-at2 .ensures, loop .inv .long, pre .2))
-    (c .before .w .given .1)
-
-enum-known-t : tie.Need-enum-known-t Inv-loop μ-loop
-enum-known-t c = search needs
-
-same-length : tie.Need-same-length Inv-loop μ-loop
-same-length c = c .before .before .before .before .before .before .before .loop .inv .long
+    writing-more _ _ _ _ _ _ (effect c .before .before .loop .inv) _ (begun (effect c .before .before) .pre .0) (here (effect c)) _ (c .before .before .before .before .byte-at2 .ensures) _
+    (c .before .before .before .word-for .ensures .0) (writable c) (c .before .w .given .1)
 
 returns : tie.Need-returns Inv-loop μ-loop
 returns c =
-    writing-troubles _ _ _ _ _ _ (c .before .before .before .before .before .before .before .loop .inv) _
-    (c .before .before .before .before .before .before .before .before .before .before .before .before .pre .0)
-    (sym (c .before .before .before .before .before .before .byte-at .ensures) ∙ c .before .before .before .before .before .if1 .taken) _
-    (c .before .before .before .before .byte-at2 .ensures) _ (c .before .before .before .word-for .ensures .0) (c .before .t .given .1)
-
-same-length-2 : tie.Need-same-length-2 Inv-loop μ-loop
-same-length-2 c = c .before .before .loop .inv .long
+    let effect = c .before .before .before .before .before in
+    writing-troubles _ _ _ _ _ _ (effect .before .before .loop .inv) _ (begun (effect .before .before) .pre .0) (here effect) _ (c .before .before .before .before .byte-at2 .ensures) _
+    (c .before .before .before .word-for .ensures .0) (c .before .t .given .1)
 
 returns-2 : tie.Need-returns-2 Inv-loop μ-loop
 returns-2 c = writing-last _ _ _ _ _ _ (c .before .before .loop .inv) (λ e. c .if1 .left (c .before .byte-at .ensures ∙ e))
@@ -120,22 +56,22 @@ effects-spec =
     (tie.spec
     Inv-loop
     μ-loop
-    loop-holds
-    byte-at-requires
-    add-byte-at
-    byte-at-requires-2
-    cast-v
-    add-word-for
-    word-for-requires
-    enum-known-w
-    mul-child
-    slice-write-child
-    add-next
-    add-next-2
-    loop-less
+    (λ c. writing-first _ _ _ _)
+    (λ c κs. search needs)
+    (λ c. record { fits = omega (arith, named c .0) })
+    (λ c κs. search needs)
+    (λ c. search needs)
+    (λ c. record { fits = omega (arith, named (c .before) .0) })
+    (λ c κs. (begun (c .before .before .before) .pre .0, named (c .before) .0, omega (arith, named (c .before) .1, c .byte-at2 .ensures)))
+    (λ c. search needs)
+    (λ c. search needs)
+    writable
+    (λ c. record { fits = omega (arith, named (effect c) .0) })
+    (λ c. record { fits = omega (arith, named (effect c) .0, word-within _ (c .before .w .given .1) (c .before .before .before .word-for .ensures .1)) })
+    (λ c. omega (arith, named (effect c) .0))
     loop-again
-    enum-known-t
-    same-length
+    (λ c. search needs)
+    (λ c. c .before .before .before .before .before .before .before .loop .inv .long)
     returns
-    same-length-2
+    (λ c. c .before .before .loop .inv .long)
     returns-2)

@@ -9,49 +9,48 @@ use borrow.Author.Needs.{needs}
 use Rattle.steps.proofs.moves.take.Statement.{statement}
 use Rattle.steps.proofs.moves.take.Tie as tie
 
+abbrev begun : tie.After-cost-at → tie.Start
+begun c = c .before .before .before .before .before
+
+-- the cost whose step goes on with the copied state
+abbrev costed : tie.After-copy-state → tie.After-cost-at
+costed c = c .before .before .before .before .before
+
 cost-at-requires : tie.Need-cost-at-requires
 cost-at-requires c κs = (c .before .before .before .before .pre .0, c .before .before .before .before .pre .1 .inside)
 
 copy-state-requires : tie.Need-copy-state-requires
-copy-state-requires c κs = (c .before .before .before .before .before .before .before .before .before .pre .2, c .before .before .before .before .before .before .before .before .before .pre .3)
+copy-state-requires c κs = let pre = begun (c .before .before .before .before) .pre in (pre .2, pre .3)
 
 add-effects : tie.Need-add-effects
 add-effects c =
-    record
-    { fits = omega (arith, cost-within _ (c .before .before .before .before .before .cost .given .1) (c .before .before .before .before .before .before .before .cost-at .ensures .1), c .before .before .before .before .before .before .before .before .before .before .before .before .pre .1 .inside) }
+    let here = c .before .before in
+    record { fits = omega (arith, cost-within _ (here .before .before .before .cost .given .1) (costed here .cost-at .ensures .1), begun (costed here) .pre .1 .inside) }
 
 effects-requires : tie.Need-effects-requires
 effects-requires c κs =
-    let start = c .before .before .before .before .before .before .before .before .before .before .before .before .before in (
-      start .pre .0,
-      effects-begin _ _ (start .args .state .now) _ (c .before .before .before .before .before .before .before .before .cost-at .ensures .0)
-          (c .before .before .before .before .before .before .cost .given .1) (start .pre .1),
-      search needs,
-    )
-
-enum-told : tie.Need-enum-told
-enum-told c = search needs
+    let here = c .before .before .before in
+    let start = begun (costed here) in
+    (start .pre .0, effects-begin _ _ (start .args .state .now) _ (costed here .cost-at .ensures .0) (here .before .before .before .cost .given .1) (start .pre .1), search needs)
 
 returns : tie.Need-returns
 returns c =
-    let start = c .before .before .before .before .before .before .before .before .before .before .before .before .before .before .before .before .before .before in
-    take-done _ (start .args .at) _ _
-    (c .before .before .before .before .before .before .before .before .before .before .before .before .before .cost-at .ensures .0)
-    (c .before .before .before .before .before .before .before .before .before .before .before .cost .given .1) _ _
-    (ap (stateIn _) (c .before .before .before .before .before .before .before .before .copy-state .ensures) ∙ copied-state _ _ (start .pre .0) _ _ (start .pre .2))
-    _ (c .before .before .before .before .effects .ensures) (c .enum-told .given .1)
+    let here = c .before .before .before .before .before .before .before .before in
+    let start = begun (costed here) in
+    take-done _ (start .args .at) _ _ (costed here .cost-at .ensures .0) (here .before .before .before .cost .given .1) _ _
+    (ap (stateIn _) (here .copy-state .ensures) ∙ copied-state _ _ (start .pre .0) _ _ (start .pre .2)) _ (c .before .before .before .before .effects .ensures) (c .enum-told .given .1)
 
 returns-2 : tie.Need-returns-2
 returns-2 c =
-    let start = c .before .before .before .before .before .before .before .before .before .before .before .before .before .before .before .before .before .before .before in
-    take-troubles _ (start .args .at) _ _
-    (c .before .before .before .before .before .before .before .before .before .before .before .before .before .before .cost-at .ensures .0)
-    (c .before .before .before .before .before .before .before .before .before .before .before .before .cost .given .1) _ _
-    (ap (stateIn _) (c .before .before .before .before .before .before .before .before .before .copy-state .ensures) ∙ copied-state _ _ (start .pre .0) _ _ (start .pre .2))
-    _ (c .before .before .before .before .before .effects .ensures) (c .before .t .given .1)
+    let here = c .before .before .before .before .before .before .before .before .before in
+    let start = begun (costed here) in
+    take-troubles _ (start .args .at) _ _ (costed here .cost-at .ensures .0) (here .before .before .before .cost .given .1) _ _
+    (ap (stateIn _) (here .copy-state .ensures) ∙ copied-state _ _ (start .pre .0) _ _ (start .pre .2)) _ (c .before .before .before .before .before .effects .ensures) (c .before .t .given .1)
 
 returns-3 : tie.Need-returns-3
-returns-3 c = take-stops _ (c .before .before .before .before .before .before .before .before .args .at) _ _ (c .before .before .before .cost-at .ensures .0) _ (c .before .t2 .given .1)
+returns-3 c =
+    let here = c .before .before .before in
+    take-stops _ (begun here .args .at) _ _ (here .cost-at .ensures .0) _ (c .before .t2 .given .1)
 
 pub take-spec : {M : Type 1} → statement M
 take-spec =
@@ -62,7 +61,7 @@ take-spec =
     copy-state-requires
     add-effects
     effects-requires
-    enum-told
+    (λ c. search needs)
     (λ c. search needs)
     (λ c. search needs)
     (λ c. search needs)

@@ -1,0 +1,66 @@
+-- The mission's demands as a record of one answer, a field for each sentence. docs/FORMAT.md, "Verdicts"; docs/AUDIT.md walks through them.
+use Prim.Native.Nat.{ℕ, _≤_}
+use mathlib.Core.Path.{_≡_}
+use mathlib.Core.Bool.{true}
+use mathlib.Core.List.{List}
+use lib.ListN.{length}
+use Rattle.model.specs.Numbers.{rangeEnd}
+use Rattle.model.specs.Plans.{Plan, TrueDeclarations}
+use Rattle.model.specs.Readers.{read}
+use Rattle.model.specs.Syntax.{Model}
+use Rattle.model.specs.Commands.{model}
+use Rattle.model.specs.Steps.{target, costsOf, systemOf, originOf}
+use Rattle.search.specs.Answer.{Verdict, cheapest, noPlan, widthStop, lengthStop, budgetSpent, contradicted, Outcome, verdict, byState, byInput, Answer}
+use Rattle.search.specs.Guarantee.{Stopped, TroubleAt, Fits}
+use Rattle.search.specs.Run.{Settings}
+
+-- how a run may end: a verdict, or one of document 01's refusals
+pub data Ends : Outcome → Type 0 where
+  with-verdict : {v : Verdict} → Ends (verdict v)
+  by-state : {t : ℕ} → 11 ≤ t → t ≤ 13 → Ends (byState t)
+  by-input : {t : ℕ} → 1 ≤ t → t ≤ 9 → Ends (byInput t)
+
+-- a plan of the model, from its target, at this cost
+abbrev pub PlanOf : Model → List ℕ → (cost : ℕ) → Type 0
+PlanOf m p c = Plan (costsOf (m .rule)) (systemOf rangeEnd m) (target m) p c
+
+-- "the model's declared bounds and preferences are true"
+abbrev pub DeclarationsTrue : Model → Type 0
+DeclarationsTrue m = TrueDeclarations (costsOf (m .rule)) (systemOf rangeEnd m) (target m)
+
+-- "every layer of the model up to the length limit has at most as many different states as the widest beam, and no unfinished state
+-- lies at the limit"
+abbrev pub LayersFit : Model → Settings → Type 0
+LayersFit m q = Fits (costsOf (m .rule)) (systemOf rangeEnd m) (originOf m) (q .widest) (q .limit)
+
+-- what the answer to a run of the model m says of that model: demand 3, and the path at a refusal by the state
+pub record Marked (m : Model) (q : Settings) (a : Answer ℕ) : Type 0 where
+  -- "under every verdict a plan given is a plan of the model, at the cost stated"
+  pub plan-given : a .flag ≡ true → PlanOf m (a .steps) (a .cost)
+  -- "a plan marked cheapest costs no more than every other plan of the model, of every length, those beyond the limit included"
+  pub cheapest-given : a .outcome ≡ verdict cheapest → a .flag ≡ true
+  pub cheapest-least : a .outcome ≡ verdict cheapest → DeclarationsTrue m → (p : List ℕ) (c : ℕ) → PlanOf m p c → a .cost ≤ c
+  -- "'no plan' then means that none exists, of whatever length"
+  pub no-plan : a .outcome ≡ verdict noPlan → DeclarationsTrue m → (p : List ℕ) (c : ℕ) → PlanOf m p c → ⊥
+  -- "a stopped run's bound is then at most the cost of every plan"
+  pub bound-below : Stopped (a .outcome) → DeclarationsTrue m → (p : List ℕ) (c : ℕ) → PlanOf m p c → a .bound ≤ c
+  -- "'Contradicted' is given only if a declaration is false"
+  pub declaration-false : a .outcome ≡ verdict contradicted → DeclarationsTrue m → ⊥
+  -- "neither the width stop nor the length stop is given"
+  pub no-width-stop : LayersFit m q → a .outcome ≡ verdict widthStop → ⊥
+  pub no-length-stop : LayersFit m q → a .outcome ≡ verdict lengthStop → ⊥
+  -- "the plan buffer, length and cost give the path to the state evaluated"
+  pub trouble-there : (t : ℕ) → a .outcome ≡ byState t → TroubleAt (costsOf (m .rule)) (systemOf rangeEnd m) (originOf m) t (a .steps) (a .cost)
+
+-- the demands on the answer to a run of these bytes with these settings
+pub record Demands (bytes : List ℕ) (q : Settings) (a : Answer ℕ) : Type 0 where
+  -- "ends with a verdict or one of the refusals in document 01"
+  pub ends : Ends (a .outcome)
+  -- "counts included": "the count … never passes the budget"
+  pub within-budget : a .tally .expansions ≤ q .budget
+  -- "expanded, unless the budget is used up: verdict 4"
+  pub budget-used : a .outcome ≡ verdict budgetSpent → a .tally .expansions ≡ q .budget
+  -- the steps never outnumber the length limit
+  pub within-limit : length (a .steps) ≤ q .limit
+  -- of the model that the bytes are read as
+  pub marked : (m : Model) (n : ℕ) → model bytes ≡ read m n → Marked m q a

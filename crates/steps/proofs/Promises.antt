@@ -1,0 +1,74 @@
+-- What the search cites of this layer: laws of the system, the costs and the states of the bytes.
+use Prim.Native.Nat.{ℕ, _+_, _≤_, _<_}
+use mathlib.Core.Path.{_≡_, refl}
+use mathlib.Core.Bool.{true}
+use mathlib.Core.List.{List}
+use native.Mathlib.Omega.{arith}
+use lib.Dec.{leb}
+use lib.ListN.{getD}
+use Rattle.model.specs.Numbers.{rangeEnd, mostVariables, mostTransitions}
+use Rattle.model.specs.Values.{value}
+use Rattle.model.specs.System.{CostLaws, moved, troubleAfter}
+use Rattle.model.specs.Meaning.{State}
+use Rattle.model.specs.Steps.{systemOf, costsOf, originOf}
+use Rattle.model.proofs.Costs as costs
+use Rattle.model.proofs.Ranges as ranges
+use Rattle.outline.specs.Outline.{modelOf}
+use Rattle.steps.specs.InBytes.{Outlined, systemIn, stateIn, targetIn, originIn}
+use Rattle.steps.specs.Follow.{costsIn}
+use Rattle.steps.specs.Hashes.{hashOf}
+use Rattle.steps.proofs.StateWords.{state-alike}
+use Rattle.steps.proofs.Hashing as hashing
+
+module _ (bytes : List ℕ) where
+  -- ---- costs
+
+  pub cost-laws : CostLaws (costsIn bytes)
+  cost-laws = costs.cost-laws (modelOf bytes .rule)
+
+  -- costs are numbers in their order
+  pub cost-order : (a b : ℕ) → costsIn bytes .atMost a b ≡ leb a b
+  unfolding costsOf
+  cost-order a b = refl
+
+  pub cost-empty : costsIn bytes .empty ≡ 0
+  unfolding costsOf
+  cost-empty = refl
+
+  pub combined-at-most : (a b : ℕ) → costsIn bytes .combine a b ≤ a + b
+  unfolding costsOf
+  combined-at-most a b = costs.combine-at-most-sum (modelOf bytes .rule) a b
+
+  -- ---- steps and h, below the range's end
+
+  pub step-cost-below : (s : State) (t : ℕ) {c : ℕ} {u : State} → systemIn bytes .move s t ≡ moved c u → c < rangeEnd
+  step-cost-below s t e = ranges.step-cost-below rangeEnd (modelOf bytes) s t e
+
+  pub trouble-cost-below : (s : State) (t : ℕ) {c n : ℕ} → systemIn bytes .move s t ≡ troubleAfter c n → c < rangeEnd
+  trouble-cost-below s t e = ranges.trouble-cost-below rangeEnd (modelOf bytes) s t e
+
+  pub bound-below : (s : State) {h : ℕ} → systemIn bytes .bound s ≡ value h → h < rangeEnd
+  bound-below s e = ranges.bound-below rangeEnd (modelOf bytes) (omega arith) s e
+
+  -- ---- the start
+
+  pub origin-start : originIn bytes .start ≡ targetIn bytes
+  unfolding originOf
+  origin-start = refl
+
+  pub origin-spent : originIn bytes .spent ≡ 0
+  unfolding originOf
+  origin-spent = refl
+
+module _ {bytes outline : List ℕ} (o : Outlined bytes outline) where
+  pub few-transitions : systemIn bytes .transitions ≤ mostTransitions
+  unfolding systemOf
+  few-transitions = o .outlines .few-transitions
+
+  -- words that begin alike stand for the same state
+  pub same-state : (ws us : List ℕ) → ((v : ℕ) → v < mostVariables → getD ws v 0 ≡ getD us v 0) → stateIn bytes ws ≡ stateIn bytes us
+  same-state ws us alike = state-alike (modelOf bytes .variables) ws us (λ v l. alike v (omega (arith, o .outlines .few-variables)))
+
+  -- a state that dominates another has the same hash
+  pub same-hash : (t s : List ℕ) → systemIn bytes .dominates (stateIn bytes t) (stateIn bytes s) ≡ true → hashOf outline t ≡ hashOf outline s
+  same-hash t s d = hashing.same-hash bytes outline o t s d

@@ -1,0 +1,55 @@
+// The hash of a state, by the words of its variables without preference.
+
+ghost use mathlib.Core.Path.{_≡_};
+ghost use Prim.Native.Nat.{_<_};
+ghost use Rattle.model.specs.Numbers.{mostVariables};
+ghost use Rattle.steps.specs.InBytes.{Outlined};
+ghost use Rattle.steps.specs.Hashes.{mix as Hashes·mix, mixUnless, mixAt, hashOf};
+use crate::states::compared_word;
+use outline::layout::KINDS;
+use outline::layout::PREFERENCES;
+use outline::layout::VARIABLE_COUNT;
+use outline::word_at;
+
+// 32 bits of x mixed into m.
+fn mix(m: u64, x: u64) -> u64
+    ensures { λ r. ⌜ r ≡ Hashes·mix m x ⌝ }
+{
+    let p = (m % 4294967296 + x % 4294967296) % 4294967296 * 2654435761;
+    p / 4294967296 + p % 4294967296
+}
+
+// 64 bits of x mixed into m where there is no preference.
+fn mix_unless(preference: u64, m: u64, x: u64) -> u64
+    ensures { λ r. ⌜ r ≡ mixUnless preference m x ⌝ }
+{
+    if preference == 0 {
+        return mix(mix(m, x), x / 4294967296);
+    }
+    m
+}
+
+// The word of variable v mixed into m.
+fn mix_at(outline: &[u64], state: &[u64], v: usize, m: u64) -> u64
+    requires { ⌜ v < mostVariables ⌝ }
+    ensures { λ r. ⌜ r ≡ mixAt (now (outline .entry)) (now (state .entry)) v m ⌝ }
+{
+    let kind = word_at(outline, KINDS + v);
+    let preference = word_at(outline, PREFERENCES + v);
+    mix_unless(preference, m, compared_word(kind, word_at(state, v)))
+}
+
+// The hash of a state; one that dominates another has the same.
+pub fn hash(model: &[u8], outline: &[u64], state: &[u64]) -> u64
+    requires { ⌜ Outlined (now model) (now outline) ⌝ }
+    ensures { λ r. ⌜ r ≡ hashOf (now (outline .entry)) (now (state .entry)) ⌝ }
+{
+    let count = word_at(outline, VARIABLE_COUNT) as usize;
+    let mut m = 1;
+    let mut v = 0;
+    while v < count {
+        m = mix_at(outline, state, v, m);
+        v += 1;
+    }
+    m
+}

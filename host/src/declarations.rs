@@ -1,0 +1,94 @@
+//! Whether a model's declarations are true: by full enumeration of its reachable states, else by a sample of them.
+//!
+//! A counterexample holds by itself: a plan that the proved plan check confirms. Without one, enumeration shows a
+//! declaration true as far as the plain implementation is right, and a sample leaves it open.
+
+mod enumerated;
+mod preferred;
+mod sample;
+mod sampled;
+mod tests_of_plans;
+
+use crate::enumerate::Space;
+use crate::reference::{Model, State};
+
+pub use preferred::preferences;
+pub use tests_of_plans::confirmed;
+
+/// How far to look.
+#[derive(Clone, Copy, Debug)]
+pub struct Looking {
+    /// The most states that are enumerated, or sampled.
+    pub states: usize,
+    pub walks: usize,
+    pub seed: u64,
+}
+
+/// A state that shows a bound to be false.
+#[derive(Clone, Debug)]
+pub struct TooHigh {
+    pub state: State,
+    /// The steps that lead to it from the target.
+    pub path: Vec<u8>,
+    pub value: i64,
+    pub plan: Vec<u8>,
+    pub cost: i64,
+}
+
+/// Two states that show the preferences to be false.
+#[derive(Clone, Debug)]
+pub struct NotBetter {
+    pub better: State,
+    pub better_path: Vec<u8>,
+    pub worse: State,
+    pub worse_path: Vec<u8>,
+    /// A plan of the worse state, and what it costs.
+    pub plan: Vec<u8>,
+    pub cost: i64,
+    /// The least that a plan of the better state costs; nothing if it has none.
+    pub least: Option<i64>,
+}
+
+/// What is known of a declaration.
+#[derive(Clone, Debug)]
+pub enum Truth<Counterexample> {
+    True,
+    False(Box<Counterexample>),
+    Open,
+}
+
+/// What was looked at, and what is known of each bound and of the preferences together.
+pub struct Findings {
+    pub states: usize,
+    pub enumerated: bool,
+    pub bounds: Vec<Truth<TooHigh>>,
+    pub preferences: Option<Truth<NotBetter>>,
+    /// Transitions that no state looked at allows.
+    pub never: Vec<usize>,
+}
+
+/// Looks at the model, whose bytes these are.
+pub fn look(bytes: &[u8], model: &Model, looking: Looking) -> Findings {
+    match Space::of(model, looking.states) {
+        Some(space) => enumerated::findings(model, &space),
+        None => sampled::findings(bytes, model, looking),
+    }
+}
+
+/// The numbers of the constraints that the target breaks or that have no value there.
+pub fn broken_by_target(model: &Model) -> Vec<usize> {
+    let target = model.target();
+    let constraints = model.constraints.iter().enumerate();
+    let broken =
+        constraints.filter(|(_, constraint)| model.condition(constraint, &target) != Ok(true));
+    broken.map(|(number, _)| number).collect()
+}
+
+/// The values of the bounds in a state where all of them have one.
+fn bound_values(model: &Model, state: &State) -> Option<Vec<i64>> {
+    let values = model
+        .bounds
+        .iter()
+        .map(|bound| model.number(bound, state).ok());
+    values.collect()
+}

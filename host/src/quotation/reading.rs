@@ -1,0 +1,200 @@
+//! A quotation read back from its text, line by line in the order in which it is written.
+
+use super::writing::mark;
+use super::{Quotation, Said, TITLE};
+use crate::numbers::{limit, verdict};
+use crate::text::{Error, Place};
+
+/// The lines of a text with their places, blank ones left out.
+struct Lines<'a> {
+    lines: Vec<(usize, &'a str)>,
+    at: usize,
+}
+
+impl<'a> Lines<'a> {
+    fn of(text: &'a str) -> Lines<'a> {
+        let lines = text.lines().map(|line| line.trim_end_matches('\r'));
+        let lines = lines.enumerate().map(|(number, line)| (number + 1, line));
+        Lines {
+            lines: lines.filter(|(_, line)| !line.trim().is_empty()).collect(),
+            at: 0,
+        }
+    }
+
+    fn place(&self, column: usize) -> Place {
+        let last = self.lines.last().map_or(1, |(line, _)| line + 1);
+        let line = self.lines.get(self.at).map_or(last, |(line, _)| *line);
+        let file = 0;
+        Place { file, line, column }
+    }
+
+    fn wrong<T>(&self, column: usize, message: impl Into<String>) -> Result<T, Error> {
+        Err(Error::new(self.place(column), message))
+    }
+
+    fn peek(&self) -> Option<&'a str> {
+        self.lines.get(self.at).map(|(_, line)| *line)
+    }
+
+    /// The value behind a name and a colon, with the column where it begins.
+    fn value(&mut self, name: &str) -> Result<(usize, &'a str), Error> {
+        let line = self.peek().unwrap_or("");
+        let Some(value) = line
+            .strip_prefix(name)
+            .and_then(|rest| rest.strip_prefix(':'))
+        else {
+            return self.wrong(1, format!("expected `{name}:` and its value"));
+        };
+        let blanks = value.len() - value.trim_start().len();
+        Ok((name.len() + 2 + blanks, value.trim()))
+    }
+
+    fn text(&mut self, name: &str) -> Result<String, Error> {
+        let (_, value) = self.value(name)?;
+        self.at += 1;
+        Ok(value.to_string())
+    }
+
+    fn number(&mut self, name: &str, most: u32) -> Result<u32, Error> {
+        let (column, value) = self.value(name)?;
+        let Some(number) = digits(value).filter(|number| *number <= u64::from(most)) else {
+            return self.wrong(column, format!("expected a number from 0 to {most}"));
+        };
+        self.at += 1;
+        Ok(number as u32)
+    }
+}
+
+/// The number that digits alone spell.
+fn digits(text: &str) -> Option<u64> {
+    let plain = !text.is_empty() && text.bytes().all(|byte| byte.is_ascii_digit());
+    plain.then(|| text.parse().ok()).flatten()
+}
+
+/// The quotation that the text is, or what is wrong with it.
+pub fn read(text: &str) -> Result<Quotation, Error> {
+    let mut lines = Lines::of(text);
+    if lines.peek() != Some(TITLE) {
+        return lines.wrong(1, format!("a quotation begins with the line `{TITLE}`"));
+    }
+    lines.at += 1;
+    let title = lines.text("model")?;
+    let version = lines.text("version")?;
+    let kit = lines.text("kit")?;
+    let width = lines.number("width", limit::WIDTH as u32)?;
+    let length = lines.number("length", limit::LENGTH as u32)?;
+    let budget = lines.number("budget", u32::MAX)?;
+    let said = said(&mut lines)?;
+    let (column, value) = lines.value("mark")?;
+    if value != mark(&said) {
+        return lines.wrong(column, format!("the line says: {}", mark(&said)));
+    }
+    lines.at += 1;
+    let names = names(&mut lines, &said.plan)?;
+    let model = bytes(&mut lines)?;
+    if lines.peek() != Some("end") {
+        return lines.wrong(1, "expected `end`");
+    }
+    lines.at += 1;
+    if lines.peek().is_some() {
+        return lines.wrong(1, "nothing stands behind `end`");
+    }
+    Ok(Quotation {
+        title,
+        version,
+        kit,
+        width,
+        length,
+        budget,
+        said,
+        names,
+        model,
+    })
+}
+
+/// The fields, a colon and the plan.
+fn said(lines: &mut Lines) -> Result<Said, Error> {
+    let (column, value) = lines.value("line")?;
+    let items: Vec<&str> = value.split(' ').collect();
+    let numbers = items.iter().take(8).filter_map(|item| digits(item));
+    let fields: Option<[u64; 8]> = numbers.collect::<Vec<u64>>().try_into().ok();
+    let (Some(fields), Some(&":")) = (fields, items.get(8)) else {
+        return lines.wrong(
+            column,
+            "expected the eight fields of an answer, a colon and the plan",
+        );
+    };
+    if fields[0] > u64::from(verdict::CONTRADICTED) || fields[1] > 1 {
+        return lines.wrong(
+            column,
+            "expected a verdict from 0 to 5 and a plan flag of 0 or 1",
+        );
+    }
+    let steps = items[9..].iter().map(|item| {
+        let number = digits(item)?;
+        u8::try_from(number).ok()
+    });
+    let Some(plan) = steps.collect::<Option<Vec<u8>>>() else {
+        return lines.wrong(
+            column,
+            "expected transition numbers from 0 to 255 behind the colon",
+        );
+    };
+    if plan.len() as u64 != fields[4] {
+        let message = format!(
+            "the plan has {} steps, and its length is stated as {}",
+            plan.len(),
+            fields[4]
+        );
+        return lines.wrong(column, message);
+    }
+    lines.at += 1;
+    Ok(Said { fields, plan })
+}
+
+/// The names of the plan's steps, which are listed with their numbers.
+fn names(lines: &mut Lines, plan: &[u8]) -> Result<Vec<String>, Error> {
+    let (column, value) = lines.value("steps")?;
+    if digits(value) != Some(plan.len() as u64) {
+        return lines.wrong(column, format!("the plan has {} steps", plan.len()));
+    }
+    lines.at += 1;
+    let mut names = Vec::new();
+    for step in plan {
+        let line = lines.peek().unwrap_or("").trim();
+        let (number, name) = line.split_once(' ').unwrap_or((line, ""));
+        if digits(number) != Some(u64::from(*step)) {
+            return lines.wrong(
+                1,
+                format!("expected step {step} of the line's plan, and its name"),
+            );
+        }
+        names.push(name.trim().to_string());
+        lines.at += 1;
+    }
+    Ok(names)
+}
+
+/// The model's bytes, two hexadecimal digits each.
+fn bytes(lines: &mut Lines) -> Result<Vec<u8>, Error> {
+    let due = lines.number("bytes", limit::MODEL_BYTES as u32)? as usize;
+    let mut bytes = Vec::new();
+    while let Some(line) = lines.peek().filter(|line| *line != "end") {
+        for item in line.split_ascii_whitespace() {
+            let column = item.as_ptr() as usize - line.as_ptr() as usize + 1;
+            let digits = item.len() == 2 && item.bytes().all(|byte| byte.is_ascii_hexdigit());
+            let Some(byte) = digits.then(|| u8::from_str_radix(item, 16).ok()).flatten() else {
+                return lines.wrong(column, "expected a byte as two hexadecimal digits");
+            };
+            bytes.push(byte);
+        }
+        lines.at += 1;
+    }
+    if bytes.len() != due {
+        return lines.wrong(
+            1,
+            format!("{} bytes stand here, and {due} are stated", bytes.len()),
+        );
+    }
+    Ok(bytes)
+}

@@ -1,0 +1,67 @@
+/* How much stack the proved functions use: each call runs on a painted stack of its own, and what is no longer painted is counted.
+ * Models come on standard input, each behind its length, four bytes with the least first. Prints the most bytes that a search and that a
+ * plan check used, the thread's own frames included. */
+#define _POSIX_C_SOURCE 200809L
+
+#include "repgypsum.h"
+
+#include <pthread.h>
+#include <stdio.h>
+#include <stdlib.h>
+#include <string.h>
+
+enum { STACK = 1 << 18, LONGEST = 65537, WIDTH = 16, LENGTH = 256, PAINT = 0xA5 };
+
+static uint8_t model[LONGEST];
+static uint32_t model_len;
+static uint8_t plan[LENGTH];
+static uint64_t words[REPGYPSUM_WORDS(WIDTH, LENGTH)];
+static uint8_t *stack;
+
+static void *search(void *unused) {
+    repgypsum_search(model, model_len, WIDTH, LENGTH, 1000, plan, LENGTH, words, sizeof words / sizeof *words);
+    return unused;
+}
+
+static void *check(void *unused) {
+    repgypsum_check_answer(model, model_len, plan, LENGTH);
+    repgypsum_check_cost(model, model_len, plan, LENGTH);
+    return unused;
+}
+
+static void *nothing(void *unused) {
+    return unused;
+}
+
+/* The bytes of the painted stack that the call wrote to. */
+static size_t used(void *(*call)(void *)) {
+    pthread_attr_t own;
+    pthread_t thread;
+    memset(stack, PAINT, STACK);
+    if (pthread_attr_init(&own) || pthread_attr_setstack(&own, stack, STACK) || pthread_create(&thread, &own, call, NULL) || pthread_join(thread, NULL)) {
+        fprintf(stderr, "no thread\n");
+        exit(2);
+    }
+    pthread_attr_destroy(&own);
+    size_t untouched = 0;
+    while (untouched < STACK && stack[untouched] == PAINT) untouched++;
+    return STACK - untouched;
+}
+
+int main(void) {
+    size_t most_search = 0, most_check = 0;
+    uint8_t head[4];
+    stack = aligned_alloc(4096, STACK);
+    if (!stack) return 2;
+    size_t thread = used(nothing);
+    while (fread(head, 1, 4, stdin) == 4) {
+        model_len = head[0] | (uint32_t)head[1] << 8 | (uint32_t)head[2] << 16 | (uint32_t)head[3] << 24;
+        if (model_len > LONGEST || fread(model, 1, model_len, stdin) != model_len) return 2;
+        size_t n = used(search);
+        if (n > most_search) most_search = n;
+        n = used(check);
+        if (n > most_check) most_check = n;
+    }
+    printf("search %zu check %zu thread %zu\n", most_search, most_check, thread);
+    return 0;
+}
