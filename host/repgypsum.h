@@ -17,7 +17,7 @@ extern "C" {
  * bounds and preferences are true. */
 enum repgypsum_verdict {
     REPGYPSUM_CHEAPEST = 0,     /* the plan costs no more than any other, if the declarations are true */
-    REPGYPSUM_NO_PLAN = 1,      /* there is none, if the declarations are true */
+    REPGYPSUM_NO_PLAN = 1,      /* there is none, if the declarations are true, or if the target breaks a constraint */
     REPGYPSUM_WIDTH_STOP = 2,   /* some layer has more states than the widest beam */
     REPGYPSUM_LENGTH_STOP = 3,  /* some unfinished state lies at the length limit */
     REPGYPSUM_BUDGET_SPENT = 4,
@@ -38,7 +38,7 @@ enum repgypsum_refusal {
     REPGYPSUM_OUT_OF_RANGE = 11,    /* a number expression left -2^31 .. 2^31 - 1 */
     REPGYPSUM_DIVISOR_ZERO = 12,
     REPGYPSUM_NEGATIVE_COST = 13,
-    REPGYPSUM_NOT_A_PLAN = 14       /* plan check only */
+    REPGYPSUM_NOT_A_PLAN = 14       /* plan check only; always where the target breaks a constraint */
 };
 
 /* The answer of a search. At a refusal by the input all fields but the first two are 0. At a refusal by a state cost, length
@@ -65,7 +65,8 @@ struct repgypsum_answer {
 struct repgypsum_answer repgypsum_search(const uint8_t *model, uintptr_t model_len, uint32_t width, uint32_t length, uint32_t budget,
                                          uint8_t *plan, uintptr_t plan_len, uint64_t *words, uintptr_t words_len);
 
-/* The plan check, step by step: 0 exactly if the bytes are a plan of the model, else the refusal's number. */
+/* The plan check, the target's constraints first and then step by step: 0 exactly if the bytes are a plan of the model, else the
+ * refusal's number. */
 uint8_t repgypsum_check_answer(const uint8_t *model, uintptr_t model_len, const uint8_t *plan, uintptr_t plan_len);
 
 /* The plan's cost where the answer is 0, else 0. */

@@ -230,6 +230,22 @@ impl Build {
         self.command(0x0C, &[&condition])
     }
 
+    /// 0C before all other constraints, or behind them, in front of the bounds that are there already.
+    pub fn constraint_among(mut self, condition: &[u8], first: bool) -> Build {
+        let least = if first { 0x0C } else { 0x0D };
+        let behind = |start: &usize| (least..=0x0D).contains(&self.bytes[*start]);
+        let at = self.starts.iter().copied().find(behind);
+        let at = at.unwrap_or(self.bytes.len());
+        let command = join(0x0C, &[condition]);
+        let place = self.starts.partition_point(|start| *start < at);
+        for start in &mut self.starts[place..] {
+            *start += command.len();
+        }
+        self.starts.insert(place, at);
+        self.bytes.splice(at..at, command);
+        self
+    }
+
     /// 0D.
     pub fn bound(self, number: Bytes) -> Build {
         self.command(0x0D, &[&number])

@@ -15,6 +15,7 @@ mod plan;
 mod quotations;
 mod refusals;
 mod settings;
+mod target;
 mod translate;
 mod unconditional;
 mod warnings;

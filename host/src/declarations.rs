@@ -75,13 +75,15 @@ pub fn look(bytes: &[u8], model: &Model, looking: Looking) -> Findings {
     }
 }
 
-/// The numbers of the constraints that the target breaks or that have no value there.
-pub fn broken_by_target(model: &Model) -> Vec<usize> {
+/// The constraint that the target breaks, the first of them, if all before it have values.
+pub fn broken_by_target(model: &Model) -> Option<usize> {
     let target = model.target();
-    let constraints = model.constraints.iter().enumerate();
-    let broken =
-        constraints.filter(|(_, constraint)| model.condition(constraint, &target) != Ok(true));
-    broken.map(|(number, _)| number).collect()
+    let held = |constraint| model.condition(constraint, &target);
+    let first = model
+        .constraints
+        .iter()
+        .position(|one| held(one) != Ok(true))?;
+    (held(&model.constraints[first]) == Ok(false)).then_some(first)
 }
 
 /// The values of the bounds in a state where all of them have one.

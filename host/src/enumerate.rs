@@ -23,10 +23,13 @@ pub struct Step {
 
 /// The target (index 0) and all states that allowed steps reach from it.
 pub struct Space {
+    /// Whether the target meets all constraints, which have values there. If not, the model has no plan.
+    pub admitted: bool,
     pub states: Vec<State>,
     pub standing: Vec<Standing>,
     pub steps: Vec<Vec<Step>>,
-    /// The cost of the cheapest plan from each state, of whatever length.
+    /// The least cost of steps from each state to a base state, however many. It is that of the cheapest plan from each
+    /// state that a step reaches, and of the target if it is admitted.
     pub to_go: Vec<Option<i64>>,
 }
 
@@ -58,6 +61,7 @@ impl Space {
         let target = model.target();
         let mut index = HashMap::from([(target.clone(), 0)]);
         let mut space = Space {
+            admitted: model.meets_constraints(&target) == Ok(true),
             states: vec![target],
             standing: Vec::new(),
             steps: Vec::new(),
@@ -114,6 +118,11 @@ impl Space {
         }
     }
 
+    /// The cost of the cheapest plan of the model, of whatever length.
+    pub fn cheapest(&self) -> Option<i64> {
+        self.to_go[0].filter(|_| self.admitted)
+    }
+
     /// Layers 0 to `length` of the model, as sets of states.
     pub fn layers(&self, length: u64) -> Vec<BTreeSet<usize>> {
         let mut layers = vec![BTreeSet::from([0])];
@@ -146,7 +155,7 @@ impl Space {
             }
             layer = next;
         }
-        cheapest
+        cheapest.filter(|_| self.admitted)
     }
 
     /// The cost of a plan from the target, if the sequence is one.
@@ -158,10 +167,11 @@ impl Space {
             cost = model.join(cost, step.cost);
             at = step.to;
         }
-        (self.standing[at] == Standing::Base).then_some(cost)
+        (self.admitted && self.standing[at] == Standing::Base).then_some(cost)
     }
 
-    /// Whether h is at most the cost of every plan, in every reachable state where h has a value.
+    /// Whether h is at most the cost of every plan, in every reachable state where h has a value. The target is one of these
+    /// states, admitted or not.
     pub fn bounds_true(&self, model: &Model) -> bool {
         let too_high = |state, to_go| model.h(state).is_ok_and(|h| h > to_go);
         let pairs = self.states.iter().zip(&self.to_go);
@@ -221,7 +231,7 @@ impl Space {
         if answer.flag && self.plan_cost(model, plan) != Some(cost) {
             return Some("a plan given is a plan of the model, at the cost stated");
         }
-        let least = self.to_go[0];
+        let least = self.cheapest();
         let broken = match answer.verdict {
             verdict::CHEAPEST if declarations_true && (!answer.flag || least != Some(cost)) => {
                 Some("a plan marked cheapest costs no more than every other plan")

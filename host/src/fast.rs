@@ -1,4 +1,4 @@
-//! The search of document 01 in a fast form, for benchmarks and as a third opinion.
+//! The search of documents 01 and 02 in a fast form, for benchmarks and as a third opinion.
 //!
 //! It shares the reader of models with the reference, and nothing of the evaluation or of the search.
 

@@ -1,6 +1,8 @@
 //! Seeded random models, well made and damaged, and random settings.
 
 use crate::build::*;
+use crate::reference::read_model;
+use crate::reference::syntax::Variable;
 
 /// The generator splitmix64.
 pub struct Random(u64);
@@ -45,7 +47,40 @@ pub fn settings(random: &mut Random) -> (u64, u64, u64) {
     (width, length, budget)
 }
 
-/// A random model of one of the families below.
+/// A random model, to some of which a constraint is added that the target breaks, or that has no value there: four of a
+/// hundred each.
+pub fn with_any_target(random: &mut Random) -> Build {
+    let build = model(random);
+    let kind = random.below(100);
+    if kind >= 8 {
+        return build;
+    }
+    let started = started(random, &build);
+    let constraint = match kind {
+        0..=3 => not(started),
+        4..=5 => at_most(quotient(lit(1), choice(started, lit(0), lit(1))), lit(1)),
+        _ => less(lit(0), sum(lit(i32::MAX), choice(started, lit(1), lit(0)))),
+    };
+    let first = random.chance(50);
+    build.constraint_among(&constraint, first)
+}
+
+/// A condition that holds where a variable, picked at random, has its start value.
+fn started(random: &mut Random, build: &Build) -> Bytes {
+    let model = read_model(&build.clone().end()).expect("a generated model is well made");
+    let place = random.below(model.variables.len());
+    let name = place as u8;
+    match model.variables[place] {
+        Variable::Set { count, start } => {
+            let start = set_lit(count, start);
+            and(subset(set(name), start.clone()), subset(start, set(name)))
+        }
+        Variable::Element { start, .. } => same(elem(name), obj(start)),
+        Variable::Number { start, .. } => equal(num(name), lit(start as i32)),
+    }
+}
+
+/// A random model of one of the families below. Stored cases are places in sequences of these.
 pub fn model(random: &mut Random) -> Build {
     match random.below(10) {
         0..=3 => graph(random),

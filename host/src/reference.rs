@@ -1,4 +1,4 @@
-//! Document 01 as plain code, written for reading: model, meaning, plan check and search.
+//! Documents 01 and 02 as plain code, written for reading: model, meaning, plan check and search.
 
 pub mod check;
 pub mod meaning;

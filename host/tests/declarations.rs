@@ -2,7 +2,7 @@
 
 use repgypsum_host::declarations::{look, Looking, Truth};
 use repgypsum_host::enumerate::Space;
-use repgypsum_host::generate::{model, Random};
+use repgypsum_host::generate::{with_any_target, Random};
 use repgypsum_host::reference::syntax::{Preference, Variable};
 use repgypsum_host::reference::{plan_check, read_model, Model, State};
 use repgypsum_host::text::assemble;
@@ -25,7 +25,7 @@ fn looking(states: usize) -> Looking {
 /// A random model with few states, and those states.
 fn small(random: &mut Random) -> (Vec<u8>, Model, Space) {
     loop {
-        let bytes = model(random).end();
+        let bytes = with_any_target(random).end();
         let Ok(model) = read_model(&bytes) else {
             continue;
         };
@@ -35,10 +35,26 @@ fn small(random: &mut Random) -> (Vec<u8>, Model, Space) {
     }
 }
 
-/// The plan is a plan from the state at this cost, by the plain plan check on the model started there.
-fn is_plan(bytes: &[u8], state: &State, plan: &[u8], cost: i64) {
-    let started = started_in(bytes, state);
-    assert_eq!(plan_check(&started, plan), (0, cost as u64));
+/// The plan is a plan from the state at this cost, by the plain plan check on the model started there. From a target that does
+/// not meet the constraints, the first step is made by hand.
+fn is_plan(bytes: &[u8], model: &Model, state: &State, plan: &[u8], cost: i64) {
+    if model.meets_constraints(state) == Ok(true) {
+        let started = started_in(bytes, state);
+        assert_eq!(plan_check(&started, plan), (0, cost as u64));
+        return;
+    }
+    assert_eq!(*state, model.target());
+    let Some((first, rest)) = plan.split_first() else {
+        assert_eq!((model.is_base(state), cost), (Ok(true), 0));
+        return;
+    };
+    let step = &model.transitions[usize::from(*first)];
+    assert_eq!(model.is_base(state), Ok(false));
+    assert_eq!(model.all_hold(&step.conditions, state), Ok(true));
+    let started = started_in(bytes, &model.after(step, state).unwrap());
+    let (answer, to_go) = plan_check(&started, rest);
+    let step_cost = model.step_cost(step, state).unwrap();
+    assert_eq!((answer, model.join(step_cost, to_go as i64)), (0, cost));
 }
 
 /// The steps lead from the target to the state.
@@ -59,7 +75,7 @@ fn holds(bytes: &[u8], model: &Model, space: &Space, states: usize) -> (bool, bo
         if let Truth::False(found) = truth {
             bound_false = true;
             leads_to(model, &found.path, &found.state);
-            is_plan(bytes, &found.state, &found.plan, found.cost);
+            is_plan(bytes, model, &found.state, &found.plan, found.cost);
             let value = model.number(&model.bounds[number], &found.state);
             assert_eq!(value, Ok(found.value));
             assert!(found.value > found.cost);
@@ -72,7 +88,7 @@ fn holds(bytes: &[u8], model: &Model, space: &Space, states: usize) -> (bool, bo
         leads_to(model, &found.better_path, &found.better);
         leads_to(model, &found.worse_path, &found.worse);
         assert!(model.dominates(&found.better, &found.worse));
-        is_plan(bytes, &found.worse, &found.plan, found.cost);
+        is_plan(bytes, model, &found.worse, &found.plan, found.cost);
         let place = space.states.iter().position(|state| *state == found.better);
         let least = space.to_go[place.unwrap()];
         assert!(least.is_none_or(|least| least > found.cost));

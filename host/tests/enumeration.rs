@@ -3,7 +3,8 @@
 use repgypsum_host::answer::Answer;
 use repgypsum_host::cases::FILL;
 use repgypsum_host::enumerate::Space;
-use repgypsum_host::generate::{model, settings, Random};
+use repgypsum_host::generate::{settings, with_any_target, Random};
+use repgypsum_host::numbers::refusal::NOT_A_PLAN;
 use repgypsum_host::numbers::verdict::{
     BUDGET_SPENT, CHEAPEST, CONTRADICTED, LENGTH_STOP, NO_PLAN, WIDTH_STOP,
 };
@@ -20,6 +21,9 @@ const STATES: usize = 400;
 struct Tally {
     models: usize,
     troubled: usize,
+    /// Models whose target breaks a constraint, and those whose target's constraints have no value.
+    broken_targets: usize,
+    troubled_targets: usize,
     declarations_true: usize,
     comparable_true: usize,
     searches: usize,
@@ -42,12 +46,15 @@ fn run(models: usize) -> Tally {
     let mut tally = Tally::default();
     let mut random = Random::new(0x5EED);
     while tally.models < models {
-        let bytes = model(&mut random).end();
+        let bytes = with_any_target(&mut random).end();
         let read = read_model(&bytes).expect("a generated model is well made");
         let Some(space) = Space::of(&read, STATES) else {
             continue;
         };
         tally.models += 1;
+        let met = read.meets_constraints(&read.target());
+        tally.broken_targets += usize::from(met == Ok(false));
+        tally.troubled_targets += usize::from(met.is_err());
         let declarations_true = space.bounds_true(&read) && space.preferences_true(&read);
         tally.declarations_true += usize::from(declarations_true);
         tally.comparable_true += usize::from(declarations_true && space.some_dominance(&read));
@@ -65,15 +72,16 @@ fn run(models: usize) -> Tally {
             tally.verdicts[usize::from(answer.verdict)] += 1;
             tally.true_verdicts[usize::from(answer.verdict)] += usize::from(declarations_true);
             tally.fitting += usize::from(space.fits(width, length));
-            agrees_with_plan_check(&bytes, &answer, plan);
-            within_limit(&space, &read, length, &answer);
-            assert!(answer.expansions <= budget);
             let broken = space.broken(&read, declarations_true, (width, length), &answer, plan);
             if let Some(sentence) = broken {
                 tally.broken.push(format!(
                     "{sentence}: {bytes:02x?} W {width} L {length} budget {budget}: {answer:?}"
                 ));
+                continue;
             }
+            agrees_with_plan_check(&bytes, &answer, plan);
+            within_limit(&space, &read, length, &answer);
+            assert!(answer.expansions <= budget);
         }
         tally.troubled += usize::from(troubled);
     }
@@ -83,6 +91,27 @@ fn run(models: usize) -> Tally {
 fn agrees_with_plan_check(bytes: &[u8], answer: &Answer, plan: &[u8]) {
     if answer.flag {
         assert_eq!(plan_check(bytes, plan), (0, answer.cost));
+    }
+}
+
+/// The answer of a search whose target breaks a constraint, or has one without a value, and the plan check's for whatever plan.
+fn answers_of_the_target(met: Result<bool, u8>, bytes: &[u8], answer: &Answer, buffer: &[u8]) {
+    let (refused, verdict, checked) = match met {
+        Ok(true) => return,
+        Ok(false) => (false, NO_PLAN, NOT_A_PLAN),
+        Err(number) => (true, number, number),
+    };
+    let due = Answer {
+        refused,
+        verdict,
+        rounds: 1,
+        width: 1,
+        ..Answer::default()
+    };
+    assert_eq!(*answer, due, "{bytes:02x?}");
+    assert!(buffer.iter().all(|byte| *byte == FILL));
+    for plan in [&[][..], &[0], &[255, 0]] {
+        assert_eq!(plan_check(bytes, plan), (checked, 0), "{bytes:02x?}");
     }
 }
 
@@ -108,6 +137,10 @@ fn demand_three_holds() {
         tally.models, tally.troubled, tally.declarations_true, tally.comparable_true
     );
     println!(
+        "targets that break a constraint {}, with trouble in one {}",
+        tally.broken_targets, tally.troubled_targets
+    );
+    println!(
         "searches {}, verdicts 0 to 5 {:?}, with declarations true {:?}, refusals 11 to 13 {:?}, fitting {}",
         tally.searches,
         tally.verdicts,
@@ -120,7 +153,31 @@ fn demand_three_holds() {
     assert!(tally.models >= 2_000 && tally.declarations_true >= 1_000);
     assert!(tally.comparable_true >= 100 && tally.fitting >= 1_000);
     assert!(tally.verdicts.iter().all(|met| *met >= 50));
+    assert!(tally.broken_targets >= 100 && tally.troubled_targets >= 100);
     assert!(tally.refusals[11..14].iter().all(|met| *met >= 20));
+}
+
+/// Targets that break a constraint, or that have one without a value, at every setting.
+#[test]
+fn targets_outside_the_constraints() {
+    let mut random = Random::new(0x7A26);
+    let mut met = [0; 3];
+    for _ in 0..MODELS {
+        let bytes = with_any_target(&mut random).end();
+        let read = read_model(&bytes).expect("a generated model is well made");
+        let constraints = read.meets_constraints(&read.target());
+        met[match constraints {
+            Ok(true) => 0,
+            Ok(false) => 1,
+            Err(_) => 2,
+        }] += 1;
+        for _ in 0..SETTINGS {
+            let (answer, buffer) = searched(&bytes, settings(&mut random));
+            answers_of_the_target(constraints, &bytes, &answer, &buffer);
+        }
+    }
+    println!("targets inside, breaking one, with trouble {met:?}");
+    assert!(met[1..].iter().all(|count| *count >= MODELS / 40));
 }
 
 /// Answers that say what is not so in a space, made from one that is so.
@@ -139,7 +196,7 @@ fn false_answers(
     let verdict = |verdict: u8| Answer { verdict, ..*answer };
     let cost = answer.cost + 1;
     when(answer.flag, Answer { cost, ..*answer });
-    let least = space.to_go[0].map(|least| least as u64);
+    let least = space.cheapest().map(|least| least as u64);
     let not_cheapest = !answer.flag || least != Some(answer.cost);
     when(declarations_true && not_cheapest, verdict(CHEAPEST));
     when(declarations_true && least.is_some(), verdict(NO_PLAN));
@@ -161,7 +218,7 @@ fn false_answers_break_demand_three() {
     let mut broken: BTreeMap<&str, usize> = BTreeMap::new();
     let mut random = Random::new(0x5EED);
     for _ in 0..1_500 {
-        let bytes = model(&mut random).end();
+        let bytes = with_any_target(&mut random).end();
         let settings = settings(&mut random);
         let read = read_model(&bytes).expect("a generated model is well made");
         let Some(space) = Space::of(&read, STATES) else {
@@ -191,12 +248,12 @@ fn enumeration_agrees_with_itself() {
     let mut random = Random::new(7);
     let mut compared = 0;
     while compared < 500 {
-        let read = read_model(&model(&mut random).end()).unwrap();
+        let read = read_model(&with_any_target(&mut random).end()).unwrap();
         let Some(space) = Space::of(&read, 60) else {
             continue;
         };
         let length = space.states.len() as u64;
-        assert_eq!(space.cheapest_within(&read, length), space.to_go[0]);
+        assert_eq!(space.cheapest_within(&read, length), space.cheapest());
         compared += 1;
     }
     println!("{compared} spaces compared");
@@ -207,7 +264,7 @@ fn enumeration_agrees_with_itself() {
 fn searches_repeat() {
     let mut random = Random::new(11);
     for _ in 0..200 {
-        let bytes = model(&mut random).end();
+        let bytes = with_any_target(&mut random).end();
         let once = || searched(&bytes, (4, 6, 40));
         assert_eq!(once(), once());
     }

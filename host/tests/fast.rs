@@ -5,7 +5,7 @@ use repgypsum_host::build::*;
 use repgypsum_host::cases::{groups, Call, FILL};
 use repgypsum_host::families::families;
 use repgypsum_host::fast;
-use repgypsum_host::generate::{damaged, model, settings, Random};
+use repgypsum_host::generate::{damaged, model, settings, with_any_target, Random};
 use repgypsum_host::numbers::{refusal, words_needed};
 use repgypsum_host::reference::search;
 
@@ -150,7 +150,7 @@ fn random_models() {
     let mut met = Met::default();
     let mut random = Random::new(0xFA57);
     for _ in 0..6_000 {
-        let bytes = model(&mut random).end();
+        let bytes = with_any_target(&mut random).end();
         for _ in 0..8 {
             compare(&mut met, &bytes, settings(&mut random));
         }
@@ -166,7 +166,7 @@ fn random_models_at_length() {
     let mut met = Met::default();
     let mut random = Random::new(0x10_4E);
     for _ in 0..1_500 {
-        let bytes = model(&mut random).end();
+        let bytes = with_any_target(&mut random).end();
         let width = 1 << random.below(7);
         let length = random.between(6, 24) as u64;
         let budget = random.pick(&[50, 300, 600]);

@@ -6,7 +6,7 @@ use repgypsum_host::cases::{groups, Call, Outcome};
 use repgypsum_host::enumerate::Space;
 use repgypsum_host::families::families;
 use repgypsum_host::fast;
-use repgypsum_host::generate::{damaged, model, Random};
+use repgypsum_host::generate::{damaged, with_any_target, Random};
 use repgypsum_host::numbers::words_needed;
 use repgypsum_host::proved;
 use repgypsum_host::reference::{self, read_model};
@@ -99,7 +99,7 @@ fn random_models() {
     let mut enumerated = 0;
     let mut declarations = 0;
     for _ in 0..models() {
-        let bytes = model(&mut random).end();
+        let bytes = with_any_target(&mut random).end();
         let settings = settings(&mut random);
         let more = random.below(4);
         let (answer, buffer) = compare_at(&bytes, settings, more);
@@ -139,7 +139,7 @@ fn random_plan_checks() {
     let mut random = Random::new(0xC4EC);
     let mut answers = [0; 15];
     for _ in 0..models() {
-        let bytes = model(&mut random).end();
+        let bytes = with_any_target(&mut random).end();
         let (answer, buffer) = compare_at(&bytes, (8, 8, 200), 0);
         let mut plan = buffer[..answer.length as usize].to_vec();
         if random.chance(50) || plan.is_empty() {
@@ -168,7 +168,7 @@ fn damaged_calls() {
     let mut random = Random::new(0xDA3A);
     let mut refusals = [0; 15];
     for _ in 0..models() {
-        let build = model(&mut random);
+        let build = with_any_target(&mut random);
         let bytes = if random.chance(80) {
             damaged(&mut random, &build)
         } else {

@@ -95,6 +95,38 @@ fn others() {
     }
 }
 
+/// Document 02, §1: the target's constraints before everything else about states.
+#[test]
+fn constraints_of_the_target() {
+    let designs = |constraint| {
+        let constraint = Some(constraint);
+        Designs {
+            constraint,
+            ..Designs::default()
+        }
+        .bytes()
+    };
+    let broken = designs(not(same(elem(1), obj(0))));
+    for budget in [0, 100_000] {
+        assert_eq!(line(&broken, 16, 64, budget), "1 0 0 0 0 0 1 1 :");
+    }
+    for plan in [&[0, 1, 2][..], &[], &[3]] {
+        assert_eq!(plan_check(&broken, plan), (14, 0));
+    }
+    let by_zero = designs(equal(quotient(lit(1), lit(0)), lit(0)));
+    let (answer, plan) = run(&by_zero, 16, 64, 100_000);
+    assert_eq!(
+        (answer.refused, answer.verdict, answer.flag),
+        (true, 12, false)
+    );
+    assert_eq!((answer.cost, answer.bound, answer.length), (0, 0, 0));
+    assert_eq!((answer.expansions, answer.rounds, answer.width), (0, 1, 1));
+    assert_eq!(plan, Vec::<u8>::new());
+    for plan in [&[0, 1, 2][..], &[], &[3]] {
+        assert_eq!(plan_check(&by_zero, plan), (12, 0));
+    }
+}
+
 #[test]
 fn typed_in_models() {
     let expected = [

@@ -1,11 +1,23 @@
--- An evaluator's answer as one number.
-use Prim.Native.Nat.{ℕ, _^_, _-_}
-use mathlib.Core.Bool.{cond}
+-- What the timed calls answer: an evaluator's answer as one number; how many of a row of children a layer keeps.
+use Prim.Native.Nat.{ℕ, zero, suc, _+_, _-_, _*_, _/_, _%_, _^_}
+use mathlib.Core.Bool.{Bool, cond, _&&_}
+use mathlib.Core.List.{List, [], _∷_}
+use mathlib.Core.Option.{none}
+use lib.Dec.{leb, ltb, eqb}
 use lib.IntN.{ℤ, negsuc}
+use lib.ListN.{length}
+use Rattle.model.specs.Numbers.{mostModelBytes}
+use Rattle.model.specs.Meaning.{State}
+use Rattle.model.specs.Commands.{model}
+use Rattle.outline.specs.Outline.{refusalOf}
 use Rattle.eval_sets.specs.declared.answers.NumberValue.{NumberValue}
 use Rattle.eval_sets.specs.declared.answers.NumberValue.the-variants as N
 use Rattle.eval_sets.specs.declared.answers.ConditionValue.{ConditionValue}
 use Rattle.eval_sets.specs.declared.answers.ConditionValue.the-variants as C
+use Rattle.steps.specs.InBytes.{systemIn}
+use Rattle.steps.specs.Follow.{costsIn}
+use Rattle.search.specs.Search.{Round, insert, freshRound}
+use Rattle.beam.specs.Nodes.{nodeOf}
 
 -- the value, or −2^63 for trouble
 abbrev pub numberCode : NumberValue → ℤ
@@ -16,3 +28,36 @@ numberCode (N.Trouble t) = negsuc (2 ^ 63 - 1)
 abbrev pub conditionCode : ConditionValue → ℕ
 conditionCode (C.Holds b n) = cond b 1 0
 conditionCode (C.Trouble t) = 2
+
+-- the next of a row of numbers below 2^32
+unfoldable pub nextOf : ℕ → ℕ
+nextOf x = (x % 2 ^ 32 * 1664525 + 1013904223) % 2 ^ 32
+
+-- a child's words by x: two of its state, then g, h and f
+unfoldable pub childOf : ℕ → List ℕ
+childOf x =
+    let y = nextOf x in
+    let g = y / 1048576 in
+    let h = y / 65536 % 64 in
+    (x / 65536 % 4096) ∷ (y / 256 % 64) ∷ 0 ∷ 0 ∷ 0 ∷ 0 ∷ 0 ∷ 0 ∷ 0 ∷ 0 ∷ 0 ∷ 0 ∷ 0 ∷ 0 ∷ 0 ∷ 0 ∷ g ∷ h ∷ (g + h) ∷ 0 ∷ []
+
+-- a round with nothing kept and no plan
+unfoldable pub emptyRound : (bytes : List ℕ) → Round State ℕ
+emptyRound bytes = freshRound (costsIn bytes) (systemIn bytes) (record { best = none; low = 0; expansions = 0 })
+
+-- the round after n children, from x on, have been offered by rule 5
+unfoldable pub offered : (bytes : List ℕ) (w n x : ℕ) → Round State ℕ → Round State ℕ
+offered bytes w zero x r = r
+offered bytes w (suc n) x r = offered bytes w n (nextOf x) (insert (costsIn bytes) (systemIn bytes) w (nodeOf bytes (λ _. []) (childOf x)) r)
+
+-- how many are kept of so many children, from the number `seed` on
+unfoldable pub keptAfter : (bytes : List ℕ) (w children seed : ℕ) → ℕ
+keptAfter bytes w children seed = length (offered bytes w children seed (emptyRound bytes) .kept)
+
+-- a width from 1 to 4,096, and 26 words for each place of it
+unfoldable pub layerFits : (w words : ℕ) → Bool
+layerFits w words = ltb 0 w && leb w 4096 && leb (26 * w) words
+
+-- the same where the model is read and the layer fits, else 0
+unfoldable pub insertions : (bytes : List ℕ) (words w children seed : ℕ) → ℕ
+insertions bytes words w children seed = cond (leb (length bytes) mostModelBytes && layerFits w words && eqb (refusalOf (model bytes)) 0) (keptAfter bytes w children seed) 0

@@ -212,7 +212,7 @@ fn condition_behind(
     }
 }
 
-// The value of the number that begins at a environment; the commonest forms first, so that they cost one call.
+// The value of the number that begins at a position; the commonest forms first, so that they cost one call.
 fn number_from(
     e: &[u8],
     at: usize,
@@ -253,7 +253,7 @@ fn number_from(
     )
 }
 
-// Whether the condition that begins at a environment holds; the commonest form first.
+// Whether the condition that begins at a position holds; the commonest form first.
 pub fn condition_from(
     e: &[u8],
     at: usize,

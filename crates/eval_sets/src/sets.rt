@@ -216,7 +216,7 @@ fn set_behind(
     }
 }
 
-// The members of the set that begins at a environment.
+// The members of the set that begins at a position.
 pub fn set_from(e: &[u8], at: usize, state: &[u64], full: &[u64], depth: usize) -> SetValue
     ensures { λ r. ⌜ r ≡ runs.runSet depth (now (state .entry)) (now (full .entry)) (drop at (now (e .entry))) ⌝ }
 {

@@ -68,7 +68,7 @@ fn both(
     }
 }
 
-// Whether the condition that begins at a environment holds, tested no further than it must.
+// Whether the condition that begins at a position holds, tested no further than it must.
 fn test_from(
     e: &[u8],
     at: usize,

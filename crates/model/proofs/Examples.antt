@@ -45,8 +45,14 @@ asked =
     ∷ checkOf (hex 49 0x01_00_04_00_01_00_00_00_04_00_02_00_00_00_07_09_20_05_00_00_00_0a_00_21_01_0a_01_21_00_0b_08_50_21_00_20_02_00_00_00_08_50_21_01_20_01_00_00_00_0e) (hex 1 0x01)
     -- the new state must meet the constraints
     ∷ checkOf (hex 58 0x01_00_04_00_01_00_00_00_04_00_02_00_00_00_07_09_20_05_00_00_00_0a_00_21_01_0a_01_21_00_0b_08_50_21_00_20_02_00_00_00_08_50_21_01_20_01_00_00_00_0c_51_21_00_20_02_00_00_00_0e) (hex 1 0x00)
-    -- the target need not meet them
+    -- the target must meet them too
     ∷ checkOf (hex 58 0x01_00_04_00_01_00_00_00_04_00_02_00_00_00_07_09_20_05_00_00_00_0a_00_21_01_0a_01_21_00_0b_08_50_21_00_20_02_00_00_00_08_50_21_01_20_01_00_00_00_0c_51_21_01_20_02_00_00_00_0e) (hex 1 0x00)
+    -- a base target too, where the plan is empty
+    ∷ checkOf (hex 28 0x01_00_04_00_01_00_00_00_0b_08_50_21_00_20_01_00_00_00_0c_51_21_00_20_01_00_00_00_0e) (hex 0 0x00)
+    -- both meet them
+    ∷ checkOf (hex 58 0x01_00_04_00_01_00_00_00_04_00_02_00_00_00_07_09_20_05_00_00_00_0a_00_21_01_0a_01_21_00_0b_08_50_21_00_20_02_00_00_00_08_50_21_01_20_01_00_00_00_0c_51_21_00_20_03_00_00_00_0e) (hex 1 0x00)
+    -- trouble in the target's constraints is told before a transition that is not declared
+    ∷ checkOf (hex 67 0x01_00_04_00_01_00_00_00_04_00_02_00_00_00_07_09_20_05_00_00_00_0a_00_21_01_0a_01_21_00_0b_08_50_21_00_20_02_00_00_00_08_50_21_01_20_01_00_00_00_0c_50_25_20_01_00_00_00_20_00_00_00_00_20_01_00_00_00_0e) (hex 1 0x01)
     -- largest rule
     ∷ checkOf (hex 59 0x01_01_04_00_01_00_00_00_04_00_02_00_00_00_07_09_20_05_00_00_00_0a_00_20_03_00_00_00_07_09_20_04_00_00_00_0a_01_20_03_00_00_00_0b_08_50_21_00_21_01_08_50_21_00_20_03_00_00_00_0e) (hex 2 0x00_01)
     -- nesting 32
@@ -93,7 +99,10 @@ told =
     ∷ checked (trouble notAPlan)
     ∷ checked (trouble notAPlan)
     ∷ checked (trouble notAPlan)
+    ∷ checked (trouble notAPlan)
+    ∷ checked (trouble notAPlan)
     ∷ checked (value 5)
+    ∷ checked (trouble divisorZero)
     ∷ checked (value 5)
     ∷ checked (value 0)
     ∷ checked (trouble tooDeep)

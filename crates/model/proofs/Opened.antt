@@ -51,8 +51,8 @@ unfolding ofLists.any ofLists.filter ofLists.isEmpty ofHex.hex ofHex.zeros _bind
     ofCommands.transition ofCommands.nothingMore ofCommands.model ofMeaning.numberAt ofMeaning.naturalAt ofMeaning.elementValue ofMeaning.setValue
     ofMeaning.equalZ ofMeaning.entryAt ofMeaning.sumOver ofMeaning.two ofMeaning.fit ofMeaning.expressionValue ofMeaning.allHold ofMeaning.someHolds
     ofMeaning.numberValue ofSteps.target ofSteps.combine ofSteps.statusOf ofSteps.costOf ofSteps.noWorse ofSteps.noneWorse ofSteps.raise
-    ofSteps.status ofSteps.effects ofSteps.attempt ofSteps.constrained ofSteps.moveOf ofSteps.moveBy ofSteps.move ofSteps.greatest ofSteps.bound
-    ofSteps.systemOf ofSteps.costsOf ofSteps.originOf ofCheck.final ofCheck.afterMove ofCheck.afterStatus ofCheck.follow ofCheck.checkModel
+    ofSteps.admits ofSteps.status ofSteps.effects ofSteps.attempt ofSteps.constrained ofSteps.moveOf ofSteps.moveBy ofSteps.move ofSteps.greatest ofSteps.bound
+    ofSteps.systemOf ofSteps.costsOf ofSteps.originOf ofCheck.final ofCheck.afterMove ofCheck.afterStatus ofCheck.follow ofCheck.afterConstraints ofCheck.followFrom ofCheck.checkModel
     ofCheck.check ofCheck.answerNumber ofCheck.answerCost valueRead
 opened (numberOf bytes) = valued (valueRead (ofExpressions.number [] [] mostNesting bytes))
 opened (checkOf bytes plan) = checked (check bytes plan)

@@ -18,7 +18,7 @@ use Rattle.model.specs.Values.{Value, value, trouble, _>>=_, inRange, fl
 use Rattle.model.specs.System.{Status, base, unfinished, noStatus, Move, blocked, moved, troubleBefore, troubleAfter}
 use Rattle.model.specs.Syntax.{Number, literal, numberVariable, plus, minus, times, quotient, lesser, greater, entry, size, total, choice, Condition, equal, less, atMost, same, member, isEmpty, subset, negation, both, either, Expression, ofSet, ofElement, ofNumber, Table, Effect, Transition, Model}
 use Rattle.model.specs.Meaning.{State, two, fit, numberValue, conditionValue, expressionValue, allHold, someHolds}
-use Rattle.model.specs.Steps.{statusOf, costOf, raise, Attempt, notTaken, taken, status, effects, attempt, constrained, moveOf, moveBy, move, greatest, bound}
+use Rattle.model.specs.Steps.{statusOf, costOf, raise, Attempt, notTaken, taken, admits, status, effects, attempt, constrained, moveOf, moveBy, move, greatest, bound}
 
 -- ---- a value with P, or a trouble whose number has Q
 
@@ -172,6 +172,10 @@ module _ (end : ℕ) where
   raise-below h (negsuc a) p q = p
 
 module _ (end : ℕ) (m : Model) where
+  pub admits-outcome : (s : State) → Outcome Anything StateTrouble (admits end m s)
+  unfolding admits
+  admits-outcome s = all-hold-outcome end (m .tables) (m .constraints) s
+
   pub status-outcome : (s : State) → StatusOutcome (status end m s)
   unfolding status
   status-outcome s = status-of-outcome (some-holds-outcome end (m .tables) (m .baseCases) s)
@@ -196,7 +200,7 @@ module _ (end : ℕ) (m : Model) where
   move-of-outcome : {n : ℕ} {x : Value Attempt} → Outcome (AttemptOutcome end n) StateTrouble x → MoveOutcome end n (moveOf end m x)
   unfolding moveOf
   move-of-outcome (a-value not-taken) = no-move
-  move-of-outcome (a-value (is-taken {c} {new} h e)) = constrained-outcome c new h e (all-hold-outcome end (m .tables) (m .constraints) new)
+  move-of-outcome (a-value (is-taken {c} {new} h e)) = constrained-outcome c new h e (admits-outcome new)
   move-of-outcome (a-trouble q) = trouble-before q
 
   move-by-outcome : (o : Option Transition) (s : State) → MoveOutcome end (length s) (moveBy end m o s)

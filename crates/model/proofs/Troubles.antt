@@ -1,4 +1,4 @@
--- The numbers of troubles: evaluation, status, moves and h give 11 to 13, following a plan gives 14 besides.
+-- The numbers of troubles: evaluation, constraints, status, moves and h give 11 to 13, following a plan gives 14 besides.
 -- So the plan check refuses by 1, 2, 4 to 9 and 11 to 14 only.
 use Prim.Native.Nat.{ℕ, _≤_, _<_}
 use mathlib.Core.Path.{_≡_, refl, subst}
@@ -15,8 +15,8 @@ use Rattle.model.specs.Syntax.{Number, Condition, Table, Model}
 use Rattle.model.specs.Readers.{Read}
 use Rattle.model.specs.Meaning.{State, numberValue, conditionValue}
 use Rattle.model.specs.Steps.{target, systemOf, costsOf}
-use Rattle.model.specs.Check.{final, afterMove, afterStatus, follow, checkModel, check}
-use Rattle.model.proofs.Outcomes.{Outcome, a-value, a-trouble, StateTrouble, Anything, outcome-trouble, trouble-outcome, number-outcome, condition-outcome, StatusOutcome, is-base, is-unfinished, no-status, status-outcome, MoveOutcome, no-move, a-move, trouble-before, trouble-after, move-outcome, bound-outcome}
+use Rattle.model.specs.Check.{final, afterMove, afterStatus, follow, afterConstraints, followFrom, checkModel, check}
+use Rattle.model.proofs.Outcomes.{Outcome, a-value, a-trouble, StateTrouble, Anything, outcome-trouble, trouble-outcome, number-outcome, condition-outcome, StatusOutcome, is-base, is-unfinished, no-status, status-outcome, admits-outcome, MoveOutcome, no-move, a-move, trouble-before, trouble-after, move-outcome, bound-outcome}
 use Rattle.model.proofs.Fair.{FairRead, fair-read, fair-refusal}
 use Rattle.model.proofs.Reading.{model-fair}
 
@@ -41,6 +41,10 @@ of-trouble-after : {end n c t : ℕ} → MoveOutcome end n (troubleAfter c t) �
 of-trouble-after (trouble-after h q) = q
 
 module _ (end : ℕ) (m : Model) where
+  pub admits-trouble : (s : State) {t : ℕ} → systemOf end m .admits s ≡ trouble t → StateTrouble t
+  unfolding systemOf
+  admits-trouble s e = outcome-trouble (admits-outcome end m s) e
+
   pub status-trouble : (s : State) {t : ℕ} → systemOf end m .status s ≡ noStatus t → StateTrouble t
   unfolding systemOf
   status-trouble s e = of-no-status (subst StatusOutcome e (status-outcome end m s))
@@ -98,6 +102,16 @@ module _ (end : ℕ) (K : Costs ℕ) (m : Model) where
   follow-outcome [] s g = final-outcome g (status-outcome end m s)
   follow-outcome (t ∷ ts) s g = after-status-outcome (ltb t (length (m .transitions))) (status-outcome end m s) (move-outcome end m s t) (λ c u. follow-outcome ts u (K .combine g c))
 
+  after-constraints-outcome : {x : Value Bool} {rest : Value ℕ} → Outcome Anything StateTrouble x → PlanOutcome rest → PlanOutcome (afterConstraints K (systemOf end m) x rest)
+  unfolding afterConstraints
+  after-constraints-outcome (a-value {a = true} p) r = r
+  after-constraints-outcome (a-value {a = false} p) r = not-a-plan
+  after-constraints-outcome (a-trouble q) r = by-state q
+
+  follow-from-outcome : (p : List ℕ) (s : State) (g : ℕ) → PlanOutcome (followFrom K (systemOf end m) p s g)
+  unfolding followFrom systemOf
+  follow-from-outcome p s g = after-constraints-outcome (admits-outcome end m s) (follow-outcome p s g)
+
 -- ---- the plan check on bytes
 
 pub data CheckRefusal (t : ℕ) : Type 0 where
@@ -108,7 +122,7 @@ pub data CheckRefusal (t : ℕ) : Type 0 where
 
 check-model-outcome : {bytes : List ℕ} {x : Read Model} (plan : List ℕ) → FairRead bytes x → Outcome Anything CheckRefusal (checkModel x plan)
 unfolding checkModel
-check-model-outcome plan (fair-read {a} h) = trouble-outcome (λ t q. by-following q) (follow-outcome rangeEnd (costsOf (a .rule)) a plan (target a) 0)
+check-model-outcome plan (fair-read {a} h) = trouble-outcome (λ t q. by-following q) (follow-from-outcome rangeEnd (costsOf (a .rule)) a plan (target a) 0)
 check-model-outcome plan (fair-refusal h) = a-trouble (by-reading h)
 
 check-outcome : (bytes plan : List ℕ) → Outcome Anything CheckRefusal (check bytes plan)

@@ -1,14 +1,14 @@
--- The plan check: step by step, to the first trouble; then on bytes. docs/FORMAT.md, "Plan check".
+-- The plan check: the target's constraints, then step by step, to the first trouble; then on bytes. docs/FORMAT.md, "Plan check".
 use Prim.Native.Nat.{ℕ, _≤_}
 use mathlib.Core.Path.{_≡_}
-use mathlib.Core.Bool.{Bool, cond}
+use mathlib.Core.Bool.{Bool, true, false, cond}
 use mathlib.Core.List.{List, [], _∷_}
 use lib.ListN.{length}
 use lib.Dec.{ltb}
 use Rattle.model.specs.Numbers.{modelTooLong, badSetting, notAPlan, mostModelBytes, mostSteps, rangeEnd}
 use Rattle.model.specs.Values.{Value, value, trouble}
 use Rattle.model.specs.System.{Costs, System, Status, base, unfinished, noStatus, Move, blocked, moved, troubleBefore, troubleAfter}
-use Rattle.model.specs.Plans.{Plan}
+use Rattle.model.specs.Plans.{PlanFrom}
 use Rattle.model.specs.Readers.{Read, read, refused}
 use Rattle.model.specs.Syntax.{Model}
 use Rattle.model.specs.Commands.{model}
@@ -39,8 +39,18 @@ module _ {S C : Type 0} (K : Costs C) (M : System S C) where
   follow [] s g = final (M .status s) g
   follow (t ∷ ts) s g = afterStatus (M .status s) (ltb t (M .transitions)) (M .move s t) (λ c u. follow ts u (K .combine g c))
 
+  -- document 02, §1: the target's constraints "before everything else about states. If one fails, … the plan check gives 14"
+  unfoldable pub afterConstraints : Value Bool → (rest : Value C) → Value C
+  afterConstraints (value true) rest = rest
+  afterConstraints (value false) rest = trouble notAPlan
+  afterConstraints (trouble t) rest = trouble t
+
+  -- the cost of a plan from the target s, g being spent before
+  unfoldable pub followFrom : List ℕ → (s : S) (g : C) → Value C
+  followFrom p s g = afterConstraints (M .admits s) (follow p s g)
+
 unfoldable pub checkModel : Read Model → List ℕ → Value ℕ
-checkModel (read m n) plan = follow (costsOf (m .rule)) (systemOf rangeEnd m) plan (target m) 0
+checkModel (read m n) plan = followFrom (costsOf (m .rule)) (systemOf rangeEnd m) plan (target m) 0
 checkModel (refused t) plan = trouble t
 
 -- "takes a model and up to 256 plan bytes"; a trouble is the number of the refusal
@@ -56,14 +66,14 @@ unfoldable pub answerCost : Value ℕ → ℕ
 answerCost (value c) = c
 answerCost (trouble t) = 0
 
--- the bytes are a model, and the plan, of at most 256 steps, is one of its plans from the target, at cost c
+-- the bytes are a model, and the plan, of at most 256 steps, is one of its plans from the target, which meets all constraints, at cost c
 pub record CheckedPlan (bytes plan : List ℕ) (c : ℕ) : Type 0 where
   pub model-fits : length bytes ≤ mostModelBytes
   pub plan-fits : length plan ≤ mostSteps
   pub described : Model
   pub used : ℕ
   pub reads : model bytes ≡ read described used
-  pub plans : Plan (costsOf (described .rule)) (systemOf rangeEnd described) (target described) plan c
+  pub plans : PlanFrom (costsOf (described .rule)) (systemOf rangeEnd described) (target described) plan c
 
 -- the bytes are a model and the plan is one of its plans, at some cost
 abbrev pub IsPlan : (bytes plan : List ℕ) → Type 0

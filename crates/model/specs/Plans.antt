@@ -1,4 +1,4 @@
--- Steps, layers, plans and true declarations, as document 01's "States and plans" has them.
+-- Steps, layers, plans and true declarations, as document 01's "States and plans" has them; document 02, §1: the target of a plan.
 -- docs/FORMAT.md, "States and steps", "Plans" and "Bounds and preferences".
 use Prim.Native.Nat.{ℕ, suc, _≤_, _<_}
 use mathlib.Core.Path.{_≡_}
@@ -37,6 +37,11 @@ module _ {S C : Type 0} (K : Costs C) (M : System S C) where
   pub data Plan : S → List ℕ → C → Type 0 where
     finish : {s : S} → M .status s ≡ base → Plan s [] (K .empty)
     step : {s u : S} {t : ℕ} {ts : List ℕ} {c r : C} → Step M s t c u → Plan u ts r → Plan s (t ∷ ts) (K .combine c r)
+
+  -- a plan from a target s. "Plans … henceforth need such a target": it meets all constraints, each of which has a value
+  pub record PlanFrom (s : S) (p : List ℕ) (c : C) : Type 0 where
+    pub admitted : M .admits s ≡ value true
+    pub plan : Plan s p c
 
   -- allowed steps, one after the other, lead from s to u, g being spent on the way to s and d on the way to u
   pub data Leads : (s : S) (g : C) → List ℕ → (u : S) (d : C) → Type 0 where

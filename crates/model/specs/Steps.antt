@@ -68,6 +68,10 @@ pub data Attempt : Type 0 where
 
 -- end: of the numbers' range
 module _ (end : ℕ) (m : Model) where
+  -- "meets all constraints": in order, to the first that fails
+  unfoldable pub admits : State → Value Bool
+  admits s = allHold end (m .tables) (m .constraints) s
+
   unfoldable pub status : State → Status
   status s = statusOf (someHolds end (m .tables) (m .baseCases) s)
 
@@ -97,7 +101,7 @@ module _ (end : ℕ) (m : Model) where
 
   unfoldable pub moveOf : Value Attempt → Move State ℕ
   moveOf (value notTaken) = blocked
-  moveOf (value (taken c new)) = constrained c new (allHold end (m .tables) (m .constraints) new)
+  moveOf (value (taken c new)) = constrained c new (admits new)
   moveOf (trouble t) = troubleBefore t
 
   unfoldable pub moveBy : Option Transition → State → Move State ℕ
@@ -118,7 +122,7 @@ module _ (end : ℕ) (m : Model) where
   bound s = greatest (m .bounds) s 0
 
   unfoldable pub systemOf : System State ℕ
-  systemOf = record { status = status; transitions = length (m .transitions); move = move; bound = bound; dominates = noneWorse (m .variables) 0 }
+  systemOf = record { admits = admits; status = status; transitions = length (m .transitions); move = move; bound = bound; dominates = noneWorse (m .variables) 0 }
 
 unfoldable pub costsOf : Rule → Costs ℕ
 costsOf rule = record { empty = 0; combine = combine rule; atMost = leb }

@@ -36,8 +36,9 @@ pub data Move (S C : Type 0) : Type 0 where
   troubleBefore : ℕ → Move S C
   troubleAfter : C → ℕ → Move S C
 
--- transitions: how many there are. bound: h. dominates: the first state the second
+-- admits: whether the state meets all constraints. transitions: how many there are. bound: h. dominates: the first state the second
 pub record System (S C : Type 0) : Type 0 where
+  pub admits : S → Value Bool
   pub status : S → Status
   pub transitions : ℕ
   pub move : S → ℕ → Move S C

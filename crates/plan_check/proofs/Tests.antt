@@ -10,12 +10,12 @@ use Rattle.model.specs.Values.{Value, trouble}
 use Rattle.model.specs.Readers.{Read, read, refused}
 use Rattle.model.specs.Syntax.{Model}
 use Rattle.model.specs.Commands.{model}
-use Rattle.model.specs.Steps.{target}
 use Rattle.model.specs.Check.{check, checkModel, answerNumber, answerCost}
 use Rattle.model.proofs.Reading.{model-refusal}
 use Rattle.outline.specs.Outline.{modelOf, readModel, refusalOf}
 use Rattle.steps.specs.declared.answers.Checked.{Checked}
-use Rattle.steps.specs.Follow.{followIn, CheckedIs}
+use Rattle.steps.specs.InBytes.{targetIn}
+use Rattle.steps.specs.Follow.{followFromIn, CheckedIs}
 
 module _ (bytes plan : List ℕ) where
   pub check-long-model : mostModelBytes < length bytes → check bytes plan ≡ trouble modelTooLong
@@ -38,12 +38,12 @@ module _ (bytes plan : List ℕ) where
   pub check-refused : (t : ℕ) → length bytes ≤ mostModelBytes → length plan ≤ mostSteps → t ≡ refusalOf (model bytes) → 0 < t → check bytes plan ≡ trouble t
   check-refused t h k e p = within h k ∙ refused-model (model bytes) t (sym e) p
 
-  read-well : (x : Read Model) → model bytes ≡ x → refusalOf x ≡ 0 → checkModel x plan ≡ followIn bytes plan (target (modelOf bytes)) 0
+  read-well : (x : Read Model) → model bytes ≡ x → refusalOf x ≡ 0 → checkModel x plan ≡ followFromIn bytes plan (targetIn bytes) 0
   unfolding refusalOf checkModel modelOf readModel
   read-well (read m n) e h = rw e
   read-well (refused t) e h = absurd (omega (arith, model-refusal bytes e))
 
-  pub check-read : length bytes ≤ mostModelBytes → length plan ≤ mostSteps → 0 ≡ refusalOf (model bytes) → check bytes plan ≡ followIn bytes plan (target (modelOf bytes)) 0
+  pub check-read : length bytes ≤ mostModelBytes → length plan ≤ mostSteps → 0 ≡ refusalOf (model bytes) → check bytes plan ≡ followFromIn bytes plan (targetIn bytes) 0
   check-read h k e = within h k ∙ read-well (model bytes) refl (sym e)
 
 pub told-trouble : {v : Value ℕ} {t : ℕ} (r : Checked) → v ≡ trouble t → r .answer ≡ t → r .cost ≡ 0 → CheckedIs v r

@@ -2,27 +2,31 @@
 
 ghost use Rattle.model.specs.Check as plans;
 ghost use Rattle.steps.specs.Follow.{CheckedIs};
+use model::length_fits;
 use read_model::read_model;
 use steps::answers::Checked;
 use steps::check::follow;
+
+// The steps that a plan may have.
+const MOST_STEPS: usize = 256;
 
 // The plan check: 0 and the cost, or the number of the refusal and 0.
 pub fn check(model: &[u8], plan: &[u8]) -> Checked
     ensures { λ r. ⌜ CheckedIs (plans.check (now (model .entry)) (now (plan .entry))) r ⌝ }
 {
-    if 65536 < model.len() {
-        return Checked { answer: 1, cost: 0 };
+    if length_fits(model.len()) {
+        if MOST_STEPS < plan.len() {
+            return Checked { answer: 2, cost: 0 };
+        }
+        let mut outline = [0u64; 424];
+        let refusal = read_model(model, &mut outline);
+        if refusal == 0 {
+            return follow(model, &outline, plan);
+        }
+        return Checked {
+            answer: refusal,
+            cost: 0,
+        };
     }
-    if 256 < plan.len() {
-        return Checked { answer: 2, cost: 0 };
-    }
-    let mut outline = [0u64; 424];
-    let refusal = read_model(model, &mut outline);
-    if refusal == 0 {
-        return follow(model, &outline, plan);
-    }
-    Checked {
-        answer: refusal,
-        cost: 0,
-    }
+    Checked { answer: 1, cost: 0 }
 }

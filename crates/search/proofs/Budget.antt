@@ -20,8 +20,8 @@ use Rattle.model.specs.Syntax.{Model}
 use Rattle.model.specs.Commands.{model}
 use Rattle.model.specs.Steps.{costsOf, systemOf, originOf}
 use Rattle.model.proofs.Costs.{cost-laws}
-use Rattle.search.specs.Answer.{cheapest, contradicted, budgetSpent, verdict, Answer}
-use Rattle.search.specs.Search.{Node, Route, Progress, Round, Ending, decided, refused, Stop, belowBest, counted, atLimit, improvedBy, layerEnd, nextLayer, root, freshRound, round, After, again, ended, exhausted, afterRound, tallyOf, answerOf, answer, nextWidth, laterWidths, unlessOver, rounds, begin, searchWithin, search}
+use Rattle.search.specs.Answer.{cheapest, noPlan, contradicted, budgetSpent, verdict, Answer}
+use Rattle.search.specs.Search.{Node, Route, Progress, Round, Ending, decided, refused, Stop, belowBest, counted, atLimit, improvedBy, layerEnd, nextLayer, root, freshRound, round, After, again, ended, exhausted, afterRound, tallyOf, answerOf, answer, nextWidth, laterWidths, unlessOver, rounds, refusedAtStart, begin, enter, searchWithin, search}
 use Rattle.search.specs.Run.{Settings, Lent, isWidth, widerUpTo, settingsFit, lentFits, refusedByInput, searchModel, runRead, run}
 use Rattle.search.proofs.Induction.{Point, taking, expanding, Changes, RoundEnd, round-holds}
 use Rattle.search.proofs.Rounds.{AfterHolds, afterRound-holds, atStart}
@@ -41,6 +41,9 @@ module _ {C : Type 0} (budget : ℕ) where
 
   refused-used : {t : ℕ} {route : Route C} {count : ℕ} → UsedAt (refused t route) count
   refused-used e = let z : _≡_ {A = ℕ} 0 1 = cc in absurd (omega arith)
+
+  no-plan-used : {count : ℕ} → UsedAt (decided noPlan) count
+  no-plan-used e = let z : _≡_ {A = ℕ} 0 1 = cc in absurd (omega arith)
 
   at-low-used : (b : Bool) {count : ℕ} → UsedAt (decided (cond b cheapest contradicted)) count
   at-low-used true e = let z : _≡_ {A = ℕ} 0 1 = cc in absurd (omega arith)
@@ -194,21 +197,33 @@ module _ {S C : Type 0} (K : Costs C) (L : CostLaws K) (M : System S C) (o : Ori
   begin-same most l (trouble t) lt = refl
 
   begin-used : (l : ℕ) (b : Value C) → UsedIfSpent budget (begin K M (suc budget) budget (suc l) width wider o b)
-  unfolding begin answer
+  unfolding begin answer refusedAtStart
   begin-used l (value h) = rounds-used K L M o budget l h (suc budget) width wider 1 (atStart K o h) (start-begun K L M o budget l h) (omega arith)
   begin-used l (trouble t) = answer-used K M budget 1 width _ _ (refused-used budget)
+
+  enter-same : (most l : ℕ) (a : Value Bool) → budget < most → enter K M most budget (suc l) width wider o a ≡ enter K M (suc budget) budget (suc l) width wider o a
+  unfolding enter
+  enter-same most l (value true) lt = begin-same most l (M .bound (o .start)) lt
+  enter-same most l (value false) lt = refl
+  enter-same most l (trouble t) lt = refl
+
+  enter-used : (l : ℕ) (a : Value Bool) → UsedIfSpent budget (enter K M (suc budget) budget (suc l) width wider o a)
+  unfolding enter answer refusedAtStart
+  enter-used l (value true) = begin-used l (M .bound (o .start))
+  enter-used l (value false) = answer-used K M budget 1 width _ _ (no-plan-used budget)
+  enter-used l (trouble t) = answer-used K M budget 1 width _ _ (refused-used budget)
 
   -- the bound on the rounds is never met: every one above the budget gives the same answer
   pub any-bound-of-search : (most limit : ℕ) → 1 ≤ limit → budget < most → searchWithin K M most budget limit width wider o ≡ search K M budget limit width wider o
   unfolding search searchWithin
   any-bound-of-search most zero one lt = absurd (omega arith)
-  any-bound-of-search most (suc l) one lt = begin-same most l (M .bound (o .start)) lt
+  any-bound-of-search most (suc l) one lt = enter-same most l (M .admits (o .start)) lt
 
   -- "budget spent" says that all of the budget is used
   pub budget-spent-means-used : (limit : ℕ) → 1 ≤ limit → search K M budget limit width wider o .outcome ≡ verdict budgetSpent → search K M budget limit width wider o .tally .expansions ≡ budget
   unfolding search searchWithin
   budget-spent-means-used zero one = absurd (omega arith)
-  budget-spent-means-used (suc l) one = begin-used l (M .bound (o .start))
+  budget-spent-means-used (suc l) one = enter-used l (M .admits (o .start))
 
 -- ---- from bytes
 

@@ -13,7 +13,7 @@ abbrev pub threeDesigns : List ℕ
 threeDesigns = hex 180 0x01_00_02_04_0e_00_00_00_00_00_00_00_03_04_00_00_05_04_04_06_00_00_00_00_06_02_00_00_00_06_05_00_00_00_06_04_00_00_00_06_00_00_00_00_06_00_00_00_00_06_03_00_00_00_06_06_00_00_00_06_00_00_00_00_06_03_00_00_00_06_00_00_00_00_06_02_00_00_00_06_00_00_00_00_06_06_00_00_00_06_02_00_00_00_06_00_00_00_00_07_08_54_30_01_41_00_09_28_00_31_01_30_01_0a_00_43_30_01_41_00_0a_01_30_01_07_08_54_30_02_41_00_09_28_00_31_01_30_02_0a_00_43_30_02_41_00_0a_01_30_02_07_08_54_30_03_41_00_09_28_00_31_01_30_03_0a_00_43_30_03_41_00_0a_01_30_03_0b_08_55_41_00_0e
 
 -- start set empty
-abbrev emptyStart : List ℕ
+abbrev pub emptyStart : List ℕ
 emptyStart = hex 180 0x01_00_02_04_00_00_00_00_00_00_00_00_03_04_00_00_05_04_04_06_00_00_00_00_06_02_00_00_00_06_05_00_00_00_06_04_00_00_00_06_00_00_00_00_06_00_00_00_00_06_03_00_00_00_06_06_00_00_00_06_00_00_00_00_06_03_00_00_00_06_00_00_00_00_06_02_00_00_00_06_00_00_00_00_06_06_00_00_00_06_02_00_00_00_06_00_00_00_00_07_08_54_30_01_41_00_09_28_00_31_01_30_01_0a_00_43_30_01_41_00_0a_01_30_01_07_08_54_30_02_41_00_09_28_00_31_01_30_02_0a_00_43_30_02_41_00_0a_01_30_02_07_08_54_30_03_41_00_09_28_00_31_01_30_03_0a_00_43_30_03_41_00_0a_01_30_03_0b_08_55_41_00_0e
 
 -- a bound of literal 8
@@ -34,11 +34,11 @@ filled zero = []
 filled (suc n) = 170 ∷ filled n
 
 -- a run with a filled plan buffer of L bytes, lent all the words that any setting needs
-abbrev planned : (bytes : List ℕ) (widest limit budget : ℕ) → Asked
+abbrev pub planned : (bytes : List ℕ) (widest limit budget : ℕ) → Asked
 planned bytes widest limit budget = runOf bytes widest limit budget (filled limit) 1_314_816
 
 -- a line, with the plan and so many bytes of the buffer behind it as they were
-abbrev line : (verdict flag cost bound length expansions rounds width : ℕ) (plan : List ℕ) (rest : ℕ) → Told
+abbrev pub line : (verdict flag cost bound length expansions rounds width : ℕ) (plan : List ℕ) (rest : ℕ) → Told
 line verdict flag cost bound length expansions rounds width plan rest =
     answer false (verdict ∷ flag ∷ cost ∷ bound ∷ length ∷ expansions ∷ rounds ∷ width ∷ []) (plan ++ filled rest)
 

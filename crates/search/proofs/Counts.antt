@@ -10,13 +10,14 @@ use Rattle.laws.proofs.Bools.{by-cond}
 use Rattle.model.specs.Values.{trouble}
 use Rattle.model.specs.System.{Costs, System, Origin, noStatus, troubleBefore, troubleAfter}
 use Rattle.search.specs.Answer.{cheapest, noPlan, widthStop, lengthStop, budgetSpent, contradicted, verdict, byState, byInput, Answer}
-use Rattle.search.specs.Search.{Node, Route, Progress, Round, Ending, decided, refused, Stop, belowBest, beats, cut, insert, offer, counted, atLimit, improvedBy, layerEnd, nextLayer, root, freshRound, round, exhausted, hasPlan, tallyOf, answerOf, answer, rounds, search}
+use Rattle.search.specs.Search.{Node, Route, Progress, Round, Ending, decided, refused, Stop, belowBest, beats, cut, insert, offer, counted, atLimit, improvedBy, layerEnd, nextLayer, root, freshRound, round, exhausted, hasPlan, tallyOf, answerOf, answer, untouched, refusedAtStart, search}
 use Rattle.search.specs.Guarantee.{widest}
 use Rattle.search.proofs.Induction.{Changes, RoundEnd, round-holds}
 use Rattle.search.proofs.Rounds.{afterRound-holds, RunChanges, search-holds}
 
 -- P holds of every number of a trouble that the system can give
 pub record Troubles {S C : Type 0} (M : System S C) (P : ℕ → Type 0) : Type 0 where
+  pub of-admits : (s : S) (e : ℕ) → M .admits s ≡ trouble e → P e
   pub of-status : (s : S) (e : ℕ) → M .status s ≡ noStatus e → P e
   pub of-move-before : (s : S) (t e : ℕ) → t < M .transitions → M .move s t ≡ troubleBefore e → P e
   pub of-move-after : (s : S) (t e : ℕ) (c : C) → t < M .transitions → M .move s t ≡ troubleAfter c e → P e
@@ -77,13 +78,15 @@ module _ {S C : Type 0} (K : Costs C) (M : System S C) where
           }
 
       run-recorded : (o : Origin S C) (limit W : ℕ) → RunChanges K M Within Recorded o budget limit W
-      unfolding freshRound
+      unfolding freshRound untouched refusedAtStart
       run-recorded o limit W =
           record {
+            broken = λ a. record { within = omega arith; ends = refl };
+            no-admission = λ t a. record { within = omega arith; ends = T .of-admits _ _ a };
             starts = λ h b. omega arith;
             no-start = λ t b. record { within = omega arith; ends = T .of-bound _ _ b };
             round-keeps =
-                λ h width wider p b w i.
+                λ h width wider p a b w i.
                 afterRound-holds K M Within Recorded (RoundEnd (λ k left point r. Within (r .progress))) (isEmpty wider) (round K M budget limit width (root K M o h) p)
                 (round-holds K M budget width (λ k left point r. Within (r .progress)) Recorded (round-recorded width) p i)
                 (λ r E.
@@ -138,7 +141,7 @@ module _ {S C : Type 0} (K : Costs C) (M : System S C) (o : Origin S C) (budget 
   refusals-from-system P T = search-reported P T .refused-by-system
 
   anyTrouble : Troubles M (λ e. Unit {0})
-  anyTrouble = record { of-status = λ s e x. tt; of-move-before = λ s t e lt x. tt; of-move-after = λ s t e c lt x. tt; of-bound = λ s e x. tt }
+  anyTrouble = record { of-admits = λ s e x. tt; of-status = λ s e x. tt; of-move-before = λ s t e lt x. tt; of-move-after = λ s t e c lt x. tt; of-bound = λ s e x. tt }
 
   pub expansions-within-budget : search K M budget limit width wider o .tally .expansions ≤ budget
   expansions-within-budget = search-reported (λ e. Unit {0}) anyTrouble .expansions-within

@@ -131,7 +131,7 @@ module _ {S C : Type 0} (K : Costs C) (L : CostLaws K) (M : System S C) (o : Ori
         taken = record { open-state = s .ahead .1; declared = lt; allowed = e }
 
         valid-child : Valid K M o (suc k) (child K M n t c u h)
-        valid-child = let v = s .ahead .0 in unfold child in record { in-layer = next (v .in-layer) taken; reached = onward (v .reached) taken; path-length = omega (arith, v .path-length); bounded = b; summed = refl }
+        valid-child = let v = s .ahead .0 in unfold child in record { admitted = v .admitted; in-layer = next (v .in-layer) taken; reached = onward (v .reached) taken; path-length = omega (arith, v .path-length); bounded = b; summed = refl }
 
         tried : TrueDeclarations K M (o .start) → (x : C) → Pending K M (expanding n t ns) x → Accounted K M (λ x. Completion K M x (child K M n t c u h) ⊎ Pending K M (expanding n (suc t) ns) x) x (r .progress .best) (r .kept)
         tried T x (inl y) = elim (untried-moved K M h e y) [ inl z ↦ pending (inl z) | inr z ↦ pending (inr (inl z)) ]

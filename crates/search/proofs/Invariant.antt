@@ -12,7 +12,7 @@ use Rattle.laws.proofs.Bools.{not-false, not-true}
 use Rattle.laws.proofs.Lists.{Some, Apart}
 use Rattle.model.specs.Values.{value}
 use Rattle.model.specs.System.{Costs, CostLaws, System, Origin, unfinished, moved}
-use Rattle.model.specs.Plans.{InLayer, Overfull, OpenAt, Plan, TrueDeclarations}
+use Rattle.model.specs.Plans.{InLayer, Overfull, OpenAt, Plan, PlanFrom, TrueDeclarations}
 use Rattle.model.proofs.Reach.{Reach}
 use Rattle.search.specs.Answer.{cheapest, noPlan, widthStop, lengthStop, budgetSpent, contradicted}
 use Rattle.search.specs.Search.{Node, Route, Progress, Round, Ending, decided, refused, Stop, less, belowBest}
@@ -67,8 +67,9 @@ Limited zero kept lengthMark = kept ≡ []
 Limited (suc left) kept lengthMark = lengthMark ≡ false
 
 module _ {S C : Type 0} (K : Costs C) (M : System S C) (o : Origin S C) where
-  -- a node of layer k
+  -- a node of layer k; the start meets the constraints
   pub record Valid (k : ℕ) (n : Node S C) : Type 0 where
+    pub admitted : M .admits (o .start) ≡ value true
     pub in-layer : InLayer M (o .start) k (n .state)
     pub reached : Reach K M o (n .path) (n .state) (n .g)
     pub path-length : length (n .path) ≡ k
@@ -84,7 +85,7 @@ module _ {S C : Type 0} (K : Costs C) (M : System S C) (o : Origin S C) where
     -- a route that is a plan within the limit, at its cost
     pub record IsPlan (b : Route C) : Type 0 where
       pub cost : C
-      pub plan : Plan K M (o .start) (reverse (b .path)) cost
+      pub plan : PlanFrom K M (o .start) (reverse (b .path)) cost
       pub total : b .cost ≡ K .combine (o .spent) cost
       pub fits : length (b .path) ≤ limit
 

@@ -77,7 +77,7 @@ module _ {S C : Type 0} (K : Costs C) (L : CostLaws K) (M : System S C) (o : Ori
     unfolding routeTo
     base-is-plan {n} s e =
         let (c, plan, q) = plan-along (s .ahead .0 .reached) (finish e) in
-        record { cost = c; plan = plan; total = rw (L .right-unit (n .g)) at q; fits = omega (arith, s .depth, s .ahead .0 .path-length) }
+        record { cost = c; plan = record { admitted = s .ahead .0 .admitted; plan = plan }; total = rw (L .right-unit (n .g)) at q; fits = omega (arith, s .depth, s .ahead .0 .path-length) }
 
     pub better-holds : {k left : ℕ} {n : Node S C} {ns : List (Node S C)} {r : Round S C} → At k left (taking (n ∷ ns)) r → M .status (n .state) ≡ base → belowBest K M (n .g) (r .progress .best) ≡ true → At k left (taking ns) (improvedBy K M n r)
     unfolding improvedBy routeTo

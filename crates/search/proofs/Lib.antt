@@ -2,12 +2,14 @@
 pub mod Opened
 pub mod Cases
 pub mod CasesOfRules
+pub mod CasesOfTargets
 pub mod Induction
 pub mod Rounds
 pub mod Invariant
 pub mod Insertion
 pub mod Expansion
 pub mod Layer
+pub mod Targets
 pub mod Sound
 pub mod Refusals
 pub mod Counts

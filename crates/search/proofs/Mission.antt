@@ -1,35 +1,36 @@
--- The mission's three demands, sentence by sentence, of every run from bytes and settings.
+-- The mission's three demands, sentence by sentence, of every run from bytes and settings; then document 02's sentences.
 -- Each sentence is a theorem with its own name; docs/AUDIT.md walks through them.
 use Prim.Native.Nat.{ℕ, _≤_}
-use mathlib.Core.Path.{_≡_, refl, sym, _∙_, subst}
+use mathlib.Core.Path.{_≡_, refl, sym, _∙_, ap, subst}
 use mathlib.Core.Logic.{_↔_}
-use mathlib.Core.Bool.{true, not, false≢true}
-use mathlib.Core.List.{List, _∷_, _++_}
+use mathlib.Core.Bool.{Bool, true, false, not, false≢true}
+use mathlib.Core.List.{List, [], _∷_, _++_}
 use native.Mathlib.Omega.{arith}
 use lib.ListN.{length, drop, length-append}
 use lib.Dec.{ltb, eqb}
 use lib.Seq.{take-at}
-use borrow.Author.Tests.{leb-true, le-leb, eqb-true}
+use borrow.Author.Tests.{leb-true, le-leb, le-ltb, eqb-true}
 use Rattle.laws.specs.Lists.{All}
 use Rattle.laws.proofs.Bools.{by-cond, not-false, and-both}
 use Rattle.laws.proofs.Lists.{some-all, any-some}
-use Rattle.model.specs.Numbers.{rangeEnd, modelTooLong, badSetting, tooLittleLent}
-use Rattle.model.specs.Values.{value, trouble}
+use Rattle.model.specs.Numbers.{rangeEnd, mostModelBytes, mostSteps, modelTooLong, badSetting, tooLittleLent, notAPlan}
+use Rattle.model.specs.Values.{Value, value, trouble}
 use Rattle.model.specs.Readers.{Read, read, refused}
 use Rattle.model.specs.Syntax.{Model}
 use Rattle.model.specs.Commands.{model}
-use Rattle.model.specs.Steps.{costsOf, systemOf, originOf}
+use Rattle.model.specs.Steps.{target, costsOf, systemOf, originOf}
 use Rattle.model.proofs.Costs.{cost-laws}
 use Rattle.model.specs.Check.{check, CheckedPlan}
 use Rattle.model.proofs.Dominance.{dominates-self}
 use Rattle.model.proofs.Outcomes.{StateTrouble}
 use Rattle.model.proofs.Reading.{model-refusal}
-use Rattle.model.proofs.Troubles.{status-trouble, move-trouble-before, move-trouble-after, bound-trouble, CheckRefusal, check-numbers}
-use Rattle.model.proofs.PlanCheck.{check-exact}
+use Rattle.model.proofs.Troubles.{admits-trouble, status-trouble, move-trouble-before, move-trouble-after, bound-trouble, CheckRefusal, check-numbers}
+use Rattle.model.proofs.PlanCheck.{check-exact, broken-has-no-plan, check-of-broken-target, check-of-target-trouble}
 use Rattle.search.specs.Answer.{Verdict, cheapest, noPlan, widthStop, lengthStop, contradicted, Outcome, verdict, byState, byInput, Answer, bufferAfter, handedBack}
 use Rattle.search.specs.Guarantee.{Stopped, widest, Guarantee}
 use Rattle.search.specs.Demands.{Ends, with-verdict, by-state, by-input, PlanOf, DeclarationsTrue, LayersFit, Marked, Demands}
 use Rattle.search.specs.Run.{Settings, Lent, widerWidths, widerUpTo, settingsFit, lentFits, refusedByInput, searchModel, runRead, run}
+use Rattle.search.proofs.Targets.{broken-start, troubled-start}
 use Rattle.search.proofs.Sound.{search-guarantee, steps-within, no-stop-where-fits}
 use Rattle.search.proofs.Refusals.{run-refusal-path}
 use Rattle.search.proofs.Budget.{run-budget-spent-means-used}
@@ -43,6 +44,7 @@ search-ends m q (verdict v) e = with-verdict
 search-ends m q (byState t) e =
     let known : Troubles (systemOf rangeEnd m) StateTrouble =
     record {
+      of-admits = λ s n e. admits-trouble rangeEnd m s e;
       of-status = λ s n e. status-trouble rangeEnd m s e;
       of-move-before = λ s t n lt e. move-trouble-before rangeEnd m s t e;
       of-move-after = λ s t n c lt e. move-trouble-after rangeEnd m s t e;
@@ -270,3 +272,48 @@ run-meets-demands most bytes q l =
       within-limit = steps-never-pass-limit most bytes q l;
       marked = λ m n reads. run-marked most bytes q l m n reads;
     }
+
+-- ---- document 02, §1: the target must meet the constraints too
+
+-- whether the target meets the constraints
+abbrev pub targetAdmitted : Model → Value Bool
+targetAdmitted m = systemOf rangeEnd m .admits (target m)
+
+-- "Plans … henceforth need such a target": a model whose target breaks a constraint has none, whatever it declares
+pub no-plan-from-broken-target : (m : Model) → targetAdmitted m ≡ value false → (p : List ℕ) (c : ℕ) → PlanOf m p c → ⊥
+no-plan-from-broken-target m e p c plan = broken-has-no-plan (costsOf (m .rule)) (systemOf rangeEnd m) e plan
+
+-- of bytes, settings and lent buffers that pass every test before the search
+module _ (most : ℕ) (bytes : List ℕ) (q : Settings) (l : Lent) (m : Model) (n : ℕ) (reads : model bytes ≡ read m n) (few : length bytes ≤ most) (fit : settingsFit q ≡ true) (enough : lentFits q l ≡ true) where
+  searched-run : run most bytes q l ≡ searchModel m q
+  unfolding run runRead
+  searched-run = rw (le-ltb most (length bytes) few, fit, enough, reads)
+
+  -- "If one fails, the verdict is 1 with no expansion, one round begun, width 1 and bound 0"
+  pub broken-target-has-no-plan : targetAdmitted m ≡ value false
+      → run most bytes q l ≡ record { outcome = verdict noPlan; flag = false; cost = 0; bound = 0; steps = []; tally = record { expansions = 0; rounds = 1; width = 1 } }
+  unfolding searchModel originOf costsOf
+  broken-target-has-no-plan e = searched-run ∙ broken-start (costsOf (m .rule)) (systemOf rangeEnd m) (originOf m) (q .budget) (q .limit) 1 (widerUpTo (q .widest)) e
+
+  -- trouble in one: a refusal by the state at the target, its fields the same but for the number
+  pub target-trouble-refused : {t : ℕ} → targetAdmitted m ≡ trouble t
+      → run most bytes q l ≡ record { outcome = byState t; flag = false; cost = 0; bound = 0; steps = []; tally = record { expansions = 0; rounds = 1; width = 1 } }
+  unfolding searchModel originOf costsOf
+  target-trouble-refused e = searched-run ∙ troubled-start (costsOf (m .rule)) (systemOf rangeEnd m) (originOf m) (q .budget) (q .limit) 1 (widerUpTo (q .widest)) e
+
+  -- the plan buffer stays as it is, with either
+  pub broken-target-changes-no-buffer : (buffer : List ℕ) → targetAdmitted m ≡ value false → bufferAfter (run most bytes q l) buffer ≡ buffer
+  unfolding bufferAfter
+  broken-target-changes-no-buffer buffer e = ap (λ a. bufferAfter a buffer) (broken-target-has-no-plan e)
+
+  pub target-trouble-changes-no-buffer : {t : ℕ} (buffer : List ℕ) → targetAdmitted m ≡ trouble t → bufferAfter (run most bytes q l) buffer ≡ buffer
+  unfolding bufferAfter
+  target-trouble-changes-no-buffer buffer e = ap (λ a. bufferAfter a buffer) (target-trouble-refused e)
+
+module _ (bytes plan : List ℕ) (m : Model) (n : ℕ) (reads : model bytes ≡ read m n) (few : length bytes ≤ mostModelBytes) (short : length plan ≤ mostSteps) where
+  -- "the plan check gives 14", for every plan; trouble keeps its number
+  pub plan-check-broken : targetAdmitted m ≡ value false → check bytes plan ≡ trouble notAPlan
+  plan-check-broken e = check-of-broken-target bytes plan m n reads few short e
+
+  pub plan-check-target-trouble : {t : ℕ} → targetAdmitted m ≡ trouble t → check bytes plan ≡ trouble t
+  plan-check-target-trouble e = check-of-target-trouble bytes plan m n reads few short e

@@ -64,15 +64,15 @@ unfolding ofLists.any ofLists.filter ofLists.isEmpty ofHex.hex ofHex.zeros _bind
     ofCommands.transition ofCommands.nothingMore ofCommands.model ofMeaning.numberAt ofMeaning.naturalAt ofMeaning.elementValue ofMeaning.setValue
     ofMeaning.equalZ ofMeaning.entryAt ofMeaning.sumOver ofMeaning.two ofMeaning.fit ofMeaning.expressionValue ofMeaning.allHold ofMeaning.someHolds
     ofMeaning.numberValue ofSteps.target ofSteps.combine ofSteps.statusOf ofSteps.costOf ofSteps.noWorse ofSteps.noneWorse ofSteps.raise
-    ofSteps.status ofSteps.effects ofSteps.attempt ofSteps.constrained ofSteps.moveOf ofSteps.moveBy ofSteps.move ofSteps.greatest ofSteps.bound
-    ofSteps.systemOf ofSteps.costsOf ofSteps.originOf ofCheck.final ofCheck.afterMove ofCheck.afterStatus ofCheck.follow ofCheck.checkModel
+    ofSteps.admits ofSteps.status ofSteps.effects ofSteps.attempt ofSteps.constrained ofSteps.moveOf ofSteps.moveBy ofSteps.move ofSteps.greatest ofSteps.bound
+    ofSteps.systemOf ofSteps.costsOf ofSteps.originOf ofCheck.final ofCheck.afterMove ofCheck.afterStatus ofCheck.follow ofCheck.afterConstraints ofCheck.followFrom ofCheck.checkModel
     ofCheck.check ofCheck.answerNumber ofCheck.answerCost ofAnswer.verdictNumber ofAnswer.outcomeNumber ofAnswer.isRefusal ofAnswer.bufferAfter
     ofAnswer.handedBack ofSearch.andThen ofSearch.less ofSearch.belowBest ofSearch.before ofSearch.place ofSearch.beats ofSearch.cut ofSearch.insert
     ofSearch.offer ofSearch.refuse ofSearch.routeTo ofSearch.routeOver ofSearch.child ofSearch.bounded ofSearch.tried ofSearch.expand ofSearch.counted
     ofSearch.atLimit ofSearch.advance ofSearch.improvedBy ofSearch.newBest ofSearch.reached ofSearch.visit ofSearch.layer ofSearch.leastF
     ofSearch.raisedLow ofSearch.layerEnd ofSearch.nextLayer ofSearch.unlessEnded ofSearch.layers ofSearch.root ofSearch.freshRound ofSearch.round
     ofSearch.exhausted ofSearch.endWith ofSearch.judge ofSearch.afterRound ofSearch.hasPlan ofSearch.bestCost ofSearch.bestSteps ofSearch.boundAt
-    ofSearch.tallyOf ofSearch.answerOf ofSearch.answer ofSearch.nextWidth ofSearch.laterWidths ofSearch.unlessOver ofSearch.rounds ofSearch.begin
+    ofSearch.tallyOf ofSearch.answerOf ofSearch.answer ofSearch.nextWidth ofSearch.laterWidths ofSearch.unlessOver ofSearch.rounds ofSearch.untouched ofSearch.refusedAtStart ofSearch.begin ofSearch.enter
     ofSearch.searchWithin ofSearch.search ofRun.widerUpTo ofRun.settingsFit ofRun.wordsNeeded ofRun.lentFits ofRun.refusedByInput ofRun.searchModel ofRun.runRead ofRun.run
     ofRun.fields valueRead told toldCheck
 opened (runOf bytes widest limit budget buffer words) = told (run mostModelBytes bytes (record { widest = widest; limit = limit; budget = budget }) (record { planBytes = length buffer; words = words })) buffer

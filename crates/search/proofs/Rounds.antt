@@ -10,8 +10,8 @@ use Rattle.laws.specs.Lists.{isEmpty}
 use Rattle.laws.proofs.Bools.{by-cond, not-both, not-true, and-both}
 use Rattle.model.specs.Values.{Value, value, trouble}
 use Rattle.model.specs.System.{Costs, System, Origin}
-use Rattle.search.specs.Answer.{Answer, widthStop, lengthStop, budgetSpent}
-use Rattle.search.specs.Search.{Progress, Round, decided, refused, Stop, Result, on, over, round, After, again, ended, exhausted, endWith, judge, afterRound, answer, nextWidth, laterWidths, unlessOver, rounds, root, begin, searchWithin, search}
+use Rattle.search.specs.Answer.{Answer, noPlan, widthStop, lengthStop, budgetSpent}
+use Rattle.search.specs.Search.{Progress, Round, decided, Stop, Result, on, over, round, After, again, ended, exhausted, endWith, judge, afterRound, answer, nextWidth, laterWidths, unlessOver, rounds, root, untouched, refusedAtStart, begin, enter, searchWithin, search}
 use Rattle.search.specs.Guarantee.{widest}
 use Rattle.search.proofs.Induction.{Holds, stopAt}
 
@@ -53,9 +53,13 @@ module _ {S C : Type 0} (K : Costs C) (M : System S C) (R : Progress C → Type 
 
   module _ (o : Origin S C) (budget limit W : ℕ) where
     pub record RunChanges : Type 0 where
+      -- document 02, §1: the start breaks a constraint, or has trouble in one
+      pub broken : M .admits (o .start) ≡ value false → Q (record { ending = decided noPlan; progress = untouched K M })
+      pub no-admission : (t : ℕ) → M .admits (o .start) ≡ trouble t → Q (refusedAtStart K M t o)
+      -- rule 1
       pub starts : (h : C) → M .bound (o .start) ≡ value h → R (atStart K o h)
-      pub no-start : (t : ℕ) → M .bound (o .start) ≡ trouble t → Q (record { ending = refused t (record { cost = o .spent; path = [] }); progress = record { best = none; low = K .empty; expansions = 0 } })
-      pub round-keeps : (h : C) (width : ℕ) (wider : List ℕ) (p : Progress C) → M .bound (o .start) ≡ value h → widest width wider ≡ W → R p → AfterHolds (afterRound K M (isEmpty wider) (round K M budget limit width (root K M o h) p))
+      pub no-start : (t : ℕ) → M .bound (o .start) ≡ trouble t → Q (refusedAtStart K M t o)
+      pub round-keeps : (h : C) (width : ℕ) (wider : List ℕ) (p : Progress C) → M .admits (o .start) ≡ value true → M .bound (o .start) ≡ value h → widest width wider ≡ W → R p → AfterHolds (afterRound K M (isEmpty wider) (round K M budget limit width (root K M o h) p))
       pub no-round-left : (p : Progress C) → R p → Q (record { ending = decided budgetSpent; progress = p })
 
     -- X: of an answer
@@ -70,19 +74,25 @@ module _ {S C : Type 0} (K : Costs C) (M : System S C) (R : Progress C → Type 
       same-widest w [] = refl
       same-widest w (v ∷ vs) = refl
 
-      rounds-hold : (most width : ℕ) (wider : List ℕ) (k : ℕ) (h : C) (p : Progress C) → M .bound (o .start) ≡ value h → widest width wider ≡ W → 1 ≤ k → R p → X (rounds K M most budget limit width wider k (root K M o h) p)
+      rounds-hold : (most width : ℕ) (wider : List ℕ) (k : ℕ) (h : C) (p : Progress C) → M .admits (o .start) ≡ value true → M .bound (o .start) ≡ value h → widest width wider ≡ W → 1 ≤ k → R p → X (rounds K M most budget limit width wider k (root K M o h) p)
       unfolding rounds
-      rounds-hold zero width wider k h p b w one i = told k width _ one (changes .no-round-left p i)
-      rounds-hold (suc most) width wider k h p b w one i =
+      rounds-hold zero width wider k h p a b w one i = told k width _ one (changes .no-round-left p i)
+      rounds-hold (suc most) width wider k h p a b w one i =
           unlessOver-holds k width (afterRound K M (isEmpty wider) (round K M budget limit width (root K M o h) p)) (λ p′. rounds K M most budget limit (nextWidth K M width wider) (laterWidths K M wider) (suc k) (root K M o h) p′) one
-          (changes .round-keeps h width wider p b w i)
-          (λ p′ i′. rounds-hold most (nextWidth K M width wider) (laterWidths K M wider) (suc k) h p′ b (same-widest width wider ∙ w) (omega arith) i′)
+          (changes .round-keeps h width wider p a b w i)
+          (λ p′ i′. rounds-hold most (nextWidth K M width wider) (laterWidths K M wider) (suc k) h p′ a b (same-widest width wider ∙ w) (omega arith) i′)
 
-      begin-holds : (most width : ℕ) (wider : List ℕ) (b : Value C) → M .bound (o .start) ≡ b → widest width wider ≡ W → X (begin K M most budget limit width wider o b)
+      begin-holds : (most width : ℕ) (wider : List ℕ) (b : Value C) → M .admits (o .start) ≡ value true → M .bound (o .start) ≡ b → widest width wider ≡ W → X (begin K M most budget limit width wider o b)
       unfolding begin
-      begin-holds most width wider (value h) b w = rounds-hold most width wider 1 h _ b w (omega arith) (changes .starts h b)
-      begin-holds most width wider (trouble t) b w = told 1 width _ (omega arith) (changes .no-start t b)
+      begin-holds most width wider (value h) a b w = rounds-hold most width wider 1 h _ a b w (omega arith) (changes .starts h b)
+      begin-holds most width wider (trouble t) a b w = told 1 width _ (omega arith) (changes .no-start t b)
+
+      enter-holds : (most width : ℕ) (wider : List ℕ) (a : Value Bool) → M .admits (o .start) ≡ a → widest width wider ≡ W → X (enter K M most budget limit width wider o a)
+      unfolding enter
+      enter-holds most width wider (value true) a w = begin-holds most width wider (M .bound (o .start)) a refl w
+      enter-holds most width wider (value false) a w = told 1 width _ (omega arith) (changes .broken a)
+      enter-holds most width wider (trouble t) a w = told 1 width _ (omega arith) (changes .no-admission t a)
 
       pub search-holds : (width : ℕ) (wider : List ℕ) → widest width wider ≡ W → X (search K M budget limit width wider o)
       unfolding search searchWithin
-      search-holds width wider w = begin-holds _ width wider (M .bound (o .start)) refl w
+      search-holds width wider w = enter-holds _ width wider (M .admits (o .start)) refl w

@@ -13,11 +13,12 @@ use Rattle.laws.proofs.Bools.{not-both, or-either}
 use Rattle.laws.proofs.Lists.{Some, here, some-none, is-empty}
 use Rattle.model.specs.Values.{value}
 use Rattle.model.specs.System.{Costs, CostLaws, System, Origin}
-use Rattle.model.specs.Plans.{first, Plan, arrived}
+use Rattle.model.specs.Plans.{first, PlanFrom, arrived}
 use Rattle.model.proofs.Reach.{here as reach-here}
+use Rattle.model.proofs.PlanCheck.{broken-has-no-plan}
 use Rattle.search.specs.Answer.{Verdict, cheapest, noPlan, widthStop, lengthStop, contradicted, verdict, byState, Answer}
-use Rattle.search.specs.Search.{Node, Route, Progress, Round, Ending, decided, refused, root, freshRound, round, exhausted, hasPlan, bestCost, bestSteps, boundAt, answerOf, answer, search}
-use Rattle.search.specs.Guarantee.{Stopped, by-width, by-length, by-budget, widest, OfEveryPlan, in-bound, Guarantee, Fits}
+use Rattle.search.specs.Search.{Node, Route, Progress, Round, Ending, decided, refused, root, freshRound, round, exhausted, hasPlan, bestCost, bestSteps, boundAt, answerOf, answer, untouched, refusedAtStart, search}
+use Rattle.search.specs.Guarantee.{Stopped, by-width, by-length, by-budget, widest, OfEveryPlan, in-start, in-bound, Guarantee, Fits}
 use Rattle.search.proofs.Induction.{taking, Changes, RoundEnd, round-holds}
 use Rattle.search.proofs.Rounds.{Judged, afterRound-holds, RunChanges, search-holds}
 use Rattle.search.proofs.Invariant.{Completion, Covered, Accounted, covered, pending, held, Pending, Limited, BestIsPlan, Supported, InvariantAt, IsCheapest, Claim, Justified}
@@ -47,12 +48,12 @@ module _ {S C : Type 0} (K : Costs C) (L : CostLaws K) (M : System S C) (self : 
       }
 
   -- rule 1: the start alone, and every plan is still to come
-  start-holds : (width : ℕ) (h : C) (p : Progress C) → M .bound (o .start) ≡ value h → Supported K M o limit p → InvariantAt K M o limit width 0 limit (taking (root K M o h ∷ [])) (freshRound K M p)
+  start-holds : (width : ℕ) (h : C) (p : Progress C) → M .admits (o .start) ≡ value true → M .bound (o .start) ≡ value h → Supported K M o limit p → InvariantAt K M o limit width 0 limit (taking (root K M o h ∷ [])) (freshRound K M p)
   unfolding freshRound root
-  start-holds width h p b s =
+  start-holds width h p a b s =
       record {
         depth = omega arith;
-        ahead = (record { in-layer = first; reached = reach-here; path-length = refl; bounded = b; summed = refl }, tt);
+        ahead = (record { admitted = a; in-layer = first; reached = reach-here; path-length = refl; bounded = b; summed = refl }, tt);
         invariant =
             record {
               supported = s;
@@ -61,7 +62,7 @@ module _ {S C : Type 0} (K : Costs C) (L : CostLaws K) (M : System S C) (self : 
               overfull = λ e. absurd (false≢true e);
               open-at = λ e. absurd (false≢true e);
               limited = none-yet limit;
-              accounted = λ w l T q c plan. pending (here (record { steps = q; cost = c; plan = plan; within = L .reflexive _ }));
+              accounted = λ w l T q c plan. pending (here (record { steps = q; cost = c; plan = plan .plan; within = L .reflexive _ }));
             };
       }
     where
@@ -111,22 +112,29 @@ module _ {S C : Type 0} (K : Costs C) (L : CostLaws K) (M : System S C) (self : 
   last-is-widest width [] w e = w
   last-is-widest width (v ∷ vs) w e = absurd (false≢true e)
 
+  nothing-supported : Supported K M o limit (untouched K M)
+  unfolding untouched
+  nothing-supported = record { best = tt; low = λ T p c plan. L .least _ }
+
   pub run-kept : RunChanges K M (Supported K M o limit) (Justified K M o limit W) o budget limit W
+  unfolding refusedAtStart
   run-kept =
       record {
-        starts = λ h b. record { best = tt; low = λ T p c plan. L .monotone _ _ _ _ (L .reflexive _) (T .bounds first b plan) };
-        no-start = λ t b. record { supported = record { best = tt; low = λ T p c plan. L .least _ }; claim = record { fits = omega arith; trouble-there = in-bound arrived b } };
+        broken = λ a. record { supported = nothing-supported; claim = λ T p c plan. broken-has-no-plan K M a plan };
+        no-admission = λ t a. record { supported = nothing-supported; claim = record { fits = omega arith; trouble-there = in-start a } };
+        starts = λ h b. record { best = tt; low = λ T p c plan. L .monotone _ _ _ _ (L .reflexive _) (T .bounds first b (plan .plan)) };
+        no-start = λ t b. record { supported = nothing-supported; claim = record { fits = omega arith; trouble-there = in-bound arrived b } };
         round-keeps =
-            λ h width wider p b w s.
+            λ h width wider p a b w s.
             afterRound-holds K M (Supported K M o limit) (Justified K M o limit W) (AtEnd width) (isEmpty wider) (round K M budget limit width (root K M o h) p)
-            (round-holds K M budget width (InvariantAt K M o limit width) (Justified K M o limit W) (invariant-kept width) p (start-holds width h p b s))
+            (round-holds K M budget width (InvariantAt K M o limit width) (Justified K M o limit W) (invariant-kept width) p (start-holds width h p a b s))
             (λ r. judged (isEmpty wider) r (last-is-widest width wider w));
         no-round-left = λ p s. record { supported = s; claim = tt };
       }
 
 -- the answer tells what is justified
 module _ {S C : Type 0} (K : Costs C) (M : System S C) (o : Origin S C) (limit W : ℕ) where
-  plan-given-of : (best : Option (Route C)) → BestIsPlan K M o limit best → hasPlan K M best ≡ true → (c : C) × Plan K M (o .start) (bestSteps K M best) c × (bestCost K M best ≡ K .combine (o .spent) c)
+  plan-given-of : (best : Option (Route C)) → BestIsPlan K M o limit best → hasPlan K M best ≡ true → (c : C) × PlanFrom K M (o .start) (bestSteps K M best) c × (bestCost K M best ≡ K .combine (o .spent) c)
   unfolding hasPlan bestSteps bestCost
   plan-given-of none b e = absurd (false≢true e)
   plan-given-of (some x) b e = (b .cost, b .plan, b .total)

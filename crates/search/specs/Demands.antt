@@ -5,7 +5,7 @@ use mathlib.Core.Bool.{true}
 use mathlib.Core.List.{List}
 use lib.ListN.{length}
 use Rattle.model.specs.Numbers.{rangeEnd}
-use Rattle.model.specs.Plans.{Plan, TrueDeclarations}
+use Rattle.model.specs.Plans.{PlanFrom, TrueDeclarations}
 use Rattle.model.specs.Readers.{read}
 use Rattle.model.specs.Syntax.{Model}
 use Rattle.model.specs.Commands.{model}
@@ -20,9 +20,9 @@ pub data Ends : Outcome → Type 0 where
   by-state : {t : ℕ} → 11 ≤ t → t ≤ 13 → Ends (byState t)
   by-input : {t : ℕ} → 1 ≤ t → t ≤ 9 → Ends (byInput t)
 
--- a plan of the model, from its target, at this cost
+-- a plan of the model, from its target, which meets the constraints, at this cost
 abbrev pub PlanOf : Model → List ℕ → (cost : ℕ) → Type 0
-PlanOf m p c = Plan (costsOf (m .rule)) (systemOf rangeEnd m) (target m) p c
+PlanOf m p c = PlanFrom (costsOf (m .rule)) (systemOf rangeEnd m) (target m) p c
 
 -- "the model's declared bounds and preferences are true"
 abbrev pub DeclarationsTrue : Model → Type 0

@@ -1,4 +1,4 @@
--- What an answer is worth: demand 3 of the mission, of plans as document 01 defines them, and the path at a refusal by the state.
+-- What an answer is worth: demand 3 of the mission, of plans from a target that meets the constraints, and the path at a refusal by the state.
 -- docs/FORMAT.md, "Verdicts" and "Refusals by the state".
 use Prim.Native.Nat.{ℕ, _≤_, _<_}
 use mathlib.Core.Path.{_≡_}
@@ -8,7 +8,7 @@ use lib.ListN.{length}
 use Rattle.laws.specs.Lists.{All, Different}
 use Rattle.model.specs.Values.{trouble}
 use Rattle.model.specs.System.{Costs, System, Origin, unfinished, noStatus, troubleBefore, troubleAfter}
-use Rattle.model.specs.Plans.{Plan, Leads, InLayer, TrueDeclarations, Overfull, OpenAt}
+use Rattle.model.specs.Plans.{PlanFrom, Leads, InLayer, TrueDeclarations, Overfull, OpenAt}
 use Rattle.search.specs.Answer.{cheapest, noPlan, widthStop, lengthStop, budgetSpent, contradicted, Outcome, verdict, Answer}
 
 -- "Runs with 2, 3 or 4 are stopped"
@@ -23,9 +23,10 @@ widest w [] = w
 widest w (v ∷ vs) = widest v vs
 
 module _ {S C : Type 0} (K : Costs C) (M : System S C) (o : Origin S C) where
-  -- where the declarations are true, P holds of the cost of every plan, of every length, what was spent before included
+  -- where the declarations are true, P holds of the cost of every plan, of every length, what was spent before included;
+  -- a plan needs a start that meets the constraints
   abbrev pub OfEveryPlan : (C → Type 0) → Type 0
-  OfEveryPlan P = TrueDeclarations K M (o .start) → (p : List ℕ) (c : C) → Plan K M (o .start) p c → P (K .combine (o .spent) c)
+  OfEveryPlan P = TrueDeclarations K M (o .start) → (p : List ℕ) (c : C) → PlanFrom K M (o .start) p c → P (K .combine (o .spent) c)
 
   -- allowed steps from the start to s, at cost g, what was spent before included
   abbrev pub PathTo : List ℕ → (s : S) (g : C) → Type 0
@@ -34,6 +35,8 @@ module _ {S C : Type 0} (K : Costs C) (M : System S C) (o : Origin S C) where
   -- at a refusal by the state "the plan buffer, length and cost give the path to the state evaluated (for a child's constraints and h,
   -- the child's path)": trouble t is met where these steps lead, at this cost
   pub data TroubleAt (t : ℕ) : (steps : List ℕ) (cost : C) → Type 0 where
+    -- in the constraints of the start
+    in-start : M .admits (o .start) ≡ trouble t → TroubleAt t [] (o .spent)
     in-base-cases : {p : List ℕ} {s : S} {g : C} → PathTo p s g → M .status s ≡ noStatus t → TroubleAt t p g
     -- in the conditions, the cost or the effects of transition i
     in-transition : {p : List ℕ} {s : S} {g : C} {i : ℕ} → PathTo p s g → M .status s ≡ unfinished → i < M .transitions → M .move s i ≡ troubleBefore t → TroubleAt t p g
@@ -46,7 +49,7 @@ module _ {S C : Type 0} (K : Costs C) (M : System S C) (o : Origin S C) where
   module _ (W limit : ℕ) where
     pub record Guarantee (a : Answer C) : Type 0 where
       -- "under every verdict a plan given is a plan of the model, at the cost stated"
-      pub plan-given : a .flag ≡ true → (c : C) × Plan K M (o .start) (a .steps) c × (a .cost ≡ K .combine (o .spent) c)
+      pub plan-given : a .flag ≡ true → (c : C) × PlanFrom K M (o .start) (a .steps) c × (a .cost ≡ K .combine (o .spent) c)
       -- "a plan marked cheapest costs no more than every other plan of the model, of every length"
       pub cheapest-given : a .outcome ≡ verdict cheapest → a .flag ≡ true
       pub cheapest-least : a .outcome ≡ verdict cheapest → OfEveryPlan (λ c. K .atMost (a .cost) c ≡ true)

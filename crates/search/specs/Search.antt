@@ -1,4 +1,5 @@
--- Complete anytime beam search, document 01's rules 1 to 7, over the promises of the lower layer. docs/FORMAT.md, "Search".
+-- Complete anytime beam search, document 01's rules 1 to 7 behind document 02's test of the target, over the promises of the lower layer.
+-- docs/FORMAT.md, "Search".
 use Prim.Native.Nat.{ℕ, zero, suc}
 use mathlib.Core.Bool.{Bool, true, false, cond, not, _&&_, _||_}
 use mathlib.Core.List.{List, [], _∷_, reverse, dropLast}
@@ -282,14 +283,29 @@ module _ {S C : Type 0} (K : Costs C) (M : System S C) where
   rounds zero budget limit width wider k n p = answer k width (record { ending = decided budgetSpent; progress = p })
   rounds (suc most) budget limit width wider k n p = unlessOver k width (afterRound (isEmpty wider) (round budget limit width n p)) (λ p′. rounds most budget limit (nextWidth width wider) (laterWidths wider) (suc k) n p′)
 
+  -- before h of the start is found: no plan, low 0, no expansion
+  unfoldable pub untouched : Progress C
+  untouched = record { best = none; low = K .empty; expansions = 0 }
+
+  -- trouble in the start's constraints or its bounds
+  unfoldable pub refusedAtStart : ℕ → Origin S C → Stop C
+  refusedAtStart t o = record { ending = refused t (record { cost = o .spent; path = [] }); progress = untouched }
+
   -- rule 1: "low is 0 until h of the target is found, just after round 1 has begun; it is then that h"
   unfoldable pub begin : (most budget limit width : ℕ) (wider : List ℕ) → Origin S C → Value C → Answer C
   begin most budget limit width wider o (value h) = rounds most budget limit width wider 1 (root o h) (record { best = none; low = K .combine (o .spent) h; expansions = 0 })
-  begin most budget limit width wider o (trouble t) = answer 1 width (record { ending = refused t (record { cost = o .spent; path = [] }); progress = record { best = none; low = K .empty; expansions = 0 } })
+  begin most budget limit width wider o (trouble t) = answer 1 width (refusedAtStart t o)
+
+  -- document 02, §1: "The target's constraints are evaluated before its bounds … If one fails, the verdict is 1 with no expansion, one round
+  -- begun, width 1 and bound 0", width 1 being the first
+  unfoldable pub enter : (most budget limit width : ℕ) (wider : List ℕ) → Origin S C → Value Bool → Answer C
+  enter most budget limit width wider o (value true) = begin most budget limit width wider o (M .bound (o .start))
+  enter most budget limit width wider o (value false) = answer 1 width (record { ending = decided noPlan; progress = untouched })
+  enter most budget limit width wider o (trouble t) = answer 1 width (refusedAtStart t o)
 
   -- the run within so many rounds
   unfoldable pub searchWithin : (most budget limit width : ℕ) (wider : List ℕ) → Origin S C → Answer C
-  searchWithin most budget limit width wider o = begin most budget limit width wider o (M .bound (o .start))
+  searchWithin most budget limit width wider o = enter most budget limit width wider o (M .admits (o .start))
 
   -- the run with this budget, length limit, first width and wider widths, from this origin
   unfoldable pub search : (budget limit width : ℕ) (wider : List ℕ) → Origin S C → Answer C

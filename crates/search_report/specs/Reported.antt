@@ -1,8 +1,7 @@
 -- What the parts of a report say: the bound by a verdict, the answer at a verdict, the answer at a refusal by the state.
 use Prim.Native.Nat.{ℕ}
 use mathlib.Core.Path.{_≡_}
-use mathlib.Core.List.{List, []}
-use mathlib.Core.Option.{none}
+use mathlib.Core.List.{List}
 use lib.ListN.{length}
 use Rattle.search.specs.Answer as A
 use Rattle.search.specs.Answer.{bufferAfter}
@@ -37,7 +36,3 @@ refusedAnswer bytes best number cost path x =
 -- the report at a refusal by the state, whatever the path's steps are: the answer has their number alone
 pub record Refuses (number cost n : ℕ) (stop : Stop) (x : Answer) : Type 0 where
   pub answer : (bytes best path : List ℕ) → length path ≡ n → AnswerIs (refusedAnswer bytes best number cost path stop) x
-
--- the target's bound has no value: round 1 has begun, at width 1
-pub record RefusesStart (number : ℕ) (x : Answer) : Type 0 where
-  pub answer : (bytes : List ℕ) → AnswerIs (answerOf (costsIn bytes) (systemIn bytes) (refused number (record { cost = 0; path = [] })) 1 1 (record { best = none; low = 0; expansions = 0 })) x

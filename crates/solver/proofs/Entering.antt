@@ -1,4 +1,4 @@
--- What a run comes to, test by test: the settings, what is lent, the reading, the target's bound, then the rounds.
+-- What a run comes to, test by test: the settings, what is lent, the reading, the target's constraints and bound, then the rounds.
 use Prim.Native.Nat.{ℕ, suc, _+_, _*_, _≤_, _<_}
 use mathlib.Core.Path.{_≡_, refl, sym, ap, _∙_, subst}
 use mathlib.Core.Bool.{Bool, true, false, _&&_, _||_}
@@ -19,29 +19,34 @@ use Rattle.model.specs.Values.{Value, value, trouble}
 use Rattle.model.specs.Readers.{Read, read, refused}
 use Rattle.model.specs.Syntax.{Model}
 use Rattle.model.specs.Commands.{model}
-use Rattle.model.specs.Steps.{target, costsOf, originOf}
+use Rattle.model.specs.Steps.{costsOf, originOf}
 use Rattle.model.proofs.Costs.{cost-laws}
 use Rattle.model.proofs.Reading.{model-refusal}
 use Rattle.outline.specs.Outline.{modelOf, readModel, refusalOf}
 use Rattle.search.specs.Answer as A
-use Rattle.search.specs.Answer.{byInput, bufferAfter}
+use Rattle.search.specs.Answer.{noPlan, verdict, byState, byInput, bufferAfter}
 use Rattle.search.specs.Search as S
-use Rattle.search.specs.Search.{root, search, searchWithin, begin, answer, answerOf}
+use Rattle.search.specs.Search.{root, search, searchWithin, enter, begin}
 use Rattle.search.specs.Demands.{Demands}
 use Rattle.search.specs.Run.{widerWidths, isWidth, widerUpTo, settingsFit, wordsNeeded, lentFits, refusedByInput, searchModel, runRead, run}
+use Rattle.search.proofs.Targets.{broken-start, troubled-start, unbounded-start}
 use Rattle.search.proofs.Counts.{never-by-input}
 use Rattle.search.proofs.Mission.{run-meets-demands, steps-fit-buffer, refusal-changes-no-buffer}
-use Rattle.steps.specs.InBytes.{systemIn, stateIn}
+use Rattle.steps.specs.InBytes.{systemIn, stateIn, targetIn}
 use Rattle.steps.specs.Follow.{costsIn}
-use Rattle.steps.specs.Answers.{boundAnswer}
+use Rattle.steps.specs.Answers.{heldAnswer, boundAnswer}
+use Rattle.steps.specs.declared.answers.HeldAnswer.{HeldAnswer}
+use Rattle.steps.specs.declared.answers.HeldAnswer.the-variants as H
 use Rattle.steps.specs.declared.answers.BoundAnswer.{BoundAnswer}
 use Rattle.steps.specs.declared.answers.BoundAnswer.the-variants as B
 use Rattle.search_runs.specs.Runs.{Runs}
 use Rattle.search_report.specs.Answers.{AnswerIs, stopAnswer, Reports, numbersOf}
-use Rattle.solver.specs.Searches.{SearchSays, settings, lentOf, lent, runOf, Searched}
-use Rattle.search_report.specs.Reported.{RefusesStart}
+use Rattle.solver.specs.Searches.{SearchSays, settings, lentOf, lent, runOf, Searched, enteredOf, endedAtTarget}
+use Rattle.solver.specs.declared.entry.Entered.{Entered}
+use Rattle.solver.specs.declared.entry.Entered.the-variants as E
 use Rattle.search_report.specs.declared.answers.Answer.{Answer}
 use Rattle.search_runs.specs.declared.Stop.{Stop}
+use Rattle.steps.proofs.Trials.{all-held, one-fails, one-troubles}
 use Rattle.search_report.proofs.Reporting.{answer-same}
 use Rattle.search_report.proofs.Numbers.{in-numbers, read-back}
 
@@ -142,27 +147,49 @@ module _ (w l p n : ℕ) where
       let both = and-both (leb l p) (leb (64 * w + w * (l + 1)) n) e in
       (leb-true l p (both .0), leb-true (64 * w + w * (l + 1)) n (both .1))
 
--- ---- the target's bound
+-- ---- the target: its constraints, then its bounds
 
-of-value : (v : Value ℕ) {r : BoundAnswer} {h : ℕ} → r ≡ boundAnswer v → r ≡ B.Value h → v ≡ value h
+bound-value : (v : Value ℕ) {h : ℕ} → boundAnswer v ≡ B.Value h → v ≡ value h
 unfolding boundAnswer
-of-value (value a) e f = let same : B.Value a ≡ B.Value _ = sym e ∙ f in cc
-of-value (trouble t) e f = let z : _≡_ {A = ℕ} 0 1 = cc in absurd (omega arith)
+bound-value (value a) e = cc
+bound-value (trouble t) e = let z : _≡_ {A = ℕ} 0 1 = cc in absurd (omega arith)
 
-of-trouble : (v : Value ℕ) {r : BoundAnswer} {t : ℕ} → r ≡ boundAnswer v → r ≡ B.Trouble t → v ≡ trouble t
+bound-trouble : (v : Value ℕ) {t : ℕ} → boundAnswer v ≡ B.Trouble t → v ≡ trouble t
 unfolding boundAnswer
-of-trouble (trouble a) e f = cc
-of-trouble (value h) e f = let z : _≡_ {A = ℕ} 0 1 = cc in absurd (omega arith)
+bound-trouble (value h) e = let z : _≡_ {A = ℕ} 0 1 = cc in absurd (omega arith)
+bound-trouble (trouble a) e = cc
 
-module _ (bytes state : List ℕ) (at-target : stateIn bytes state ≡ target (modelOf bytes)) (r : BoundAnswer) (says : r ≡ boundAnswer (systemIn bytes .bound (stateIn bytes state))) where
-  at-start : r ≡ boundAnswer (systemIn bytes .bound (target (modelOf bytes)))
-  at-start = says ∙ ap (λ s. boundAnswer (systemIn bytes .bound s)) at-target
+module _ (bytes : List ℕ) where
+  abbrev pub admitted : Value Bool
+  admitted = systemIn bytes .admits (targetIn bytes)
 
-  pub start-value : (h : ℕ) → r ≡ B.Value h → systemIn bytes .bound (target (modelOf bytes)) ≡ value h
-  start-value h e = of-value (systemIn bytes .bound (target (modelOf bytes))) at-start e
+  abbrev pub bounded : Value ℕ
+  bounded = systemIn bytes .bound (targetIn bytes)
 
-  pub start-trouble : (t : ℕ) → r ≡ B.Trouble t → systemIn bytes .bound (target (modelOf bytes)) ≡ trouble t
-  start-trouble t e = of-trouble (systemIn bytes .bound (target (modelOf bytes))) at-start e
+-- what the code has found of the target's words
+module _ (bytes target : List ℕ) (at-target : stateIn bytes target ≡ targetIn bytes) (q : HeldAnswer) (tried : q ≡ heldAnswer (systemIn bytes .admits (stateIn bytes target)) 0) where
+  held : heldAnswer (admitted bytes) 0 ≡ q
+  held = ap (λ s. heldAnswer (systemIn bytes .admits s) 0) (sym at-target) ∙ sym tried
+
+  pub enter-broken : q ≡ H.Fails → E.Broken ≡ enteredOf (admitted bytes) (bounded bytes)
+  unfolding enteredOf
+  enter-broken e = rw (one-fails (admitted bytes) 0 (held ∙ e))
+
+  pub enter-trouble : {t : ℕ} → q ≡ H.Trouble t → E.Trouble t ≡ enteredOf (admitted bytes) (bounded bytes)
+  unfolding enteredOf
+  enter-trouble e = rw (one-troubles (admitted bytes) 0 (held ∙ e))
+
+  module _ {i : ℕ} (all : q ≡ H.All i) (r : BoundAnswer) (says : r ≡ boundAnswer (systemIn bytes .bound (stateIn bytes target))) where
+    valued : boundAnswer (bounded bytes) ≡ r
+    valued = ap (λ s. boundAnswer (systemIn bytes .bound s)) (sym at-target) ∙ sym says
+
+    pub enter-bounded : {h : ℕ} → r ≡ B.Value h → E.Bounded h ≡ enteredOf (admitted bytes) (bounded bytes)
+    unfolding enteredOf
+    enter-bounded e = rw (all-held (admitted bytes) 0 (held ∙ all) .0, bound-value (bounded bytes) (valued ∙ e))
+
+    pub enter-unbounded : {t : ℕ} → r ≡ B.Trouble t → E.Trouble t ≡ enteredOf (admitted bytes) (bounded bytes)
+    unfolding enteredOf
+    enter-unbounded e = rw (all-held (admitted bytes) 0 (held ∙ all) .0, bound-trouble (bounded bytes) (valued ∙ e))
 
 -- ---- the search of a model that was read
 
@@ -174,27 +201,44 @@ module _ (bytes : List ℕ) (widest limit budget : ℕ) where
   unfolding costsOf
   nothing-spent h = cost-laws (modelOf bytes .rule) .left-unit h
 
-  with-bound : (h : ℕ) → systemIn bytes .bound (target (modelOf bytes)) ≡ value h
+  with-bound : (a : Value Bool) (b : Value ℕ) (h : ℕ) → admitted bytes ≡ a → bounded bytes ≡ b → enteredOf a b ≡ E.Bounded h
       → searched ≡ S.rounds (costsIn bytes) (systemIn bytes) (suc budget) budget limit 1 (widerUpTo widest) 1 (root (costsIn bytes) (systemIn bytes) (originOf (modelOf bytes)) h) (record { best = none; low = h; expansions = 0 })
-  unfolding search searchWithin begin originOf
-  with-bound h e = rw (e, nothing-spent h)
+  unfolding enteredOf search searchWithin enter begin originOf
+  with-bound (value true) (value x) h p q e = let same : x ≡ h = cc in rw (p, q, same, nothing-spent h)
+  with-bound (value true) (trouble t) h p q e = let z : _≡_ {A = ℕ} 0 1 = cc in absurd (omega arith)
+  with-bound (value false) b h p q e = let z : _≡_ {A = ℕ} 0 1 = cc in absurd (omega arith)
+  with-bound (trouble t) b h p q e = let z : _≡_ {A = ℕ} 0 1 = cc in absurd (omega arith)
 
-  without-bound : (t : ℕ) → systemIn bytes .bound (target (modelOf bytes)) ≡ trouble t
-      → searched ≡ answerOf (costsIn bytes) (systemIn bytes) (S.refused t (record { cost = 0; path = [] })) 1 1 (record { best = none; low = 0; expansions = 0 })
-  unfolding search searchWithin begin originOf answer costsOf
-  without-bound t e = rw e
+  broken : (a : Value Bool) (b : Value ℕ) → admitted bytes ≡ a → enteredOf a b ≡ E.Broken → searched ≡ endedAtTarget (verdict noPlan)
+  unfolding enteredOf originOf costsOf
+  broken (value true) (value x) p e = let z : _≡_ {A = ℕ} 0 1 = cc in absurd (omega arith)
+  broken (value true) (trouble t) p e = let z : _≡_ {A = ℕ} 0 1 = cc in absurd (omega arith)
+  broken (value false) b p e = broken-start (costsIn bytes) (systemIn bytes) (originOf (modelOf bytes)) budget limit 1 (widerUpTo widest) p
+  broken (trouble t) b p e = let z : _≡_ {A = ℕ} 0 1 = cc in absurd (omega arith)
 
-  module _ (plan plan′ : List ℕ) (x : Answer) where
-    pub says-run : (h : ℕ) → systemIn bytes .bound (target (modelOf bytes)) ≡ value h
+  troubled : (a : Value Bool) (b : Value ℕ) (t : ℕ) → admitted bytes ≡ a → bounded bytes ≡ b → enteredOf a b ≡ E.Trouble t → searched ≡ endedAtTarget (byState t)
+  unfolding enteredOf originOf costsOf
+  troubled (value true) (value x) t p q e = let z : _≡_ {A = ℕ} 0 1 = cc in absurd (omega arith)
+  troubled (value true) (trouble u) t p q e = let same : u ≡ t = cc in rw (sym same) (unbounded-start (costsIn bytes) (systemIn bytes) (originOf (modelOf bytes)) budget limit 1 (widerUpTo widest) p q)
+  troubled (value false) b t p q e = let z : _≡_ {A = ℕ} 0 1 = cc in absurd (omega arith)
+  troubled (trouble u) b t p q e = let same : u ≡ t = cc in rw (sym same) (troubled-start (costsIn bytes) (systemIn bytes) (originOf (modelOf bytes)) budget limit 1 (widerUpTo widest) p)
+
+  module _ (plan plan′ : List ℕ) (x : Answer) (q : Entered) (entered : q ≡ enteredOf (admitted bytes) (bounded bytes)) where
+    pub says-run : (h : ℕ) → q ≡ E.Bounded h
         → (words best : List ℕ) (stop : Stop) → Runs bytes words best widest budget limit h stop → Reports words best plan plan′ stop x → SearchSays bytes plan plan′ widest limit budget x
     says-run h e words best stop runs r =
-        let same : searched ≡ stopAnswer bytes words best stop = with-bound h e ∙ runs .same in
+        let same : searched ≡ stopAnswer bytes words best stop = with-bound (admitted bytes) (bounded bytes) h refl refl (sym entered ∙ e) ∙ runs .same in
         record { answer = answer-same x same (r .answer bytes); plan-after = r .plan-after bytes ∙ ap (λ (a : A.Answer ℕ). bufferAfter a plan) (sym same) }
 
-    pub says-refused : (t : ℕ) → systemIn bytes .bound (target (modelOf bytes)) ≡ trouble t → plan′ ≡ plan → RefusesStart t x → SearchSays bytes plan plan′ widest limit budget x
-    unfolding bufferAfter answerOf
-    says-refused t e kept r =
-        record { answer = answer-same x (without-bound t e) (r .answer bytes); plan-after = kept ∙ ap (λ (a : A.Answer ℕ). bufferAfter a plan) (sym (without-bound t e)) }
+    says-ended : (o : A.Outcome) → searched ≡ endedAtTarget o → plan′ ≡ plan → AnswerIs (endedAtTarget o) x → SearchSays bytes plan plan′ widest limit budget x
+    unfolding bufferAfter
+    says-ended o same kept r = record { answer = answer-same x same r; plan-after = kept ∙ ap (λ (a : A.Answer ℕ). bufferAfter a plan) (sym same) }
+
+    pub says-broken : q ≡ E.Broken → plan′ ≡ plan → AnswerIs (endedAtTarget (verdict noPlan)) x → SearchSays bytes plan plan′ widest limit budget x
+    says-broken e = says-ended (verdict noPlan) (broken (admitted bytes) (bounded bytes) refl (sym entered ∙ e))
+
+    pub says-troubled : (t : ℕ) → q ≡ E.Trouble t → plan′ ≡ plan → AnswerIs (endedAtTarget (byState t)) x → SearchSays bytes plan plan′ widest limit budget x
+    says-troubled t e = says-ended (byState t) (troubled (admitted bytes) (bounded bytes) t refl refl (sym entered ∙ e))
 
 -- ---- the run, test by test
 

@@ -1,8 +1,10 @@
 -- What the search on bytes says: the definition's run, field by field; the plan buffer and the working words; the mission's demands.
 use Prim.Native.Nat.{ℕ}
 use mathlib.Core.Path.{_≡_}
-use mathlib.Core.List.{List}
+use mathlib.Core.Bool.{Bool, true, false}
+use mathlib.Core.List.{List, []}
 use lib.ListN.{length}
+use Rattle.model.specs.Values.{Value, value, trouble}
 use Rattle.model.specs.Steps.{originOf}
 use Rattle.search.specs.Answer as A
 use Rattle.search.specs.Answer.{byInput, bufferAfter}
@@ -15,6 +17,19 @@ use Rattle.steps.specs.Follow.{costsIn}
 use Rattle.search_report.specs.Answers.{AnswerIs, FieldsAre, answerIn}
 use Rattle.search_report.specs.declared.answers.Answer.{Answer}
 use Rattle.search_report.specs.declared.answers.Fields.{Fields}
+use Rattle.solver.specs.declared.entry.Entered.{Entered}
+use Rattle.solver.specs.declared.entry.Entered.the-variants as E
+
+-- what is met at the target: its constraints, then its bounds
+unfoldable pub enteredOf : (admits : Value Bool) (bound : Value ℕ) → Entered
+enteredOf (value true) (value h) = E.Bounded h
+enteredOf (value true) (trouble t) = E.Trouble t
+enteredOf (value false) bound = E.Broken
+enteredOf (trouble t) bound = E.Trouble t
+
+-- the answer of a run that ends at the target, in round 1 at width 1, before anything is found
+abbrev pub endedAtTarget : A.Outcome → A.Answer ℕ
+endedAtTarget o = record { outcome = o; flag = false; cost = 0; bound = 0; steps = []; tally = record { expansions = 0; rounds = 1; width = 1 } }
 
 -- the search of the model that stands in the bytes
 pub record SearchSays (bytes plan plan′ : List ℕ) (widest limit budget : ℕ) (x : Answer) : Type 0 where

@@ -4,24 +4,51 @@ ghost use mathlib.Core.Path.{_≡_};
 ghost use mathlib.Core.Bool.{true};
 ghost use Prim.Native.Nat.{_≤_, _<_, _^_};
 ghost use Rattle.search.specs.Run.{isWidth, settingsFit, lentFits, refusedByInput};
-ghost use Rattle.steps.specs.InBytes.{Outlined};
+ghost use Rattle.steps.specs.InBytes.{Outlined, systemIn, targetIn};
 ghost use Rattle.search_rounds.specs.Rounds.{RoomFor};
-ghost use Rattle.search_report.specs.Answers.{AnswerIs, numbersOf};
-ghost use Rattle.solver.specs.Searches.{Searched, settings, lentOf, SearchSays};
-ghost use Rattle.search_report.specs.Reported.{RefusesStart};
+ghost use Rattle.search_report.specs.Answers.{AnswerIs, numbersOf, outcomeOf};
+ghost use Rattle.solver.specs.Searches.{Searched, settings, lentOf, SearchSays, enteredOf, endedAtTarget};
 use read_model::read_model;
+use search::length_fits;
 use search_report::answers::Answer;
 use search_report::answers::Outcome;
 use search_report::report::report;
 use search_runs::rounds;
 use search_tally::Tally;
 use search_tally::begun;
+use search_visits::work::Verdict;
 use steps::answers::BoundAnswer;
+use steps::answers::HeldAnswer;
 use steps::bounds::bound;
+use steps::conditions::constraints_hold;
 use steps::states::start;
 
 // The widths that a run may have.
 const WIDTHS: [u32; 13] = [1, 2, 4, 8, 16, 32, 64, 128, 256, 512, 1024, 2048, 4096];
+
+// What is met at the target when round 1 has begun: h, a constraint that fails, or trouble in the constraints or in h.
+pub enum Entered {
+    Bounded(u64),
+    Broken,
+    Trouble(u8),
+}
+
+// Tries the target: its constraints, then its bounds.
+fn enter(model: &[u8], outline: &[u64]) -> Entered
+    requires { ⌜ Outlined (now model) (now outline) ⌝ }
+    ensures { λ r. ⌜ r ≡ enteredOf (systemIn (now (model .entry)) .admits (targetIn (now (model .entry)))) (systemIn (now (model .entry)) .bound (targetIn (now (model .entry)))) ⌝ }
+{
+    let mut target = [0u64; 16];
+    start(model, outline, &mut target);
+    match constraints_hold(model, outline, &target) {
+        HeldAnswer::All(_) => match bound(model, outline, &target) {
+            BoundAnswer::Value(h) => Entered::Bounded(h),
+            BoundAnswer::Trouble(t) => Entered::Trouble(t),
+        },
+        HeldAnswer::Fails => Entered::Broken,
+        HeldAnswer::Trouble(t) => Entered::Trouble(t),
+    }
+}
 
 // The run of a model that was read.
 fn search_model(
@@ -36,21 +63,20 @@ fn search_model(
     requires { ⌜ Outlined (now model) (now outline) × (RoomFor (now words) (now plan) widest limit × ((isWidth widest ≡ true) × (budget < 2 ^ 32))) ⌝ }
     ensures { λ r. ⌜ SearchSays (now (model .entry)) (now (plan .entry)) (now (plan .exit)) widest limit budget r ⌝ }
 {
-    let mut state = [0u64; 16];
-    start(model, outline, &mut state);
-    match bound(model, outline, &state) {
-        BoundAnswer::Value(h) => {
+    match enter(model, outline) {
+        Entered::Bounded(h) => {
             let mut best = [0u8; 256];
             let stop = rounds(words, &mut best, model, outline, widest, budget, limit, h);
             report(plan, words, &best, limit, stop)
         }
-        BoundAnswer::Trouble(t) => refusal_at_start(t),
+        Entered::Broken => ended_at_target(Outcome::Verdict(Verdict::NoPlan)),
+        Entered::Trouble(t) => ended_at_target(Outcome::ByState(t)),
     }
 }
 
-// A refusal by the target's bound, in round 1.
-fn refusal_at_start(number: u8) -> Answer
-    ensures { λ r. ⌜ RefusesStart number r ⌝ }
+// The answer of a run that ends at the target, in round 1, before anything is found.
+fn ended_at_target(outcome: Outcome) -> Answer
+    ensures { λ r. ⌜ AnswerIs (endedAtTarget (outcomeOf outcome)) r ⌝ }
 {
     let fresh = Tally {
         expansions: 0,
@@ -59,7 +85,7 @@ fn refusal_at_start(number: u8) -> Answer
     };
     let tally = begun(fresh, 1);
     Answer {
-        outcome: Outcome::ByState(number),
+        outcome: outcome,
         flag: false,
         cost: 0,
         bound: 0,
@@ -107,10 +133,10 @@ fn settings_fit(width: u32, limit: u32) -> bool
     if limit < 1 {
         return false;
     }
-    if 256 < limit {
-        return false;
+    if length_fits(limit as u64) {
+        return is_width(width);
     }
-    is_width(width)
+    false
 }
 
 // Whether the caller lends enough: plan bytes, and working words.

@@ -14,20 +14,23 @@ use Rattle.model.specs.Values.{Value, trouble}
 use Rattle.model.specs.System.{Status, base, unfinished, noStatus, Move, blocked, moved, troubleBefore, troubleAfter}
 use Rattle.model.specs.Syntax.{Rule, sum, largest}
 use Rattle.model.specs.Meaning.{State}
-use Rattle.model.specs.Steps.{target, combine, costsOf, systemOf, move, moveBy}
-use Rattle.model.specs.Check.{final, afterMove, afterStatus, follow, answerNumber, answerCost}
+use Rattle.model.specs.Steps.{combine, costsOf, systemOf, move, moveBy}
+use Rattle.model.specs.Check.{final, afterMove, afterStatus, follow, afterConstraints, followFrom, answerNumber, answerCost}
 use Rattle.outline.specs.Outline.{modelOf, ruleNumber}
 use Rattle.steps.specs.declared.answers.StatusAnswer.the-variants as S
+use Rattle.steps.specs.declared.answers.HeldAnswer.{HeldAnswer}
+use Rattle.steps.specs.declared.answers.HeldAnswer.the-variants as H
 use Rattle.steps.specs.declared.answers.MoveAnswer.{MoveAnswer}
 use Rattle.steps.specs.declared.answers.MoveAnswer.the-variants as M
 use Rattle.steps.specs.declared.answers.FollowAnswer.{FollowAnswer}
 use Rattle.steps.specs.declared.answers.FollowAnswer.the-variants as T
 use Rattle.steps.specs.declared.answers.Checked.{Checked}
-use Rattle.steps.specs.InBytes.{Outlined, stateIn, systemIn}
-use Rattle.steps.specs.Answers.{statusAnswer, moveAnswer}
+use Rattle.steps.specs.InBytes.{Outlined, stateIn, systemIn, targetIn}
+use Rattle.steps.specs.Answers.{statusAnswer, heldAnswer, moveAnswer}
 use Rattle.steps.specs.Says.{MoveSays}
-use Rattle.steps.specs.Follow.{costsIn, followIn, stepTried, finished, FollowsOn, CheckedIs}
+use Rattle.steps.specs.Follow.{costsIn, followIn, followFromIn, stepTried, finished, FollowsOn, CheckedIs}
 use Rattle.steps.proofs.Items.{none-beyond}
+use Rattle.steps.proofs.Trials.{all-held, one-fails, one-troubles}
 use Rattle.steps.proofs.Promises.{combined-at-most, step-cost-below}
 
 -- ---- answers taken apart
@@ -185,38 +188,56 @@ module _ (bytes : List ℕ) (s : State) (g : ℕ) where
 
 -- ---- the whole plan
 
--- i steps of the plan are taken, at the cost g, to the state
-pub record Followed (bytes plan state child : List ℕ) (g i : ℕ) : Type 0 where
+-- i steps of the plan are taken from s, at the cost g, to the state
+pub record Followed (bytes plan : List ℕ) (s : State) (state child : List ℕ) (g i : ℕ) : Type 0 where
   pub long : length state ≡ 16
   pub child-long : length child ≡ 16
   pub within : i ≤ length plan
   pub small : g ≤ i * rangeEnd
-  pub left : followIn bytes plan (target (modelOf bytes)) 0 ≡ followIn bytes (drop i plan) (stateIn bytes state) g
+  pub left : followIn bytes plan s 0 ≡ followIn bytes (drop i plan) (stateIn bytes state) g
 
-module _ (bytes plan state child : List ℕ) where
-  pub followed-first : length state ≡ 16 → length child ≡ 16 → stateIn bytes state ≡ target (modelOf bytes) → Followed bytes plan state child 0 0
+module _ (bytes plan : List ℕ) (s : State) (state child : List ℕ) where
+  pub followed-first : length state ≡ 16 → length child ≡ 16 → stateIn bytes state ≡ s → Followed bytes plan s state child 0 0
   followed-first l k e = record { long = l; child-long = k; within = omega arith; small = omega arith; left = rw e }
 
-  module _ (g i : ℕ) (so-far : Followed bytes plan state child g i) where
+  module _ (g i : ℕ) (so-far : Followed bytes plan s state child g i) where
     pub cost-small : length plan ≤ 256 → g < 2 ^ 63
     cost-small h = omega (arith, so-far .small, so-far .within)
 
-    pub followed-last : length plan ≤ i → (r : Checked) → CheckedIs (finished bytes (stateIn bytes state) g) r → CheckedIs (followIn bytes plan (target (modelOf bytes)) 0) r
+    pub followed-last : length plan ≤ i → (r : Checked) → CheckedIs (finished bytes (stateIn bytes state) g) r → CheckedIs (followIn bytes plan s 0) r
     unfolding follow
     followed-last h r c = rw (so-far .left, drop-of-length-le plan h) c
 
     module _ (h : i < length plan) (after : List ℕ) (r : FollowAnswer) (turned : FollowsOn bytes (λ rest. followIn bytes (getD plan i 0 ∷ rest) (stateIn bytes state) g) after g r) where
-      next-step : followIn bytes plan (target (modelOf bytes)) 0 ≡ followIn bytes (getD plan i 0 ∷ drop (i + 1) plan) (stateIn bytes state) g
+      next-step : followIn bytes plan s 0 ≡ followIn bytes (getD plan i 0 ∷ drop (i + 1) plan) (stateIn bytes state) g
       next-step = so-far .left ∙ ap (λ (l : List ℕ). followIn bytes l (stateIn bytes state) g) (drop-cons plan i 0 h ∙ ap (λ (k : ℕ). getD plan i 0 ∷ drop k plan) (sym (add-one i)))
 
-      pub followed-more : {k : ℕ} → r ≡ T.On k → length after ≡ 16 → Followed bytes plan after after k (i + 1)
+      pub followed-more : {k : ℕ} → r ≡ T.On k → length after ≡ 16 → Followed bytes plan s after after k (i + 1)
       followed-more {k} e l =
           let t = rw e at turned in
           let m : (i + 1) * rangeEnd ≡ i * rangeEnd + rangeEnd = omega arith in
           record { long = l; child-long = l; within = omega arith; small = omega (arith, so-far .small, t .1); left = next-step ∙ t .0 (drop (i + 1) plan) }
 
-      pub followed-ended : {n : ℕ} → r ≡ T.Ended n → CheckedIs (followIn bytes plan (target (modelOf bytes)) 0) (record { answer = n; cost = 0 })
+      pub followed-ended : {n : ℕ} → r ≡ T.Ended n → CheckedIs (followIn bytes plan s 0) (record { answer = n; cost = 0 })
       unfolding answerNumber answerCost
       followed-ended {n} e =
-          let t : followIn bytes plan (target (modelOf bytes)) 0 ≡ trouble n = next-step ∙ (rw e at turned) (drop (i + 1) plan) in
+          let t : followIn bytes plan s 0 ≡ trouble n = next-step ∙ (rw e at turned) (drop (i + 1) plan) in
           record { number = rw t; cost = rw t }
+
+-- ---- the target's constraints, then the plan
+
+module _ (bytes plan state : List ℕ) (at-target : stateIn bytes state ≡ targetIn bytes) (g : ℕ) (q : HeldAnswer) (says : q ≡ heldAnswer (systemIn bytes .admits (stateIn bytes state)) 0) where
+  held : heldAnswer (systemIn bytes .admits (targetIn bytes)) 0 ≡ q
+  held = ap (λ s. heldAnswer (systemIn bytes .admits s) 0) (sym at-target) ∙ sym says
+
+  pub target-meets : {i : ℕ} → q ≡ H.All i → (r : Checked) → CheckedIs (followIn bytes plan (stateIn bytes state) g) r → CheckedIs (followFromIn bytes plan (targetIn bytes) g) r
+  unfolding followFrom afterConstraints
+  target-meets e r c = rw (all-held (systemIn bytes .admits (targetIn bytes)) 0 (held ∙ e) .0, sym at-target) c
+
+  pub target-breaks : q ≡ H.Fails → (r : Checked) → CheckedIs (trouble notAPlan) r → CheckedIs (followFromIn bytes plan (targetIn bytes) g) r
+  unfolding followFrom afterConstraints
+  target-breaks e r c = rw (one-fails (systemIn bytes .admits (targetIn bytes)) 0 (held ∙ e)) c
+
+  pub target-troubles : {n : ℕ} → q ≡ H.Trouble n → (r : Checked) → CheckedIs (trouble n) r → CheckedIs (followFromIn bytes plan (targetIn bytes) g) r
+  unfolding followFrom afterConstraints
+  target-troubles e r c = rw (one-troubles (systemIn bytes .admits (targetIn bytes)) 0 (held ∙ e)) c

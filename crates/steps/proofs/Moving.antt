@@ -229,7 +229,7 @@ module _ (bytes state : List ℕ) (t : ℕ) (child : List ℕ) (q : AttemptAnswe
       record { answer = rw m; arrives = λ c u i. let z : _≡_ {A = ℕ} 0 1 = cc in absurd (omega arith) }
 
   pub move-after : {c : ℕ} → q ≡ A.Taken c → (r : MoveAnswer) → r ≡ moveAnswer (constrained rangeEnd (modelOf bytes) c (stateIn bytes child) (constraintsIn bytes child)) → MoveSays bytes state t child r
-  unfolding moveOf
+  unfolding moveOf systemOf
   move-after {c} e r f =
       let v = is-taken _ (sym (a .says .answer) ∙ e) in
       let w : stateIn bytes child ≡ v .0 = a .says .written c (v .0) (v .1) in

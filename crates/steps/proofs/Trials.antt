@@ -13,7 +13,7 @@ use Rattle.model.specs.Syntax.{Number, Condition}
 use Rattle.model.specs.Expressions as reading
 use Rattle.model.specs.Commands.{conditions}
 use Rattle.model.specs.Meaning.{numberValue, conditionValue, allHold, someHolds}
-use Rattle.model.specs.Steps.{statusOf, status, raise, greatest, bound, systemOf}
+use Rattle.model.specs.Steps.{admits, statusOf, status, raise, greatest, bound, systemOf}
 use Rattle.outline.specs.Outline.{modelOf, baseCasesFrom, constraintsFrom, boundsFrom}
 use Rattle.eval_sets.specs.declared.answers.ConditionValue.{ConditionValue}
 use Rattle.eval_sets.specs.declared.answers.ConditionValue.the-variants as C
@@ -173,11 +173,15 @@ module _ (bytes state : List ℕ) (k : ℕ) (passed : Seeking bytes state k) whe
 -- ---- constraints
 
 abbrev pub constraintsIn : (bytes state : List ℕ) → Value Bool
-constraintsIn bytes state = allHold rangeEnd (modelOf bytes .tables) (modelOf bytes .constraints) (stateIn bytes state)
+constraintsIn bytes state = systemIn bytes .admits (stateIn bytes state)
 
 -- those before k hold
 abbrev pub Meeting : (bytes state : List ℕ) (k : ℕ) → Type 0
 Meeting bytes state k = constraintsIn bytes state ≡ allHold rangeEnd (modelOf bytes .tables) (drop k (modelOf bytes .constraints)) (stateIn bytes state)
+
+pub meeting-first : (bytes state : List ℕ) → Meeting bytes state 0
+unfolding systemOf admits
+meeting-first bytes state = refl
 
 module _ (bytes state : List ℕ) (k : ℕ) (passed : Meeting bytes state k) where
   pub meeting-last : length (modelOf bytes .constraints) ≤ k → H.All 0 ≡ heldAnswer (constraintsIn bytes state) 0

@@ -7,7 +7,7 @@ use Rattle.model.specs.Values.{Value, trouble}
 use Rattle.model.specs.System.{Costs}
 use Rattle.model.specs.Meaning.{State}
 use Rattle.model.specs.Steps.{costsOf}
-use Rattle.model.specs.Check.{final, afterMove, follow, answerNumber, answerCost}
+use Rattle.model.specs.Check.{final, afterMove, follow, followFrom, answerNumber, answerCost}
 use Rattle.outline.specs.Outline.{modelOf}
 use Rattle.steps.specs.declared.answers.FollowAnswer.{FollowAnswer}
 use Rattle.steps.specs.declared.answers.FollowAnswer.the-variants as T
@@ -20,6 +20,10 @@ costsIn bytes = costsOf (modelOf bytes .rule)
 -- the cost of a plan from a state, g being spent on the way there
 abbrev pub followIn : (bytes plan : List ℕ) (s : State) (g : ℕ) → Value ℕ
 followIn bytes plan s g = follow (costsIn bytes) (systemIn bytes) plan s g
+
+-- the same of a plan from the target s, whose constraints come first
+abbrev pub followFromIn : (bytes plan : List ℕ) (s : State) (g : ℕ) → Value ℕ
+followFromIn bytes plan s g = followFrom (costsIn bytes) (systemIn bytes) plan s g
 
 -- a transition's move, then the rest of the plan
 abbrev pub stepTried : (bytes : List ℕ) (s : State) (t g : ℕ) → List ℕ → Value ℕ

@@ -1,18 +1,22 @@
-// The plan check: step by step from the target, to the first trouble.
+// The plan check: the target's constraints, then step by step, to the first trouble.
 
 ghost use mathlib.Core.Path.{_≡_};
 ghost use mathlib.Core.List.{_∷_};
 ghost use Prim.Native.Nat.{_+_, _≤_, _<_, _^_};
 ghost use lib.ListN.{length};
+ghost use Rattle.model.specs.Values.{trouble};
 ghost use Rattle.steps.specs.InBytes.{Outlined, StateRoom, stateIn, targetIn};
-ghost use Rattle.steps.specs.Follow.{costsIn, followIn, stepTried, finished, FollowsOn, CheckedIs};
+ghost use Rattle.steps.specs.Follow.{costsIn, followIn, followFromIn, stepTried, finished, FollowsOn, CheckedIs};
 use crate::answers::Checked;
 use crate::answers::FollowAnswer;
+use crate::answers::HeldAnswer;
 use crate::answers::MoveAnswer;
 use crate::answers::NOT_A_PLAN;
 use crate::answers::StatusAnswer;
+use crate::conditions::constraints_hold;
 use crate::conditions::status;
 use crate::moves::step;
+use crate::states::copy_state;
 use crate::states::start;
 use outline::layout::RULE;
 use outline::word_at;
@@ -82,14 +86,14 @@ fn finish(model: &[u8], outline: &[u64], state: &[u64], g: u64) -> Checked
     }
 }
 
-// Follows a plan from the target: 0 and its cost, or the number of the first trouble.
-pub fn follow(model: &[u8], outline: &[u64], plan: &[u8]) -> Checked
-    requires { ⌜ Outlined (now model) (now outline) × (length (now plan) ≤ 256) ⌝ }
-    ensures { λ r. ⌜ CheckedIs (followIn (now (model .entry)) (now (plan .entry)) (targetIn (now (model .entry))) 0) r ⌝ }
+// Follows the steps of a plan from a state, whatever its own constraints: 0 and their cost, or the number of the first trouble.
+fn follow_steps(model: &[u8], outline: &[u64], from: &[u64], plan: &[u8]) -> Checked
+    requires { ⌜ Outlined (now model) (now outline) × StateRoom (now from) × (length (now plan) ≤ 256) ⌝ }
+    ensures { λ r. ⌜ CheckedIs (followIn (now (model .entry)) (now (plan .entry)) (stateIn (now (model .entry)) (now (from .entry))) 0) r ⌝ }
 {
     let mut state = [0u64; 16];
     let mut child = [0u64; 16];
-    start(model, outline, &mut state);
+    copy_state(from, &mut state);
     let mut g: u64 = 0;
     let mut i: usize = 0;
     while i < plan.len() {
@@ -103,4 +107,28 @@ pub fn follow(model: &[u8], outline: &[u64], plan: &[u8]) -> Checked
         }
     }
     finish(model, outline, &state, g)
+}
+
+// A plan that is refused, with this number.
+fn refused_plan(number: u8) -> Checked
+    ensures { λ r. ⌜ CheckedIs (trouble number) r ⌝ }
+{
+    Checked {
+        answer: number,
+        cost: 0,
+    }
+}
+
+// Follows a plan from the target, which has to meet the constraints first: 0 and its cost, or the number of the first trouble.
+pub fn follow(model: &[u8], outline: &[u64], plan: &[u8]) -> Checked
+    requires { ⌜ Outlined (now model) (now outline) × (length (now plan) ≤ 256) ⌝ }
+    ensures { λ r. ⌜ CheckedIs (followFromIn (now (model .entry)) (now (plan .entry)) (targetIn (now (model .entry))) 0) r ⌝ }
+{
+    let mut target = [0u64; 16];
+    start(model, outline, &mut target);
+    match constraints_hold(model, outline, &target) {
+        HeldAnswer::All(_) => follow_steps(model, outline, &target, plan),
+        HeldAnswer::Fails => refused_plan(NOT_A_PLAN),
+        HeldAnswer::Trouble(n) => refused_plan(n),
+    }
 }

@@ -1,9 +1,6 @@
 // Conditions tried in order, the constraints of a state, and its status.
 
 ghost use mathlib.Core.Path.{_≡_};
-ghost use Rattle.model.specs.Numbers.{rangeEnd};
-ghost use Rattle.model.specs.Meaning.{allHold};
-ghost use Rattle.outline.specs.Outline.{modelOf};
 ghost use Rattle.steps.specs.InBytes.{Outlined, stateIn, systemIn};
 ghost use Rattle.steps.specs.Answers.{heldAnswer, statusAnswer};
 ghost use Rattle.steps.specs.Says.{HeldSays};
@@ -42,7 +39,7 @@ pub fn conditions_hold(model: &[u8], at: usize, outline: &[u64], state: &[u64]) 
 // Tries the state constraints.
 pub fn constraints_hold(model: &[u8], outline: &[u64], state: &[u64]) -> HeldAnswer
     requires { ⌜ Outlined (now model) (now outline) ⌝ }
-    ensures { λ r. ⌜ r ≡ heldAnswer (allHold rangeEnd (modelOf (now (model .entry)) .tables) (modelOf (now (model .entry)) .constraints) (stateIn (now (model .entry)) (now (state .entry)))) 0 ⌝ }
+    ensures { λ r. ⌜ r ≡ heldAnswer (systemIn (now (model .entry)) .admits (stateIn (now (model .entry)) (now (state .entry)))) 0 ⌝ }
 {
     let count = word_at(outline, CONSTRAINT_COUNT) as usize;
     let mut k: usize = 0;

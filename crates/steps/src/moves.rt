@@ -4,7 +4,6 @@ ghost use mathlib.Core.Path.{_≡_};
 ghost use Prim.Native.Nat.{_≤_, _<_, _-_};
 ghost use lib.ListN.{length};
 ghost use Rattle.model.specs.Numbers.{rangeEnd};
-ghost use Rattle.model.specs.Meaning.{allHold};
 ghost use Rattle.model.specs.Steps as steps;
 ghost use Rattle.outline.specs.Outline.{modelOf};
 ghost use Rattle.steps.specs.InBytes.{Outlined, StateRoom, stateIn, systemIn};
@@ -138,7 +137,7 @@ fn attempt(
 // The constraints of a new state, reached at a cost.
 fn constrained(model: &[u8], outline: &[u64], child: &[u64], cost: u64) -> MoveAnswer
     requires { ⌜ Outlined (now model) (now outline) ⌝ }
-    ensures { λ r. ⌜ r ≡ moveAnswer (steps.constrained rangeEnd (modelOf (now (model .entry))) cost (stateIn (now (model .entry)) (now (child .entry))) (allHold rangeEnd (modelOf (now (model .entry)) .tables) (modelOf (now (model .entry)) .constraints) (stateIn (now (model .entry)) (now (child .entry))))) ⌝ }
+    ensures { λ r. ⌜ r ≡ moveAnswer (steps.constrained rangeEnd (modelOf (now (model .entry))) cost (stateIn (now (model .entry)) (now (child .entry))) (systemIn (now (model .entry)) .admits (stateIn (now (model .entry)) (now (child .entry))))) ⌝ }
 {
     match constraints_hold(model, outline, child) {
         HeldAnswer::All(_) => MoveAnswer::Moved(cost),

@@ -22,6 +22,7 @@ use Rattle.test_definitions.specs.Searches1 as Searches1
 use Rattle.test_definitions.specs.Searches2 as Searches2
 use Rattle.test_definitions.specs.Searches3 as Searches3
 use Rattle.test_definitions.specs.Searches4 as Searches4
+use Rattle.test_definitions.specs.Searches5 as Searches5
 
 unfoldable pub sameList : List ℕ → List ℕ → Bool
 sameList [] [] = true
@@ -99,3 +100,7 @@ searches-3 = refl
 pub searches-4 : disagreeing 1 Searches4.cases ≡ []
 unfolding disagreeing agrees isTold sameList opened hex zeros
 searches-4 = refl
+
+pub searches-5 : disagreeing 1 Searches5.cases ≡ []
+unfolding disagreeing agrees isTold sameList opened hex zeros
+searches-5 = refl

@@ -15,6 +15,7 @@ use Rattle.test_definitions.specs.Searches1 as Searches1
 use Rattle.test_definitions.specs.Searches2 as Searches2
 use Rattle.test_definitions.specs.Searches3 as Searches3
 use Rattle.test_definitions.specs.Searches4 as Searches4
+use Rattle.test_definitions.specs.Searches5 as Searches5
 
 abbrev pub cases : List Case
-cases = Reading1.cases ++ Reading2.cases ++ Reading3.cases ++ Reading4.cases ++ Reading5.cases ++ Reading6.cases ++ Meaning1.cases ++ Meaning2.cases ++ Plans1.cases ++ Plans2.cases ++ Searches1.cases ++ Searches2.cases ++ Searches3.cases ++ Searches4.cases
+cases = Reading1.cases ++ Reading2.cases ++ Reading3.cases ++ Reading4.cases ++ Reading5.cases ++ Reading6.cases ++ Meaning1.cases ++ Meaning2.cases ++ Plans1.cases ++ Plans2.cases ++ Searches1.cases ++ Searches2.cases ++ Searches3.cases ++ Searches4.cases ++ Searches5.cases

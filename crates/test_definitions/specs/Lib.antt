@@ -14,4 +14,5 @@ pub mod Searches1
 pub mod Searches2
 pub mod Searches3
 pub mod Searches4
+pub mod Searches5
 pub mod All

@@ -154,6 +154,7 @@ impl Kind for Reference {
         for file in ["Cargo.toml", "Cargo.lock", "build.rs"] {
             fs::copy(from.join(file), to.join(file))?;
         }
+        fs::copy(root.join("kit"), copied.join("kit"))?;
         let archive = "target/staticlib";
         copy(&root.join(archive), &copied.join(archive))
     }

@@ -1,4 +1,4 @@
-//! Plans: plan checks of good and bad plans, and the order of the tests of a step.
+//! Plans: plan checks of good and bad plans, the target's constraints, and the order of the tests of a step.
 
 use super::{Case, Cases};
 use crate::build::*;
@@ -13,6 +13,7 @@ pub fn cases() -> Vec<Case> {
     troubles(&mut cases);
     order_in_a_step(&mut cases);
     effects_and_constraints(&mut cases);
+    target(&mut cases);
     cases.0
 }
 
@@ -272,9 +273,18 @@ fn order_in_a_step(cases: &mut Cases) {
             start()
                 .transition(&[], lit(-2), &[one()])
                 .base(&[base()])
-                .constraint(never()),
+                .constraint(less(num(0), lit(1))),
             0,
             13,
+        ),
+        (
+            "a constraint that fails at the target before a negative cost",
+            start()
+                .transition(&[], lit(-2), &[one()])
+                .base(&[base()])
+                .constraint(never()),
+            0,
+            14,
         ),
         (
             "effects in the order written, 12 first",
@@ -295,13 +305,40 @@ fn order_in_a_step(cases: &mut Cases) {
         (
             "effects in trouble before constraints in trouble",
             start()
-                .transition(&[], lit(0), &[(0, over())])
-                .constraint(fails_with(zero())),
+                .number(NONE, 0)
+                .transition(&[], lit(0), &[one(), (1, over())])
+                .constraint(holds_with(zero_at_one())),
             0,
             11,
         ),
         (
+            "constraints in trouble at the target before effects in trouble",
+            start()
+                .transition(&[], lit(0), &[(0, over())])
+                .constraint(fails_with(zero())),
+            0,
+            12,
+        ),
+        (
             "a constraint that fails before one in trouble",
+            start()
+                .transition(&[], lit(0), &[one()])
+                .constraint(less(num(0), lit(1)))
+                .constraint(holds_with(zero_at_one())),
+            0,
+            14,
+        ),
+        (
+            "a constraint in trouble before one that fails",
+            start()
+                .transition(&[], lit(0), &[one()])
+                .constraint(holds_with(zero_at_one()))
+                .constraint(less(num(0), lit(1))),
+            0,
+            12,
+        ),
+        (
+            "at the target: a constraint that fails before one in trouble",
             start()
                 .transition(&[], lit(0), &[])
                 .constraint(never())
@@ -310,7 +347,7 @@ fn order_in_a_step(cases: &mut Cases) {
             14,
         ),
         (
-            "a constraint in trouble before one that fails",
+            "at the target: a constraint in trouble before one that fails",
             start()
                 .transition(&[], lit(0), &[])
                 .constraint(fails_with(zero()))
@@ -323,9 +360,18 @@ fn order_in_a_step(cases: &mut Cases) {
             start()
                 .transition(&[], lit(0), &[one()])
                 .base(&[equal(num(0), lit(1)), fails_with(over())])
-                .constraint(fails_with(quotient(lit(1), difference(num(0), lit(1))))),
+                .constraint(holds_with(zero_at_one())),
             0,
             12,
+        ),
+        (
+            "a constraint that fails at the target before trouble in the last state",
+            start()
+                .transition(&[], lit(0), &[one()])
+                .base(&[equal(num(0), lit(1)), fails_with(over())])
+                .constraint(fails_with(quotient(lit(1), difference(num(0), lit(1))))),
+            0,
+            14,
         ),
         (
             "base cases: the first condition that fails hides trouble",
@@ -405,18 +451,18 @@ fn effects_and_constraints(cases: &mut Cases) {
     cases.check("a set effect reads the old element", sets, &[0], 0, 2);
     let constrained = |constraint: Bytes| counter(SUM, lit(2), 2).constraint(constraint).end();
     cases.check(
-        "the target is not tested against constraints",
+        "a constraint that fails at the target only",
         constrained(less(lit(0), num(0))),
         &[0, 0],
+        14,
         0,
-        4,
     );
     cases.check(
         "constraints in trouble at the target only",
         constrained(holds_with(quotient(lit(1), num(0)))),
         &[0, 0],
+        12,
         0,
-        4,
     );
     cases.check(
         "a constraint that holds of the old state only",
@@ -433,7 +479,7 @@ fn effects_and_constraints(cases: &mut Cases) {
             .constraint(less(num(0), num(0)))
             .end(),
         &[],
-        0,
+        14,
         0,
     );
     cases.check(
@@ -444,7 +490,7 @@ fn effects_and_constraints(cases: &mut Cases) {
             .constraint(less(quotient(lit(1), num(0)), lit(0)))
             .end(),
         &[],
-        0,
+        12,
         0,
     );
     let still = Build::new(SUM)
@@ -466,6 +512,136 @@ fn effects_and_constraints(cases: &mut Cases) {
         still,
         &[1, 1],
         14,
+        0,
+    );
+}
+
+/// The target's constraints, which are tried before everything else about states.
+fn target(cases: &mut Cases) {
+    let designs = |constraint: Bytes| Designs {
+        constraint: Some(constraint),
+        ..Designs::default()
+    };
+    let broken = || designs(not(same(elem(1), obj(0))));
+    let by_zero = || designs(holds_with(quotient(lit(1), lit(0))));
+    let over = || designs(holds_with(sum(lit(MAX), lit(1))));
+    let plan = &[0, 1, 2][..];
+    for (note, designs, plan, answer) in [
+        ("element is not 0", broken(), plan, 14),
+        ("element is not 0, the empty plan", broken(), &[], 14),
+        ("element is not 0, number 3 too high", broken(), &[3], 14),
+        ("a constraint by zero", by_zero(), plan, 12),
+        ("a constraint by zero, the empty plan", by_zero(), &[], 12),
+        (
+            "a constraint by zero, number 3 too high",
+            by_zero(),
+            &[3],
+            12,
+        ),
+        (
+            "a constraint by zero, number 255 too high",
+            by_zero(),
+            &[255, 0],
+            12,
+        ),
+        ("a constraint out of range", over(), plan, 11),
+        (
+            "a constraint out of range, number 3 too high",
+            over(),
+            &[3],
+            11,
+        ),
+        ("a plan of 257 bytes", by_zero(), &[0; 257], 2),
+    ] {
+        let note = format!("three designs: {note}");
+        cases.check(&note, designs.bytes(), plan, answer, 0);
+    }
+    let after_end = [&by_zero().bytes()[..], &[0]].concat();
+    cases.check(
+        "bytes after the end before the target's constraints",
+        after_end,
+        plan,
+        9,
+        0,
+    );
+    let met = designs(same(elem(1), elem(1))).bytes();
+    cases.check("a target that meets its constraint", met, plan, 0, 7);
+
+    let zero = || quotient(lit(1), num(0));
+    let over = || difference(lit(i32::MIN), lit(1));
+    let never = || less(num(0), num(0));
+    let start = || Build::new(SUM).number(NONE, 0);
+    let mut add = |note: &str, build: Build, plan: &[u8], answer: u8| {
+        let note = format!("at the target: {note}");
+        cases.check(&note, build.end(), plan, answer, 0);
+    };
+    add(
+        "a constraint that fails before base cases in trouble",
+        start().base(&[fails_with(zero())]).constraint(never()),
+        &[],
+        14,
+    );
+    add(
+        "a constraint that fails before base cases in trouble and a number too high",
+        start().base(&[fails_with(zero())]).constraint(never()),
+        &[9],
+        14,
+    );
+    add(
+        "a constraint in trouble before base cases in trouble",
+        start()
+            .base(&[fails_with(over())])
+            .constraint(fails_with(zero())),
+        &[],
+        12,
+    );
+    add(
+        "a constraint in trouble before base",
+        start().base(&[]).constraint(fails_with(over())),
+        &[0],
+        11,
+    );
+    add(
+        "a constraint that fails before conditions in trouble",
+        start()
+            .transition(&[fails_with(zero())], lit(0), &[])
+            .constraint(never()),
+        &[0],
+        14,
+    );
+    add(
+        "the second constraint fails",
+        start()
+            .base(&[])
+            .constraint(holds_with(num(0)))
+            .constraint(never()),
+        &[],
+        14,
+    );
+    add(
+        "the second constraint in trouble",
+        start()
+            .base(&[])
+            .constraint(holds_with(num(0)))
+            .constraint(holds_with(zero())),
+        &[],
+        12,
+    );
+    add(
+        "a part in trouble that is skipped",
+        start()
+            .base(&[])
+            .constraint(or(holds_with(num(0)), holds_with(zero()))),
+        &[],
+        0,
+    );
+    add(
+        "bounds are not evaluated",
+        start()
+            .base(&[])
+            .constraint(holds_with(num(0)))
+            .bound(zero()),
+        &[],
         0,
     );
 }

@@ -1,4 +1,4 @@
-//! Searches: settings, verdicts, marks, bounds, trouble and its path, by hand and at random.
+//! Searches: settings, verdicts, marks, bounds, the target's constraints, trouble and its path, by hand and at random.
 
 use super::{Call, Case, Cases, Search, FILL};
 use crate::build::*;
@@ -7,7 +7,7 @@ use crate::models::{sop, three_designs, tsptw, Designs};
 use crate::numbers::words_needed;
 
 /// The stored random searches, by their places in the sequence that `random_search` gives. Most of them are changed by some slip
-/// of host/slips/reference, and no two have the same fields.
+/// of host/slips/reference, and no two have the same fields, but for three whose target breaks a constraint.
 #[rustfmt::skip]
 const STORED: [usize; 100] = [
     2, 3, 4, 7, 12, 15, 16, 21, 23, 27, 29, 32, 33, 34, 36, 39, 40, 52, 54, 56, 61, 62, 66,
@@ -31,6 +31,7 @@ pub fn cases() -> Vec<Case> {
     plans_in_a_layer(&mut cases);
     bounds(&mut cases);
     troubles(&mut cases);
+    target(&mut cases);
     random(&mut cases);
     cases.0
 }
@@ -888,12 +889,12 @@ fn troubles(cases: &mut Cases) {
         (
             "constraints in trouble at the target only",
             counter(lit(1)).constraint(holds_with(quotient(lit(1), num(0)))),
-            "0 0 1 3 3 3 3 1 1",
+            "1 12 0 0 0 0 0 1 1",
         ),
         (
             "a constraint that fails at the target only",
             counter(lit(1)).constraint(less(lit(0), num(0))),
-            "0 0 1 3 3 3 3 1 1",
+            "0 1 0 0 0 0 0 1 1",
         ),
         (
             "a condition that fails hides a negative cost",
@@ -920,10 +921,18 @@ fn troubles(cases: &mut Cases) {
         (
             "effects in trouble before constraints in trouble",
             start()
+                .transition(&[], lit(2), &[up(), (1, sum(lit(MAX), lit(1)))])
+                .base(&[base()])
+                .constraint(holds_with(quotient(lit(1), difference(lit(1), num(0))))),
+            "1 11 0 0 0 0 1 1 1",
+        ),
+        (
+            "constraints in trouble at the target before effects in trouble",
+            start()
                 .transition(&[], lit(2), &[(1, sum(lit(MAX), lit(1)))])
                 .base(&[base()])
                 .constraint(never(quotient(lit(1), num(0)))),
-            "1 11 0 0 0 0 1 1 1",
+            "1 12 0 0 0 0 0 1 1",
         ),
     ] {
         cases.search(note, build.end(), settings, stated);
@@ -973,6 +982,170 @@ fn troubles(cases: &mut Cases) {
         (2, 6, 20),
         "1 12 0 5 0 2 5 2 2",
     );
+}
+
+/// The target's constraints, which are tried once, before its bounds and its base cases.
+fn target(cases: &mut Cases) {
+    let broken = "0 1 0 0 0 0 0 1 1";
+    let by_zero = "1 12 0 0 0 0 0 1 1";
+    let out_of_range = "1 11 0 0 0 0 0 1 1";
+    let usual = (16, 64, 100_000);
+    let constrained = |constraint: Bytes, bound: Option<i32>, rule: u8| Designs {
+        rule,
+        bound,
+        constraint: Some(constraint),
+        ..designs()
+    };
+    let not_at_0 = || not(same(elem(1), obj(0)));
+    let zero = || holds_with(quotient(lit(1), lit(0)));
+    let over = || holds_with(sum(lit(MAX), lit(1)));
+    for (note, designs, settings, stated) in [
+        (
+            "element is not 0",
+            constrained(not_at_0(), None, SUM),
+            usual,
+            broken,
+        ),
+        (
+            "element is not 0, W 1, L 1",
+            constrained(not_at_0(), None, SUM),
+            (1, 1, 5),
+            broken,
+        ),
+        (
+            "element is not 0, budget 0",
+            constrained(not_at_0(), None, SUM),
+            (16, 64, 0),
+            broken,
+        ),
+        (
+            "element is not 0, a bound of 8",
+            constrained(not_at_0(), Some(8), SUM),
+            usual,
+            broken,
+        ),
+        (
+            "element is not 0, largest rule",
+            constrained(not_at_0(), Some(3), LARGEST),
+            usual,
+            broken,
+        ),
+        (
+            "a constraint by zero",
+            constrained(zero(), None, SUM),
+            usual,
+            by_zero,
+        ),
+        (
+            "a constraint by zero, a bound of 8, budget 0",
+            constrained(zero(), Some(8), SUM),
+            (16, 64, 0),
+            by_zero,
+        ),
+        (
+            "a constraint out of range, a bound of 8",
+            constrained(over(), Some(8), SUM),
+            (4, 3, 9),
+            out_of_range,
+        ),
+    ] {
+        let note = format!("three designs, {note}");
+        cases.search(&note, designs.bytes(), settings, stated);
+    }
+    let refused_first = constrained(not_at_0(), None, SUM).bytes();
+    cases.search(
+        "three designs, element is not 0, W 3",
+        refused_first,
+        (3, 64, 9),
+        &refused(2),
+    );
+
+    let start = || Build::new(SUM).number(NONE, 0);
+    let never = || less(num(0), num(0));
+    let by_start = || quotient(lit(1), num(0));
+    let too_great = || sum(lit(MAX), lit(1));
+    for (note, build, budget, stated) in [
+        (
+            "a base state that breaks a constraint, budget 0",
+            start().base(&[]).constraint(never()),
+            0,
+            broken,
+        ),
+        (
+            "a base state with a constraint in trouble, budget 0",
+            start().base(&[]).constraint(holds_with(by_start())),
+            0,
+            by_zero,
+        ),
+        (
+            "a base state that meets its constraint, budget 0",
+            start().base(&[]).constraint(holds_with(num(0))),
+            0,
+            "0 0 1 0 0 0 0 1 1",
+        ),
+        (
+            "a constraint that fails before a bound in trouble",
+            counter(lit(1)).constraint(never()).bound(by_start()),
+            9,
+            broken,
+        ),
+        (
+            "a constraint that fails before base cases in trouble",
+            start().base(&[holds_with(too_great())]).constraint(never()),
+            9,
+            broken,
+        ),
+        (
+            "a constraint in trouble before a bound in trouble",
+            counter(lit(1))
+                .constraint(holds_with(by_start()))
+                .bound(too_great()),
+            9,
+            by_zero,
+        ),
+        (
+            "a constraint in trouble before base cases in trouble",
+            start()
+                .base(&[holds_with(by_start())])
+                .constraint(holds_with(too_great()))
+                .bound(lit(4)),
+            9,
+            out_of_range,
+        ),
+        (
+            "a constraint that fails before one in trouble",
+            counter(lit(1))
+                .constraint(never())
+                .constraint(holds_with(by_start())),
+            9,
+            broken,
+        ),
+        (
+            "a constraint in trouble before one that fails",
+            counter(lit(1))
+                .constraint(holds_with(by_start()))
+                .constraint(never()),
+            9,
+            by_zero,
+        ),
+        (
+            "the second constraint fails",
+            counter(lit(1))
+                .constraint(holds_with(num(0)))
+                .constraint(less(lit(0), num(0))),
+            9,
+            broken,
+        ),
+        (
+            "a part in trouble that is skipped",
+            counter(lit(1)).constraint(or(equal(num(0), lit(0)), holds_with(by_start()))),
+            9,
+            "0 0 1 3 3 3 3 1 1",
+        ),
+    ] {
+        let note = format!("at the target: {note}");
+        cases.search(&note, build.end(), (4, 5, budget), stated);
+    }
 }
 
 fn random_search(random: &mut Random) -> Call {

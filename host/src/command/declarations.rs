@@ -6,7 +6,7 @@ use super::known::Known;
 use super::part::Part;
 use super::refusals::LOOKS_LIKE_TEXT;
 use super::words::{counted, grouped, refusal_name};
-use super::{warnings, Complaint, Done, ANSWERED, REFUSED};
+use super::{target, warnings, Complaint, Done, ANSWERED, REFUSED};
 use crate::declarations::{look, Findings, Looking, NotBetter, TooHigh, Truth};
 use crate::numbers::{limit, refusal};
 use crate::proved;
@@ -86,6 +86,7 @@ fn head(source: &Source, known: &Known) -> String {
 
 fn parts(source: &Source, known: &Known, looking: Looking, findings: &Findings) -> Vec<Part> {
     let mut parts = vec![states(looking, findings)];
+    parts.extend(target::part(known));
     for (number, truth) in findings.bounds.iter().enumerate() {
         let heading = format!("Bound {number}, {}", known.listing.bounds[number]);
         let mut part = Part::new(heading);
@@ -176,8 +177,13 @@ fn reached(known: &Known, state: &State, path: &[u8]) -> String {
     }
 }
 
-/// The proved plan check on the model started in the state.
-fn checked(source: &Source, state: &State, plan: &[u8], part: &mut Part) {
+/// The proved plan check on the model started in the state. Steps from a target that does not meet the constraints are no plan
+/// of the model.
+fn checked(source: &Source, known: &Known, state: &State, plan: &[u8], part: &mut Part) {
+    if known.model.meets_constraints(state) != Ok(true) {
+        part.say("The plan check does not confirm it, since that state is the target and does not meet the constraints.");
+        return;
+    }
     let started = started_in(&source.model, state);
     let (answer, cost) = proved::plan_check(&started, plan);
     part.say(format!(
@@ -194,7 +200,7 @@ fn too_high(source: &Source, known: &Known, found: &TooHigh, part: &mut Part) {
         found.cost,
         known.steps(&found.plan)
     ));
-    checked(source, &found.state, &found.plan, part);
+    checked(source, known, &found.state, &found.plan, part);
 }
 
 fn not_better(source: &Source, known: &Known, found: &NotBetter, part: &mut Part) {
@@ -211,5 +217,5 @@ fn not_better(source: &Source, known: &Known, found: &NotBetter, part: &mut Part
         }
         None => format!("Better by the preferences, {better} there is no plan."),
     });
-    checked(source, &found.worse, &found.plan, part);
+    checked(source, known, &found.worse, &found.plan, part);
 }

@@ -16,7 +16,7 @@ use super::part::Part;
 use super::plan::status;
 use super::settings::{Run, Settings, OPTIONS};
 use super::words::{by_state, counted, grouped, refusal_name, verdict_name};
-use super::{refusals, warnings, Complaint, Done};
+use super::{refusals, target, warnings, Complaint, Done};
 use crate::numbers::limit;
 use crate::reference::syntax::CostRule;
 use std::ffi::{OsStr, OsString};
@@ -126,7 +126,7 @@ fn parts(source: &Source, settings: &Settings, run: &Run, known: Option<&Known>)
         parts.push(walk::part("The path, step by step", known, &run.steps));
     } else {
         parts.push(verdicts::proved(known, run));
-        if known.declares() {
+        if known.declares() && !target::decides(known, run) {
             parts.push(declarations::part(known));
         }
         parts.extend(verdicts::more(known, settings, run));

@@ -2,7 +2,9 @@
 
 use super::declarations::NOTHING_DECLARED;
 use super::settings::{Run, Settings};
+use super::target;
 use super::words::{by_state, refusal_name, verdict_name};
+use crate::declarations::broken_by_target;
 use crate::line::answer_line;
 use crate::numbers::verdict;
 use crate::reference::read_model;
@@ -16,8 +18,15 @@ fn declares(model: &[u8]) -> bool {
 /// What the run without declarations shows of the run with them, a line each.
 pub fn lines(model: &[u8], settings: &Settings, run: &Run) -> Vec<String> {
     let known = !run.answer.refused || by_state(run.answer.verdict);
-    if !known || read_model(model).is_err() {
+    let Some(read) = read_model(model).ok().filter(|_| known) else {
         return Vec::new();
+    };
+    let no_plan = !run.answer.refused && run.answer.verdict == verdict::NO_PLAN;
+    if let Some(number) = broken_by_target(&read).filter(|_| no_plan) {
+        return vec![format!(
+            "The mark \"no plan\" rests on no declaration: the target breaks constraint {number} [{}].",
+            target::NO_PLAN
+        )];
     }
     if !declares(model) {
         return vec![format!(

@@ -3,12 +3,11 @@
 use super::known::Known;
 use super::part::Part;
 use super::words::counted;
-use crate::declarations::broken_by_target;
 
 /// The most transitions that are named.
 const NAMED: usize = 10;
 
-/// No base case; constraints that the target breaks.
+/// No base case.
 pub fn of_model(known: &Known) -> Vec<String> {
     let mut warnings = Vec::new();
     if known.model.base_cases.is_empty() {
@@ -16,12 +15,6 @@ pub fn of_model(known: &Known) -> Vec<String> {
             "There is no base case: no state is a base state, and the model has no plan."
                 .to_string(),
         );
-    }
-    for number in broken_by_target(&known.model) {
-        warnings.push(format!(
-            "The target breaks constraint {number}, {}: constraints are tested after steps, not at the target.",
-            known.listing.constraints[number]
-        ));
     }
     warnings
 }

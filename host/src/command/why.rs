@@ -1,4 +1,4 @@
-//! Why a sequence of steps is no plan: the step, the condition or constraint, and the values there.
+//! Why a sequence of steps is no plan: the target or the step, the condition or constraint, and the values there.
 
 use super::known::Known;
 use super::words::refusal_name;
@@ -9,6 +9,9 @@ use crate::reference::State;
 pub fn no_plan(known: &Known, plan: &[u8]) -> Option<String> {
     let model = &known.model;
     let mut state = model.target();
+    if let Some(told) = in_constraints(known, &state) {
+        return Some(format!("The target, {}: {told}.", known.state(&state)));
+    }
     for (place, number) in plan.iter().enumerate() {
         let place = place + 1;
         if let Some(told) = before_step(known, place, &state) {
@@ -28,7 +31,7 @@ pub fn no_plan(known: &Known, plan: &[u8]) -> Option<String> {
         state = model.after(step, &state).ok()?;
         if let Some(told) = in_constraints(known, &state) {
             return Some(format!(
-                "{name}: {told} The state after it: {}.",
+                "{name}: {told} after it. The state after it: {}.",
                 known.state(&state)
             ));
         }
@@ -91,11 +94,12 @@ fn in_step(known: &Known, number: usize, step: &Transition, state: &State) -> Op
     None
 }
 
-fn in_constraints(known: &Known, state: &State) -> Option<String> {
+/// The first constraint that does not hold in the state, and how it fails; nothing if all hold.
+pub fn in_constraints(known: &Known, state: &State) -> Option<String> {
     for (place, constraint) in known.model.constraints.iter().enumerate() {
         if let Some(told) = fails(&known.model, constraint, state) {
             return Some(format!(
-                "constraint {place}, {}, {told} after it.",
+                "constraint {place}, {}, {told}",
                 known.listing.constraints[place]
             ));
         }

@@ -66,8 +66,12 @@ fn follows(bytes: &[u8], state: &State, plan: &[u8], cost: i64) -> bool {
     answer == 0 && own as i64 <= cost
 }
 
+/// The target is left out where it does not meet the constraints: neither the plan check nor the search follows steps from it.
 fn preferred(bytes: &[u8], model: &Model, sample: &Sample) -> Truth<NotBetter> {
     let states: Vec<State> = sample.seen.iter().map(|seen| seen.state.clone()).collect();
+    let target = model.target();
+    let met = model.meets_constraints(&target) == Ok(true);
+    let left_out = |place: usize| !met && states[place] == target;
     let mut pairs = Pairs::default();
     let mut searches = 0;
     let mut least = None;
@@ -76,6 +80,9 @@ fn preferred(bytes: &[u8], model: &Model, sample: &Sample) -> Truth<NotBetter> {
             let Some((plan, cost)) = &sample.seen[worse].rest else {
                 return false;
             };
+            if left_out(better) || left_out(worse) {
+                return false;
+            }
             let better_cost = sample.seen[better].rest.as_ref().map(|(_, cost)| *cost);
             let as_good = better_cost.is_some_and(|better| better <= *cost);
             if as_good || searches >= SEARCHES || !model.dominates(&states[better], &states[worse])

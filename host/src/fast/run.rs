@@ -1,4 +1,4 @@
-//! The rounds of a run by the rules of document 01, over two layers and back pointers.
+//! The rounds of a run by the rules of documents 01 and 02, over two layers and back pointers.
 
 use super::layer::{Entry, Layer, Node};
 use super::program::{Program, Transition};
@@ -140,10 +140,15 @@ impl<'a> Run<'a> {
         }
     }
 
-    /// Rule 1: the target, whose h is low from then on.
+    /// Rule 1: the target, which meets the constraints, and whose h is low from then on.
     fn target(&mut self) -> Result<Node, End> {
         let state = self.program.target;
         self.backs.push(Back { parent: 0, step: 0 });
+        match self.program.meets_constraints(&state) {
+            Ok(true) => {}
+            Ok(false) => return Err(End::Verdict(verdict::NO_PLAN)),
+            Err(number) => return Err(self.trouble(number, TARGET, 0)),
+        }
         let h = self.program.h(&state);
         let h = h.map_err(|number| self.trouble(number, TARGET, 0))?;
         self.low = h;

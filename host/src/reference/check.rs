@@ -23,9 +23,13 @@ fn checked_cost(model: &[u8], plan: &[u8]) -> Result<i64, u8> {
     walk(&read_model(model)?, plan)
 }
 
-/// The cost of the plan, tested step by step from the target.
+/// The cost of the plan: the target's constraints, then the steps one by one.
 fn walk(model: &Model, plan: &[u8]) -> Result<i64, u8> {
-    let mut state = model.target();
+    let target = model.target();
+    if !model.meets_constraints(&target)? {
+        return Err(NOT_A_PLAN);
+    }
+    let mut state = target;
     let mut cost = 0;
     for number in plan {
         if model.is_base(&state)? {

@@ -1,4 +1,4 @@
-//! The search: complete anytime beam search by the rules of document 01.
+//! The search: complete anytime beam search by the rules of document 01, with the target tested as document 02, §1 says.
 
 use super::meaning::State;
 use super::read::read_model;
@@ -142,7 +142,7 @@ impl Run<'_> {
         }
     }
 
-    /// Rule 1: h of the target is low from then on.
+    /// Rule 1: h of the target is low from then on. A target that breaks a constraint has no plan, which is found before h.
     fn target(&mut self) -> Result<Node, End> {
         let mut node = Node {
             state: self.model.target(),
@@ -151,6 +151,10 @@ impl Run<'_> {
             f: 0,
             path: Vec::new(),
         };
+        let met = self.model.meets_constraints(&node.state);
+        if !met.map_err(|n| node.trouble(n))? {
+            return Err(End::Verdict(verdict::NO_PLAN));
+        }
         node.h = self.model.h(&node.state).map_err(|n| node.trouble(n))?;
         node.f = self.model.join(0, node.h);
         self.low = node.h;

@@ -135,6 +135,20 @@ fn refusals_explained() {
     left.gives(1, "13 0\n");
     let words = "negative cost. Step 3, 2 load c: its cost, hours[at, c], is -2, which is negative. The state before it: todo = {c}, at = b.";
     assert!(left.errors.contains(words), "{}", left.errors);
+    let broken = super::designs_and("constraint 3 < count(todo)");
+    let path = super::file("check-broken.dp", broken.as_bytes());
+    for plan in ["", "0 1 2", "9"] {
+        let left = run(&["check", "--plan", plan, &path]);
+        left.gives(1, "14 0\n");
+        let words = "not a plan. The target, todo = {a, b, c}, at = none: constraint 0, 3 < count(todo), does not hold (3 on the left, 3 on the right).";
+        assert!(left.errors.contains(words), "{}", left.errors);
+    }
+    let troubled = super::designs_and("constraint 1 / count(todo - todo) = 1");
+    let path = super::file("check-troubled.dp", troubled.as_bytes());
+    let left = run(&["check", "--plan", "9", &path]);
+    left.gives(1, "12 0\n");
+    let words = "constraint 0, 1 / count(todo - todo) = 1, has no value: quotient by zero.";
+    assert!(left.errors.contains(words), "{}", left.errors);
     let left = run(&["check", "--plan-hex", &"00".repeat(257), &path]);
     assert!(left
         .errors

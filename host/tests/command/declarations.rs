@@ -158,17 +158,6 @@ fn warnings() {
             .text()
             .contains("There is no base case: "));
     }
-    let path = file(
-        "broken.dp",
-        designs_and("constraint not at = none").as_bytes(),
-    );
-    for command in ["declarations", "explain"] {
-        let said = run(&[command, &path]).text();
-        assert!(
-            said.contains("The target breaks constraint 0, not at = none: "),
-            "{said}"
-        );
-    }
     let more = "base:\n    when empty(todo)\n";
     let never = designs_with(
         more,
@@ -180,6 +169,35 @@ fn warnings() {
         said.contains("Allowed in none of the 13 states: 3 idle."),
         "{said}"
     );
+}
+
+/// A target that breaks a constraint, and one whose constraint has no value: there is no plan, and declarations are looked at.
+#[test]
+fn targets_outside_the_constraints() {
+    let broken = designs_and("constraint at = at\nconstraint not at = none\nbound 8");
+    let path = file("broken.dp", broken.as_bytes());
+    let left = run(&["declarations", &path]);
+    assert_eq!(left.status, 1, "{}", left.text());
+    for due in [
+        "It breaks a constraint: constraint 1, not at = none, does not hold. The target: todo = {a, b, c}, at = none.",
+        "the mark \"no plan\" rests on no declaration [no-plan-from-broken-target].",
+        "False: at the target, todo = {a, b, c}, at = none, it is 8.",
+        "The plan check does not confirm it",
+    ] {
+        assert!(left.text().contains(due), "{due}\n{}", left.text());
+    }
+    let said = run(&["plan", "--unconditional", &path]).text();
+    let due = "1 0 0 0 0 0 1 1 :\nThe mark \"no plan\" rests on no declaration: the target breaks constraint 1 [no-plan-from-broken-target].\n";
+    assert_eq!(said, due);
+    let troubled = designs_and("constraint 1 / count(todo - todo) = 1\nbound 1");
+    let path = file("troubled.dp", troubled.as_bytes());
+    let said = run(&["declarations", &path]).text();
+    for due in [
+        "It has no plan: constraint 0, 1 / count(todo - todo) = 1, has no value: quotient by zero. The target: ",
+        "The search and the plan check refuse the model with 12, quotient by zero.",
+    ] {
+        assert!(said.contains(due), "{due}\n{said}");
+    }
 }
 
 #[test]

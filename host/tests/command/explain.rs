@@ -92,6 +92,15 @@ fn other_verdicts() {
         "The model has no plan, of whatever length [no-plan-means-none].",
     ];
     says("no-plan", &none, "", 0, &due);
+    let broken = designs_and("constraint count(todo) <= 2\nbound 3");
+    let due = [
+        "Verdict 1, no plan. No plan is given.",
+        "The target breaks a constraint: constraint 0, count(todo) <= 2, does not hold (3 on the left, 2 on the right). The target: todo = {a, b, c}, at = none.",
+        "has no plan, of whatever length and whatever the model declares [no-plan-from-broken-target];",
+        "So the mark \"no plan\" rests on no declaration.",
+        "0 expansions in 1 round, the last at width 1.",
+    ];
+    says("broken-target", &broken, "", 0, &due);
     let due = [
         "Verdict 2, width stop. A plan of 3 steps is given, at cost 7.",
         "Every plan of the model costs at least 0 [stopped-bound-below-every-plan].",
@@ -138,6 +147,7 @@ fn theorems_are_on_the_page() {
     let runs = [
         ("cheapest", designs_and(""), ""),
         ("no-plan", designs_and("constraint not at = b"), ""),
+        ("broken", designs_and("constraint not at = none"), ""),
         ("stopped", designs_and(""), "--width=1"),
         ("contradicted", designs_and("bound 8"), ""),
     ];
@@ -157,7 +167,7 @@ fn theorems_are_on_the_page() {
             cited += 1;
         }
     }
-    assert_eq!(cited, 7);
+    assert_eq!(cited, 9);
 }
 
 /// Every stored search is explained, and the two implementations agree on all that is said.

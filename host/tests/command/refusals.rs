@@ -63,8 +63,14 @@ fn troubles_elsewhere() {
     let due = ["has 2 steps and costs 2", "Met in bound 1, 1 / (n - 2)."];
     says("child-bound", &bound, "", 1, &due);
     let target = plain("constraint 1 / n = 1\nbound 1 / n");
-    let due = ["has 0 steps and costs 0", "Met in bound 0, 1 / n."];
+    let due = [
+        "has 0 steps and costs 0. The bound then stood at 0.",
+        "Met in constraint 0, 1 / n = 1.",
+    ];
     says("target", &target, "", 1, &due);
+    let target = plain("bound 1 / n");
+    let due = ["has 0 steps and costs 0", "Met in bound 0, 1 / n."];
+    says("target-bound", &target, "", 1, &due);
     let base = plain("").replace("n = 9", "n = 3\n    when 1 / (n - 3) = 1");
     let due = [
         "has 3 steps and costs 3",

@@ -1,6 +1,10 @@
 -- `plan_check::check` is the plan check's definition, test by test.
 use mathlib.Core.Path.{_≡_, refl, sym, _∙_}
 use native.Mathlib.Omega.{arith}
+use Prim.Native.Nat.{_≤_}
+use lib.ListN.{length}
+use borrow.Author.Tests.{leb-true, leb-false}
+use Rattle.model.specs.Numbers.{mostModelBytes}
 use Rattle.model.specs.Commands.{model}
 use Rattle.outline.specs.Outline.{refusalOf}
 use Rattle.plan_check.proofs.Tests.{check-long-model, check-long-plan, check-refused, check-read, told-trouble, told-same}
@@ -8,43 +12,56 @@ use borrow.Author.Needs.{needs}
 use Rattle.plan_check.proofs.check.Statement.{statement}
 use Rattle.plan_check.proofs.check.Tie as tie
 
-returns : tie.Need-returns
-returns c = told-trouble _ (check-long-model _ _ (c .if1 .taken)) refl refl
+abbrev start : tie.After-length-fits → tie.Start
+start c = c .before .before .before
 
-returns-2 : tie.Need-returns-2
-returns-2 c = told-trouble _ (check-long-plan _ _ (c .before .if1 .left) (c .if2 .taken)) refl refl
+-- the model is short enough
+short : (c : tie.Then1) → length (start (c .before) .args .model .now) ≤ mostModelBytes
+short c = leb-true (length (start (c .before) .args .model .now)) mostModelBytes (sym (c .before .length-fits .ensures) ∙ c .if1 .taken)
+
+returns : tie.Need-returns
+returns c = told-trouble _ (check-long-plan _ _ (short (c .before)) (c .if2 .taken)) refl refl
+
+read-model-requires : tie.Need-read-model-requires
+read-model-requires c κs = let first : tie.Then1 = search in (short first, search needs)
 
 follow-requires : tie.Need-follow-requires
 follow-requires c κs =
-    let read-model = c .before .before .before .read-model in
-    (record { outlines = read-model .ensures .1 .0 (c .before .if3 .taken); long = omega (arith, read-model .ensures .1 .1) }, c .before .before .before .before .before .if2 .left)
+    let read : tie.After-read-model = search in
+    let good : tie.Then3 = search in
+    let few : tie.Else2 = search in
+    (record { outlines = read .read-model .ensures .1 .0 (good .if3 .taken); long = omega (arith, read .read-model .ensures .1 .1) }, few .if2 .left)
+
+returns-2 : tie.Need-returns-2
+returns-2 c =
+    let read : tie.After-read-model = search in
+    let good : tie.Then3 = search in
+    let few : tie.Else2 = search in
+    let none : 0 ≡ refusalOf (model (start (few .before .before) .args .model .now)) = sym (good .if3 .taken) ∙ read .read-model .ensures .0 in
+    told-same _ (check-read _ _ (short (few .before)) (few .if2 .left) none) (c .follow .ensures)
 
 returns-3 : tie.Need-returns-3
 returns-3 c =
-    let none : 0 ≡ refusalOf (model (c .before .before .before .before .before .before .before .before .before .before .args .model .now)) = sym (c .before .before .if3 .taken) ∙ c .before .before .before .before .read-model .ensures .0 in
-    told-same _ (
-    check-read _ _ (c .before .before .before .before .before .before .before .if1 .left)
-    (c .before .before .before .before .before .before .if2 .left) none
-    ) (c .follow .ensures)
+    let read : tie.After-read-model = search in
+    let bad : tie.Else3 = search in
+    let few : tie.Else2 = search in
+    told-trouble _ (check-refused _ _ _ (short (few .before)) (few .if2 .left) (read .read-model .ensures .0) (omega (arith, bad .if3 .left))) refl refl
 
 returns-4 : tie.Need-returns-4
 returns-4 c =
-    told-trouble _
-    (
-    check-refused _ _ _ (c .before .before .before .before .before .if1 .left) (c .before .before .before .before .if2 .left)
-    (c .before .before .read-model .ensures .0) (omega (arith, c .if3 .left))
-    )
-    refl refl
+    let a = start (c .before) .args in
+    told-trouble _ (check-long-model _ _ (leb-false (length (a .model .now)) mostModelBytes (sym (c .before .length-fits .ensures) ∙ c .if1 .left))) refl refl
 
 pub check-spec : {M : Type 1} → statement M
 check-spec =
     tie.close
     (tie.spec
-    returns
-    returns-2
-    (λ c. search needs)
     (λ c κs. search needs)
+    returns
+    (λ c. search needs)
+    read-model-requires
     (λ c. search needs)
     follow-requires
+    returns-2
     returns-3
     returns-4)

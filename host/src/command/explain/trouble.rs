@@ -23,15 +23,10 @@ enum Place {
 /// A place and the refusal number of its trouble.
 type Trouble = (Place, u8);
 
-/// The search evaluates a state in this order: constraints (not of the target), bounds, base cases, transitions.
-fn first_trouble(model: &Model, state: &State, target: bool) -> Option<Trouble> {
-    let in_constraints = || {
-        let constraints = &model.constraints;
-        in_conditions(model, constraints, state, Place::Constraint)
-    };
-    let before = if target { None } else { in_constraints() };
+/// The search evaluates a state in this order: constraints, bounds, base cases, transitions.
+fn first_trouble(model: &Model, state: &State) -> Option<Trouble> {
     let transitions = model.transitions.iter().enumerate();
-    before
+    in_conditions(model, &model.constraints, state, Place::Constraint)
         .or_else(|| in_bounds(model, state))
         .or_else(|| in_base_cases(model, state))
         .or_else(|| {
@@ -159,7 +154,7 @@ pub fn part(known: &Known, run: &Run) -> Part {
     };
     let state = last_state(model, &stages);
     part.say(format!("The state: {}.", known.state(&state)));
-    match first_trouble(model, &state, run.steps.is_empty()) {
+    match first_trouble(model, &state) {
         Some((place, number)) if number == answer.verdict => {
             part.say(format!("Met in {}.", known.place(place)));
             if let (Place::Cost(step), NEGATIVE_COST) = (place, number) {

@@ -4,6 +4,7 @@ use crate::command::input::Source;
 use crate::command::known::Known;
 use crate::command::part::Part;
 use crate::command::settings::{Run, Settings};
+use crate::command::target;
 use crate::command::words::{counted, grouped};
 use crate::numbers::{limit, verdict};
 use crate::proved;
@@ -14,6 +15,10 @@ const CHEAPEST: &str = "cheapest-costs-no-more";
 const NO_PLAN: &str = "no-plan-means-none";
 const STOPPED: &str = "stopped-bound-below-every-plan";
 const CONTRADICTED: &str = "contradicted-only-if-false";
+
+/// What is said below sentences that cite theorems.
+const THEOREMS: &str =
+    "The theorems in brackets are those of docs/AUDIT.md, which says what they rest on.";
 
 /// The sentence with a capital letter at its front.
 fn capital(sentence: &str) -> String {
@@ -30,6 +35,11 @@ pub fn proved(known: &Known, run: &Run) -> Part {
         part.say(format!(
             "The plan is a plan of the model, at cost {cost}, whatever the model declares [{A_PLAN}]."
         ));
+    }
+    if target::decides(known, run) {
+        target::say_no_plan(known, &mut part);
+        part.say(THEOREMS);
+        return part;
     }
     let bound = grouped(answer.bound);
     let conditional = match answer.verdict {
@@ -55,7 +65,7 @@ pub fn proved(known: &Known, run: &Run) -> Part {
             "The model declares no bounds and no preferences, so that nothing here is conditional.",
         );
     }
-    part.say("The theorems in brackets are those of docs/AUDIT.md, which says what they rest on.");
+    part.say(THEOREMS);
     part
 }
 

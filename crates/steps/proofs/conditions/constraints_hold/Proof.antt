@@ -1,11 +1,10 @@
 -- `steps::conditions::constraints_hold` meets its contract. The invariant: the constraints passed hold.
 use Prim.Native.Nat.{_-_, _<_}
-use mathlib.Core.Path.{refl}
 use native.Mathlib.Omega.{arith}
 use borrow.Author.Needs.{needs}
 use lib.ListN.{length}
 use Rattle.outline.specs.Outline.{modelOf}
-use Rattle.steps.proofs.Trials.{Meeting, ConstraintAt, constraint-at, meeting-more, meeting-fails, meeting-troubles, meeting-last}
+use Rattle.steps.proofs.Trials.{Meeting, ConstraintAt, constraint-at, meeting-first, meeting-more, meeting-fails, meeting-troubles, meeting-last}
 use Rattle.steps.proofs.conditions.constraints_hold.Statement.{statement}
 use Rattle.steps.proofs.conditions.constraints_hold.Tie as tie
 
@@ -58,7 +57,7 @@ constraints-hold-spec =
     Inv-loop
     μ-loop
     (λ c κs. search needs)
-    (λ c. refl)
+    (λ c. meeting-first _ _)
     add-word-at
     (λ c κs. search needs)
     condition-at-requires

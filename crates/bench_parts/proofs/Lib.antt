@@ -1,0 +1,2 @@
+-- Laws of the children offered to one layer.
+pub mod Offering
