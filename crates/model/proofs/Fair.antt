@@ -1,6 +1,6 @@
--- Fair readers: they use no more bytes than there are, and refuse by the numbers 4 to 9 only.
--- The predicate, what follows from it, and the combinators that keep it.
-use Prim.Native.Nat.{ℕ, zero, suc, _+_, _≤_}
+-- Fair readers: they use no more bytes than there are, and refuse by the numbers 4 to 9 only. Full readers: fair, and they use all bytes.
+-- Both by one predicate, what follows from it, and the combinators that keep it.
+use Prim.Native.Nat.{ℕ, zero, suc, _+_, _-_, _≤_}
 use mathlib.Core.Path.{_≡_, subst}
 use mathlib.Core.Bool.{Bool, true, false, cond}
 use mathlib.Core.List.{List, [], _∷_}
@@ -15,26 +15,16 @@ abbrev pub ReadingRefusal : ℕ → Type 0
 ReadingRefusal t = (4 ≤ t) × (t ≤ 9)
 
 module _ {A : Type 0} where
-  pub data FairRead (bytes : List ℕ) : Read A → Type 0 where
-    fair-read : {a : A} {n : ℕ} → n ≤ length bytes → FairRead bytes (read a n)
-    fair-refusal : {t : ℕ} → ReadingRefusal t → FairRead bytes (refused t)
+  -- bytes used that stand in the relation to those there are, or a refusal
+  pub data ReadBy (rel : ℕ → ℕ → Type 0) (bytes : List ℕ) : Read A → Type 0 where
+    reads : {a : A} {n : ℕ} → rel n (length bytes) → ReadBy rel bytes (read a n)
+    refuses : {t : ℕ} → ReadingRefusal t → ReadBy rel bytes (refused t)
 
   abbrev pub Fair : Reader A → Type 0
-  Fair r = (bytes : List ℕ) → FairRead bytes (r bytes)
+  Fair r = (bytes : List ℕ) → ReadBy _≤_ bytes (r bytes)
 
-  of-read : {bytes : List ℕ} {a : A} {n : ℕ} → FairRead bytes (read a n) → n ≤ length bytes
-  of-read (fair-read h) = h
-
-  of-refusal : {bytes : List ℕ} {t : ℕ} → FairRead bytes (refused t) → ReadingRefusal t
-  of-refusal (fair-refusal h) = h
-
-  pub fair-number : {bytes : List ℕ} {x : Read A} {t : ℕ} → FairRead bytes x → x ≡ refused t → ReadingRefusal t
-  fair-number {bytes} f e = of-refusal (subst (FairRead bytes) e f)
-
-  after-fair : {bytes : List ℕ} (n : ℕ) {x : Read A} → n ≤ length bytes → FairRead (drop n bytes) x → FairRead bytes (after n x)
-  unfolding after
-  after-fair {bytes} n h (fair-read {n = k} i) = fair-read {n = n + k} (omega (arith, i, length-drop n bytes))
-  after-fair n h (fair-refusal k) = fair-refusal k
+  abbrev pub Full : Reader A → Type 0
+  Full r = (bytes : List ℕ) → ReadBy _≡_ bytes (r bytes)
 
   pub cond-fair : (b : Bool) {r s : Reader A} → Fair r → Fair s → Fair (cond b r s)
   cond-fair true f g = f
@@ -42,43 +32,71 @@ module _ {A : Type 0} where
 
   pub give-fair : (a : A) → Fair (give a)
   unfolding give
-  give-fair a bytes = fair-read {n = 0} (omega arith)
+  give-fair a bytes = reads {n = 0} (omega arith)
 
   pub refuse-fair : (t : ℕ) → ReadingRefusal t → Fair (refuse {A = A} t)
   unfolding refuse
-  refuse-fair t h bytes = fair-refusal h
+  refuse-fair t h bytes = refuses h
 
-module _ {A B : Type 0} where
-  continue-fair : {bytes : List ℕ} {x : Read A} {next : A → Reader B} → FairRead bytes x → ((a : A) → Fair (next a)) → FairRead bytes (continue x next bytes)
-  unfolding continue
-  continue-fair {bytes} (fair-read {a} {n} h) f = after-fair n h (f a (drop n bytes))
-  continue-fair (fair-refusal h) f = fair-refusal h
+-- the relation holds again where n bytes were used before
+abbrev Shifts : (rel : ℕ → ℕ → Type 0) → Type 0
+Shifts rel = (n k l : ℕ) → n ≤ l → rel k (l - n) → rel (n + k) l
 
-  pub then-fair : {r : Reader A} {next : A → Reader B} → Fair r → ((a : A) → Fair (next a)) → Fair (r >>= next)
+module _ {rel : ℕ → ℕ → Type 0} where
+  pub used-by : {A : Type 0} {bytes : List ℕ} {a : A} {n : ℕ} → ReadBy rel bytes (read a n) → rel n (length bytes)
+  used-by (reads h) = h
+
+  pub refused-by : {A : Type 0} {bytes : List ℕ} {t : ℕ} → ReadBy {A = A} rel bytes (refused t) → ReadingRefusal t
+  refused-by (refuses h) = h
+
+  module _ (shifts : Shifts rel) where
+    after-by : {A : Type 0} {bytes : List ℕ} (n : ℕ) {x : Read A} → n ≤ length bytes → ReadBy rel (drop n bytes) x → ReadBy rel bytes (after n x)
+    unfolding after
+    after-by {bytes = bytes} n h (reads {n = k} i) = reads {n = n + k} (shifts n k (length bytes) h (subst (rel k) (length-drop n bytes) i))
+    after-by n h (refuses i) = refuses i
+
+    module _ {A B : Type 0} where
+      continue-by : {bytes : List ℕ} {x : Read A} {next : A → Reader B} → ReadBy _≤_ bytes x → ((a : A) (rest : List ℕ) → ReadBy rel rest (next a rest)) → ReadBy rel bytes (continue x next bytes)
+      unfolding continue
+      continue-by {bytes} (reads {a} {n} h) f = after-by n h (f a (drop n bytes))
+      continue-by (refuses h) f = refuses h
+
+-- a fair reader, then one that is fair, or one that uses all that is left
+module _ {A B : Type 0} {r : Reader A} {next : A → Reader B} where
+  pub then-fair : Fair r → ((a : A) → Fair (next a)) → Fair (r >>= next)
   unfolding _>>=_
-  then-fair f g bytes = continue-fair (f bytes) g
+  then-fair f g bytes = continue-by (λ n k l h i. omega arith) (f bytes) g
 
-  pub next-fair : {r : Reader A} {next : Reader B} → Fair r → Fair next → Fair (r >> next)
-  unfolding _>>_
-  next-fair f g bytes = continue-fair (f bytes) (λ _. g)
+  pub then-full : Fair r → ((a : A) → Full (next a)) → Full (r >>= next)
+  unfolding _>>=_
+  then-full f g bytes = continue-by (λ n k l h i. omega arith) (f bytes) g
+
+module _ {A B : Type 0} {r : Reader A} {next : Reader B} where
+  pub next-fair : Fair r → Fair next → Fair (r >> next)
+  unfolding _>>=_ _>>_
+  next-fair f g = then-fair f (λ _. g)
+
+  pub next-full : Fair r → Full next → Full (r >> next)
+  unfolding _>>=_ _>>_
+  next-full f g = then-full f (λ _. g)
 
 pub require-fair : (b : Bool) (t : ℕ) → ReadingRefusal t → Fair (require b t)
 unfolding require
-require-fair true t h bytes = fair-read {n = 0} (omega arith)
-require-fair false t h bytes = fair-refusal h
+require-fair true t h bytes = reads {n = 0} (omega arith)
+require-fair false t h bytes = refuses h
 
 pub require-give-fair : {A : Type 0} (b : Bool) (t : ℕ) (a : A) → ReadingRefusal t → Fair (require b t >> give a)
 require-give-fair b t a h = next-fair (require-fair b t h) (give-fair a)
 
 pub peek-fair : Fair peek
 unfolding peek
-peek-fair [] = fair-refusal {t = endsEarly} (omega arith)
-peek-fair (b ∷ bytes) = fair-read {n = 0} (omega arith)
+peek-fair [] = refuses {t = endsEarly} (omega arith)
+peek-fair (b ∷ bytes) = reads {n = 0} (omega arith)
 
 pub byte-fair : Fair byte
 unfolding byte
-byte-fair [] = fair-refusal {t = endsEarly} (omega arith)
-byte-fair (b ∷ bytes) = fair-read {n = 1} (omega arith)
+byte-fair [] = refuses {t = endsEarly} (omega arith)
+byte-fair (b ∷ bytes) = reads {n = 1} (omega arith)
 
 pub word-fair : (k : ℕ) → Fair (word k)
 unfolding word
@@ -117,43 +135,3 @@ module _ {A B : Type 0} (due : ℕ → Bool) {head : ℕ → List B → Reader A
 pub up-to-fair : {A : Type 0} (n c : ℕ) {r : Reader A} → Fair r → Fair (upTo n c r)
 unfolding upTo
 up-to-fair n c f = many-fair (λ b. eqb b c) (λ b done. give-fair tt) (λ _. f) n []
-
--- ---- fair readers that use all bytes
-
-module _ {A : Type 0} where
-  pub data FullRead (bytes : List ℕ) : Read A → Type 0 where
-    full-read : {a : A} {n : ℕ} → n ≡ length bytes → FullRead bytes (read a n)
-    full-refusal : {t : ℕ} → ReadingRefusal t → FullRead bytes (refused t)
-
-  abbrev pub Full : Reader A → Type 0
-  Full r = (bytes : List ℕ) → FullRead bytes (r bytes)
-
-  of-full-read : {bytes : List ℕ} {a : A} {n : ℕ} → FullRead bytes (read a n) → n ≡ length bytes
-  of-full-read (full-read h) = h
-
-  pub full-all : {bytes : List ℕ} {x : Read A} {a : A} {n : ℕ} → FullRead bytes x → x ≡ read a n → n ≡ length bytes
-  full-all {bytes} f e = of-full-read (subst (FullRead bytes) e f)
-
-  pub full-is-fair : {bytes : List ℕ} {x : Read A} → FullRead bytes x → FairRead bytes x
-  full-is-fair (full-read {n} h) = fair-read {n = n} (omega arith)
-  full-is-fair (full-refusal h) = fair-refusal h
-
-  after-full : {bytes : List ℕ} (n : ℕ) {x : Read A} → n ≤ length bytes → FullRead (drop n bytes) x → FullRead bytes (after n x)
-  unfolding after
-  after-full {bytes} n h (full-read {n = k} i) = full-read {n = n + k} (omega (arith, i, length-drop n bytes))
-  after-full n h (full-refusal i) = full-refusal i
-
-module _ {A B : Type 0} where
-  continue-full : {bytes : List ℕ} {x : Read A} {next : A → Reader B} → FairRead bytes x → ((a : A) → Full (next a)) → FullRead bytes (continue x next bytes)
-  unfolding continue
-  continue-full {bytes} (fair-read {a} {n} h) f = after-full n h (f a (drop n bytes))
-  continue-full (fair-refusal h) f = full-refusal h
-
-  -- a fair reader, then one that uses all that is left
-  pub then-full : {r : Reader A} {next : A → Reader B} → Fair r → ((a : A) → Full (next a)) → Full (r >>= next)
-  unfolding _>>=_
-  then-full f g bytes = continue-full (f bytes) g
-
-  pub next-full : {r : Reader A} {next : Reader B} → Fair r → Full next → Full (r >> next)
-  unfolding _>>_
-  next-full f g bytes = continue-full (f bytes) (λ _. g)

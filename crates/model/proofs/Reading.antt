@@ -1,7 +1,7 @@
 -- Every reader of the format is fair: expressions, commands, the whole model.
 -- So a refused model is refused by 4 to 9, and a model that is read uses all of its bytes.
 use Prim.Native.Nat.{ℕ, zero, suc, _*_, _≤_}
-use mathlib.Core.Path.{_≡_, refl}
+use mathlib.Core.Path.{_≡_, refl, subst}
 use mathlib.Core.Bool.{Bool, true, false, cond}
 use mathlib.Core.List.{List, [], _∷_}
 use mathlib.Core.Option.{Option}
@@ -14,7 +14,7 @@ use Rattle.model.specs.Readers.{read, refused, Reader, after, continue, 
 use Rattle.model.specs.Syntax.{Element, Set, Kind, aSet, anElement, aNumber, Variable, Table, Effect, Model}
 use Rattle.model.specs.Expressions.{Form, _⇒_, beginsExpression, formOf, noDepth, objectsAndMembers, objectNumber, declared, elementAndSet, twoSets, variable, tableNumber, inTable, element, set, number, condition}
 use Rattle.model.specs.Commands.{costRule, setVariable, elementVariable, numberVariable, variableOf, variables, entries, sides, tableOf, tables, conditions, effectTarget, expressionFor, effectOn, transition, nothingMore, model}
-use Rattle.model.proofs.Fair.{ReadingRefusal, Fair, fair-number, cond-fair, give-fair, refuse-fair, then-fair, next-fair, require-fair, require-give-fair, byte-fair, word-fair, one-fair, two-fair, three-fair, integer-fair, command-fair, many-fair, up-to-fair, Full, full-read, full-refusal, full-all, full-is-fair, then-full, next-full}
+use Rattle.model.proofs.Fair.{ReadingRefusal, ReadBy, reads, refuses, Fair, Full, cond-fair, give-fair, refuse-fair, then-fair, next-fair, require-fair, require-give-fair, byte-fair, word-fair, one-fair, two-fair, three-fair, integer-fair, command-fair, many-fair, up-to-fair, then-full, next-full, used-by, refused-by}
 
 -- ---- expressions
 
@@ -182,8 +182,8 @@ module _ (vs : List Variable) (ts : List Table) where
 
 nothing-more-full : {A : Type 0} (a : A) → Full (nothingMore >> give a)
 unfolding _>>_ continue after nothingMore give
-nothing-more-full a [] = full-read {n = 0} refl
-nothing-more-full a (b ∷ bytes) = full-refusal {t = bytesAfterEnd} (omega arith)
+nothing-more-full a [] = reads {n = 0} refl
+nothing-more-full a (b ∷ bytes) = refuses {t = bytesAfterEnd} (omega arith)
 
 pub model-full : Full model
 unfolding model
@@ -192,12 +192,9 @@ model-full = then-full cost-rule-fair (λ r. then-full variables-fair (λ vs. th
     then-full (up-to-fair mostConstraints 0x0c (condition-fair vs ts mostNesting)) (λ constraints. then-full (up-to-fair mostBounds 0x0d (number-fair vs ts mostNesting)) (λ bounds.
     next-full (command-fair 0x0e) (nothing-more-full _))))))))
 
-pub model-fair : Fair model
-model-fair bytes = full-is-fair (model-full bytes)
-
 pub model-refusal : (bytes : List ℕ) {t : ℕ} → model bytes ≡ refused t → (4 ≤ t) × (t ≤ 9)
-model-refusal bytes e = fair-number (model-fair bytes) e
+model-refusal bytes e = refused-by (subst (ReadBy _≡_ bytes) e (model-full bytes))
 
 -- a model that is read uses all of its bytes
 pub model-uses-all : (bytes : List ℕ) {m : Model} {n : ℕ} → model bytes ≡ read m n → n ≡ length bytes
-model-uses-all bytes e = full-all (model-full bytes) e
+model-uses-all bytes e = used-by (subst (ReadBy _≡_ bytes) e (model-full bytes))

@@ -17,8 +17,8 @@ use Rattle.model.specs.Meaning.{State, numberValue, conditionValue}
 use Rattle.model.specs.Steps.{target, systemOf, costsOf}
 use Rattle.model.specs.Check.{final, afterMove, afterStatus, follow, afterConstraints, followFrom, checkModel, check}
 use Rattle.model.proofs.Outcomes.{Outcome, a-value, a-trouble, StateTrouble, Anything, outcome-trouble, trouble-outcome, number-outcome, condition-outcome, StatusOutcome, is-base, is-unfinished, no-status, status-outcome, admits-outcome, MoveOutcome, no-move, a-move, trouble-before, trouble-after, move-outcome, bound-outcome}
-use Rattle.model.proofs.Fair.{FairRead, fair-read, fair-refusal}
-use Rattle.model.proofs.Reading.{model-fair}
+use Rattle.model.proofs.Fair.{ReadBy, reads, refuses}
+use Rattle.model.proofs.Reading.{model-full}
 
 -- ---- evaluation
 
@@ -120,15 +120,15 @@ pub data CheckRefusal (t : ℕ) : Type 0 where
   by-reading : (4 ≤ t) × (t ≤ 9) → CheckRefusal t
   by-following : (11 ≤ t) × (t ≤ 14) → CheckRefusal t
 
-check-model-outcome : {bytes : List ℕ} {x : Read Model} (plan : List ℕ) → FairRead bytes x → Outcome Anything CheckRefusal (checkModel x plan)
+check-model-outcome : {bytes : List ℕ} {x : Read Model} (plan : List ℕ) → ReadBy _≡_ bytes x → Outcome Anything CheckRefusal (checkModel x plan)
 unfolding checkModel
-check-model-outcome plan (fair-read {a} h) = trouble-outcome (λ t q. by-following q) (follow-from-outcome rangeEnd (costsOf (a .rule)) a plan (target a) 0)
-check-model-outcome plan (fair-refusal h) = a-trouble (by-reading h)
+check-model-outcome plan (reads {a} h) = trouble-outcome (λ t q. by-following q) (follow-from-outcome rangeEnd (costsOf (a .rule)) a plan (target a) 0)
+check-model-outcome plan (refuses h) = a-trouble (by-reading h)
 
 check-outcome : (bytes plan : List ℕ) → Outcome Anything CheckRefusal (check bytes plan)
 unfolding check
 check-outcome bytes plan = by-cond (Outcome Anything CheckRefusal) (ltb mostModelBytes (length bytes)) (λ e. a-trouble (model-too-long refl))
-    (λ e. by-cond (Outcome Anything CheckRefusal) (ltb mostSteps (length plan)) (λ e. a-trouble (plan-too-long refl)) (λ e. check-model-outcome plan (model-fair bytes)))
+    (λ e. by-cond (Outcome Anything CheckRefusal) (ltb mostSteps (length plan)) (λ e. a-trouble (plan-too-long refl)) (λ e. check-model-outcome plan (model-full bytes)))
 
 pub check-numbers : (bytes plan : List ℕ) {t : ℕ} → check bytes plan ≡ trouble t → CheckRefusal t
 check-numbers bytes plan e = outcome-trouble (check-outcome bytes plan) e

@@ -5,7 +5,7 @@ use lib.ListN.{length}
 use Rattle.model.specs.Readers.{Read, read, refused, Reader}
 use Rattle.model.specs.Syntax.{Variable, Table}
 use Rattle.model.specs.Expressions.{element, set, number, condition}
-use Rattle.model.proofs.Fair.{FairRead, fair-read, fair-refusal}
+use Rattle.model.proofs.Fair.{ReadBy, reads, refuses}
 use Rattle.model.proofs.Reading.{element-fair, set-fair, number-fair, condition-fair}
 
 -- at most L bytes, where something was read
@@ -16,9 +16,9 @@ Short L (refused t) = Unit {0}
 abbrev pub Bounded : {A : Type 0} → Reader A → Type 0
 Bounded r = (e : List ℕ) → Short (length e) (r e)
 
-fair-short : {A : Type 0} {e : List ℕ} {x : Read A} → FairRead e x → Short (length e) x
-fair-short (fair-read h) = h
-fair-short (fair-refusal h) = tt
+fair-short : {A : Type 0} {e : List ℕ} {x : Read A} → ReadBy _≤_ e x → Short (length e) x
+fair-short (reads h) = h
+fair-short (refuses h) = tt
 
 module _ (vs : List Variable) (ts : List Table) where
   pub bounded-element : (d : ℕ) → Bounded (element vs ts d)

@@ -1,6 +1,6 @@
 -- The mission's three demands, sentence by sentence, of every run from bytes and settings; then document 02's sentences.
 -- Each sentence is a theorem with its own name; docs/AUDIT.md walks through them.
-use Prim.Native.Nat.{ℕ, _≤_}
+use Prim.Native.Nat.{ℕ, _≤_, _<_}
 use mathlib.Core.Path.{_≡_, refl, sym, _∙_, ap, subst}
 use mathlib.Core.Logic.{_↔_}
 use mathlib.Core.Bool.{Bool, true, false, not, false≢true}
@@ -29,11 +29,12 @@ use Rattle.model.proofs.PlanCheck.{check-exact, broken-has-no-plan, check-of-br
 use Rattle.search.specs.Answer.{Verdict, cheapest, noPlan, widthStop, lengthStop, contradicted, Outcome, verdict, byState, byInput, Answer, bufferAfter, handedBack}
 use Rattle.search.specs.Guarantee.{Stopped, widest, Guarantee}
 use Rattle.search.specs.Demands.{Ends, with-verdict, by-state, by-input, PlanOf, DeclarationsTrue, LayersFit, Marked, Demands}
+use Rattle.search.specs.Search.{searchWithin}
 use Rattle.search.specs.Run.{Settings, Lent, widerWidths, widerUpTo, settingsFit, lentFits, refusedByInput, searchModel, runRead, run}
 use Rattle.search.proofs.Targets.{broken-start, troubled-start}
 use Rattle.search.proofs.Sound.{search-guarantee, steps-within, no-stop-where-fits}
 use Rattle.search.proofs.Refusals.{run-refusal-path}
-use Rattle.search.proofs.Budget.{run-budget-spent-means-used}
+use Rattle.search.proofs.Budget.{any-bound-of-run, run-budget-spent-means-used}
 use Rattle.search.proofs.Counts.{Troubles, expansions-within-budget, refusals-from-system, never-by-input}
 
 -- ---- demand 1
@@ -116,6 +117,12 @@ source-within-budget {q = q} (searched m n r) = expansions-within-budget (costsO
 
 pub expansions-never-pass-budget : (most : ℕ) (bytes : List ℕ) (q : Settings) (l : Lent) → run most bytes q l .tally .expansions ≤ q .budget
 expansions-never-pass-budget most bytes q l = source-within-budget (run-source most bytes q l)
+
+-- "The search follows document 01's rules step for step": these set no bound on the rounds. The definition's own is never met, since every one
+-- above the budget gives the same run
+pub rounds-end-by-rules : (most : ℕ) (bytes : List ℕ) (q : Settings) (l : Lent) (m : Model) (n : ℕ) → model bytes ≡ read m n → length bytes ≤ most → settingsFit q ≡ true → lentFits q l ≡ true
+    → (most-rounds : ℕ) → q .budget < most-rounds → run most bytes q l ≡ searchWithin (costsOf (m .rule)) (systemOf rangeEnd m) most-rounds (q .budget) (q .limit) 1 (widerUpTo (q .widest)) (originOf m)
+rounds-end-by-rules most bytes q l m n reads few fit enough = any-bound-of-run most bytes q l m n reads few fit enough
 
 plan-lent : (q : Settings) (l : Lent) → lentFits q l ≡ true → q .limit ≤ l .planBytes
 unfolding lentFits

@@ -16,13 +16,7 @@ use Rattle.laws.proofs.Bools.{and-both}
 use Rattle.laws.proofs.Lists.{some-all, any-some}
 use Rattle.model.specs.Numbers.{mostSteps}
 use Rattle.model.specs.Values.{Value, value, trouble}
-use Rattle.model.specs.Readers.{Read, read, refused}
-use Rattle.model.specs.Syntax.{Model}
-use Rattle.model.specs.Commands.{model}
-use Rattle.model.specs.Steps.{costsOf, originOf}
-use Rattle.model.proofs.Costs.{cost-laws}
-use Rattle.model.proofs.Reading.{model-refusal}
-use Rattle.outline.specs.Outline.{modelOf, readModel, refusalOf}
+use Rattle.model.specs.Meaning.{State}
 use Rattle.search.specs.Answer as A
 use Rattle.search.specs.Answer.{noPlan, verdict, byState, byInput, bufferAfter}
 use Rattle.search.specs.Search as S
@@ -32,7 +26,7 @@ use Rattle.search.specs.Run.{widerWidths, isWidth, widerUpTo, settingsFit, word
 use Rattle.search.proofs.Targets.{broken-start, troubled-start, unbounded-start}
 use Rattle.search.proofs.Counts.{never-by-input}
 use Rattle.search.proofs.Mission.{run-meets-demands, steps-fit-buffer, refusal-changes-no-buffer}
-use Rattle.steps.specs.InBytes.{systemIn, stateIn, targetIn}
+use Rattle.steps.specs.InBytes.{refusalIn, systemIn, stateIn, targetIn, originIn}
 use Rattle.steps.specs.Follow.{costsIn}
 use Rattle.steps.specs.Answers.{heldAnswer, boundAnswer}
 use Rattle.steps.specs.declared.answers.HeldAnswer.{HeldAnswer}
@@ -46,6 +40,7 @@ use Rattle.solver.specs.declared.entry.Entered.{Entered}
 use Rattle.solver.specs.declared.entry.Entered.the-variants as E
 use Rattle.search_report.specs.declared.answers.Answer.{Answer}
 use Rattle.search_runs.specs.declared.Stop.{Stop}
+use Rattle.steps.proofs.Promises.{refused-in, read-in, cost-laws, cost-empty, origin-start, origin-spent}
 use Rattle.steps.proofs.Trials.{all-held, one-fails, one-troubles}
 use Rattle.search_report.proofs.Reporting.{answer-same}
 use Rattle.search_report.proofs.Numbers.{in-numbers, read-back}
@@ -195,33 +190,35 @@ module _ (bytes target : List ℕ) (at-target : stateIn bytes target ≡ targetI
 
 module _ (bytes : List ℕ) (widest limit budget : ℕ) where
   abbrev searched : A.Answer ℕ
-  searched = search (costsIn bytes) (systemIn bytes) budget limit 1 (widerUpTo widest) (originOf (modelOf bytes))
+  searched = search (costsIn bytes) (systemIn bytes) budget limit 1 (widerUpTo widest) (originIn bytes)
 
   nothing-spent : (h : ℕ) → costsIn bytes .combine 0 h ≡ h
-  unfolding costsOf
-  nothing-spent h = cost-laws (modelOf bytes .rule) .left-unit h
+  nothing-spent h = ap (λ (c : ℕ). costsIn bytes .combine c h) (sym (cost-empty bytes)) ∙ cost-laws bytes .left-unit h
 
   with-bound : (a : Value Bool) (b : Value ℕ) (h : ℕ) → admitted bytes ≡ a → bounded bytes ≡ b → enteredOf a b ≡ E.Bounded h
-      → searched ≡ S.rounds (costsIn bytes) (systemIn bytes) (suc budget) budget limit 1 (widerUpTo widest) 1 (root (costsIn bytes) (systemIn bytes) (originOf (modelOf bytes)) h) (record { best = none; low = h; expansions = 0 })
-  unfolding enteredOf search searchWithin enter begin originOf
-  with-bound (value true) (value x) h p q e = let same : x ≡ h = cc in rw (p, q, same, nothing-spent h)
+      → searched ≡ S.rounds (costsIn bytes) (systemIn bytes) (suc budget) budget limit 1 (widerUpTo widest) 1 (root (costsIn bytes) (systemIn bytes) (originIn bytes) h) (record { best = none; low = h; expansions = 0 })
+  unfolding enteredOf search searchWithin enter begin
+  with-bound (value true) (value x) h p q e = let same : x ≡ h = cc in rw (origin-start bytes, origin-spent bytes, p, q, same, nothing-spent h)
   with-bound (value true) (trouble t) h p q e = let z : _≡_ {A = ℕ} 0 1 = cc in absurd (omega arith)
   with-bound (value false) b h p q e = let z : _≡_ {A = ℕ} 0 1 = cc in absurd (omega arith)
   with-bound (trouble t) b h p q e = let z : _≡_ {A = ℕ} 0 1 = cc in absurd (omega arith)
 
+  at-origin : {X : Type 0} (f : State → X) {x : X} → f (targetIn bytes) ≡ x → f (originIn bytes .start) ≡ x
+  at-origin f e = ap f (origin-start bytes) ∙ e
+
   broken : (a : Value Bool) (b : Value ℕ) → admitted bytes ≡ a → enteredOf a b ≡ E.Broken → searched ≡ endedAtTarget (verdict noPlan)
-  unfolding enteredOf originOf costsOf
+  unfolding enteredOf
   broken (value true) (value x) p e = let z : _≡_ {A = ℕ} 0 1 = cc in absurd (omega arith)
   broken (value true) (trouble t) p e = let z : _≡_ {A = ℕ} 0 1 = cc in absurd (omega arith)
-  broken (value false) b p e = broken-start (costsIn bytes) (systemIn bytes) (originOf (modelOf bytes)) budget limit 1 (widerUpTo widest) p
+  broken (value false) b p e = broken-start (costsIn bytes) (systemIn bytes) (originIn bytes) budget limit 1 (widerUpTo widest) (at-origin (systemIn bytes .admits) p) ∙ rw (cost-empty bytes)
   broken (trouble t) b p e = let z : _≡_ {A = ℕ} 0 1 = cc in absurd (omega arith)
 
   troubled : (a : Value Bool) (b : Value ℕ) (t : ℕ) → admitted bytes ≡ a → bounded bytes ≡ b → enteredOf a b ≡ E.Trouble t → searched ≡ endedAtTarget (byState t)
-  unfolding enteredOf originOf costsOf
+  unfolding enteredOf
   troubled (value true) (value x) t p q e = let z : _≡_ {A = ℕ} 0 1 = cc in absurd (omega arith)
-  troubled (value true) (trouble u) t p q e = let same : u ≡ t = cc in rw (sym same) (unbounded-start (costsIn bytes) (systemIn bytes) (originOf (modelOf bytes)) budget limit 1 (widerUpTo widest) p q)
+  troubled (value true) (trouble u) t p q e = let same : u ≡ t = cc in rw (sym same) (unbounded-start (costsIn bytes) (systemIn bytes) (originIn bytes) budget limit 1 (widerUpTo widest) (at-origin (systemIn bytes .admits) p) (at-origin (systemIn bytes .bound) q) ∙ rw (origin-spent bytes, cost-empty bytes))
   troubled (value false) b t p q e = let z : _≡_ {A = ℕ} 0 1 = cc in absurd (omega arith)
-  troubled (trouble u) b t p q e = let same : u ≡ t = cc in rw (sym same) (troubled-start (costsIn bytes) (systemIn bytes) (originOf (modelOf bytes)) budget limit 1 (widerUpTo widest) p)
+  troubled (trouble u) b t p q e = let same : u ≡ t = cc in rw (sym same) (troubled-start (costsIn bytes) (systemIn bytes) (originIn bytes) budget limit 1 (widerUpTo widest) (at-origin (systemIn bytes .admits) p) ∙ rw (origin-spent bytes, cost-empty bytes))
 
   module _ (plan plan′ : List ℕ) (x : Answer) (q : Entered) (entered : q ≡ enteredOf (admitted bytes) (bounded bytes)) where
     pub says-run : (h : ℕ) → q ≡ E.Bounded h
@@ -281,32 +278,25 @@ module _ (most : ℕ) (bytes plan words : List ℕ) (w l b : ℕ) where
           rw (le-ltb most (length bytes) few, f, g)
 
       module _ (enough : lentFits (settings w l 0) (lentOf (length plan) (length words)) ≡ true) where
-        run-within : runOf most bytes plan words w l b ≡ runRead (model bytes) (settings w l b)
-        unfolding run
-        run-within =
-            let f : settingsFit (settings w l b) ≡ true = fit-whatever w l b 0 ∙ fit in
-            let g : lentFits (settings w l b) (lent plan words) ≡ true = lent-whatever w l (length plan) (length words) b 0 ∙ enough in
-            rw (le-ltb most (length bytes) few, f, g)
+        fit-now : settingsFit (settings w l b) ≡ true
+        fit-now = fit-whatever w l b 0 ∙ fit
 
-        refused-model : (x : Read Model) (t : ℕ) → refusalOf x ≡ t → 0 < t → runRead x (settings w l b) ≡ refusedByInput t
-        unfolding refusalOf runRead
-        refused-model (read m n) t e h = absurd (omega arith)
-        refused-model (refused u) t e h = ap refusedByInput e
+        enough-now : lentFits (settings w l b) (lent plan words) ≡ true
+        enough-now = lent-whatever w l (length plan) (length words) b 0 ∙ enough
 
-        read-well : (x : Read Model) → model bytes ≡ x → refusalOf x ≡ 0 → runRead x (settings w l b) ≡ searched bytes w l b
-        unfolding refusalOf runRead searchModel modelOf readModel
-        read-well (read m n) e h = rw e
-        read-well (refused t) e h = absurd (omega (arith, model-refusal bytes e))
+        pub run-refused : (t : ℕ) → t ≡ refusalIn bytes → 0 < t → runOf most bytes plan words w l b ≡ refusedByInput t
+        unfolding run runRead
+        run-refused t e p = rw (le-ltb most (length bytes) few, fit-now, enough-now, refused-in bytes t e p)
 
-        pub run-refused : (t : ℕ) → t ≡ refusalOf (model bytes) → 0 < t → runOf most bytes plan words w l b ≡ refusedByInput t
-        run-refused t e p = run-within ∙ refused-model (model bytes) t (sym e) p
+        run-read : 0 ≡ refusalIn bytes → runOf most bytes plan words w l b ≡ searched bytes w l b
+        unfolding run runRead searchModel
+        run-read z =
+            rw (le-ltb most (length bytes) few, fit-now, enough-now)
+            (read-in bytes (λ x. runRead x (settings w l b)) (λ K M o. search K M b l 1 (widerUpTo w) o) (λ m n. refl) z)
 
-        run-read : 0 ≡ refusalOf (model bytes) → runOf most bytes plan words w l b ≡ searched bytes w l b
-        run-read e = run-within ∙ read-well (model bytes) refl (sym e)
-
-        pub run-says : 0 ≡ refusalOf (model bytes) → (plan′ words′ : List ℕ) (x : Answer) → SearchSays bytes plan plan′ w l b x
+        pub run-says : 0 ≡ refusalIn bytes → (plan′ words′ : List ℕ) (x : Answer) → SearchSays bytes plan plan′ w l b x
             → Searched most bytes plan plan′ words words′ w l b (numbersOf x)
         run-says e plan′ words′ x says =
             let same = run-read e in
             told plan′ words′ x (answer-same x same (says .answer)) (says .plan-after ∙ ap (λ (a : A.Answer ℕ). bufferAfter a plan) (sym same))
-            (λ t f. absurd (never-by-input (costsIn bytes) (systemIn bytes) (originOf (modelOf bytes)) b l 1 (widerUpTo w) t (ap (λ (a : A.Answer ℕ). a .outcome) (sym same) ∙ f)))
+            (λ t f. absurd (never-by-input (costsIn bytes) (systemIn bytes) (originIn bytes) b l 1 (widerUpTo w) t (ap (λ (a : A.Answer ℕ). a .outcome) (sym same) ∙ f)))

@@ -5,14 +5,12 @@ use mathlib.Core.Bool.{Bool, true, false}
 use mathlib.Core.List.{List, []}
 use lib.ListN.{length}
 use Rattle.model.specs.Values.{Value, value, trouble}
-use Rattle.model.specs.Steps.{originOf}
 use Rattle.search.specs.Answer as A
 use Rattle.search.specs.Answer.{byInput, bufferAfter}
 use Rattle.search.specs.Search.{search}
 use Rattle.search.specs.Run.{Settings, Lent, widerUpTo, run}
 use Rattle.search.specs.Demands.{Demands}
-use Rattle.outline.specs.Outline.{modelOf}
-use Rattle.steps.specs.InBytes.{systemIn}
+use Rattle.steps.specs.InBytes.{systemIn, originIn}
 use Rattle.steps.specs.Follow.{costsIn}
 use Rattle.search_report.specs.Answers.{AnswerIs, FieldsAre, answerIn}
 use Rattle.search_report.specs.declared.answers.Answer.{Answer}
@@ -33,8 +31,8 @@ endedAtTarget o = record { outcome = o; flag = false; cost = 0; bound = 0; steps
 
 -- the search of the model that stands in the bytes
 pub record SearchSays (bytes plan plan′ : List ℕ) (widest limit budget : ℕ) (x : Answer) : Type 0 where
-  pub answer : AnswerIs (search (costsIn bytes) (systemIn bytes) budget limit 1 (widerUpTo widest) (originOf (modelOf bytes))) x
-  pub plan-after : plan′ ≡ bufferAfter (search (costsIn bytes) (systemIn bytes) budget limit 1 (widerUpTo widest) (originOf (modelOf bytes))) plan
+  pub answer : AnswerIs (search (costsIn bytes) (systemIn bytes) budget limit 1 (widerUpTo widest) (originIn bytes)) x
+  pub plan-after : plan′ ≡ bufferAfter (search (costsIn bytes) (systemIn bytes) budget limit 1 (widerUpTo widest) (originIn bytes)) plan
 
 -- the settings and what is lent
 abbrev pub settings : (widest limit budget : ℕ) → Settings

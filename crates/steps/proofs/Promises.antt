@@ -1,6 +1,6 @@
--- What the search cites of this layer: laws of the system, the costs and the states of the bytes.
+-- What the search cites of this layer: laws of the reading, the system, the costs and the states of the bytes.
 use Prim.Native.Nat.{ℕ, _+_, _≤_, _<_}
-use mathlib.Core.Path.{_≡_, refl}
+use mathlib.Core.Path.{_≡_, refl, sym, ap}
 use mathlib.Core.Bool.{true}
 use mathlib.Core.List.{List}
 use native.Mathlib.Omega.{arith}
@@ -8,19 +8,43 @@ use lib.Dec.{leb}
 use lib.ListN.{getD}
 use Rattle.model.specs.Numbers.{rangeEnd, mostVariables, mostTransitions}
 use Rattle.model.specs.Values.{value}
-use Rattle.model.specs.System.{CostLaws, moved, troubleAfter}
+use Rattle.model.specs.System.{Costs, CostLaws, System, Origin, moved, troubleAfter}
+use Rattle.model.specs.Readers.{Read, read, refused}
+use Rattle.model.specs.Syntax.{Model}
+use Rattle.model.specs.Commands.{model}
 use Rattle.model.specs.Meaning.{State}
 use Rattle.model.specs.Steps.{systemOf, costsOf, originOf}
 use Rattle.model.proofs.Costs as costs
 use Rattle.model.proofs.Ranges as ranges
-use Rattle.outline.specs.Outline.{modelOf}
-use Rattle.steps.specs.InBytes.{Outlined, systemIn, stateIn, targetIn, originIn}
+use Rattle.model.proofs.Reading.{model-refusal}
+use Rattle.outline.specs.Outline.{modelOf, readModel, refusalOf}
+use Rattle.steps.specs.InBytes.{refusalIn, Outlined, systemIn, stateIn, targetIn, originIn}
 use Rattle.steps.specs.Follow.{costsIn}
 use Rattle.steps.specs.Hashes.{hashOf}
 use Rattle.steps.proofs.StateWords.{state-alike}
 use Rattle.steps.proofs.Hashing as hashing
 
+refused-as : (x : Read Model) (t : ℕ) → t ≡ refusalOf x → 0 < t → x ≡ refused t
+unfolding refusalOf
+refused-as (read m n) t e h = absurd (omega arith)
+refused-as (refused u) t e h = ap refused (sym e)
+
 module _ (bytes : List ℕ) where
+  -- ---- the reading
+
+  pub refused-in : (t : ℕ) → t ≡ refusalIn bytes → 0 < t → model bytes ≡ refused t
+  refused-in t e h = refused-as (model bytes) t e h
+
+  -- bytes that are read, to a function that goes by a model's costs, system and origin alone: it goes by those in the bytes
+  module _ {X : Type 0} (f : Read Model → X) (g : Costs ℕ → System State ℕ → Origin State ℕ → X) (made : (m : Model) (n : ℕ) → f (read m n) ≡ g (costsOf (m .rule)) (systemOf rangeEnd m) (originOf m)) where
+    read-as : (x : Read Model) → model bytes ≡ x → 0 ≡ refusalOf x → f x ≡ g (costsIn bytes) (systemIn bytes) (originIn bytes)
+    unfolding refusalOf modelOf readModel
+    read-as (read m n) e z = rw e (made m n)
+    read-as (refused t) e z = absurd (omega (arith, model-refusal bytes e))
+
+    pub read-in : 0 ≡ refusalIn bytes → f (model bytes) ≡ g (costsIn bytes) (systemIn bytes) (originIn bytes)
+    read-in z = read-as (model bytes) refl z
+
   -- ---- costs
 
   pub cost-laws : CostLaws (costsIn bytes)

@@ -5,9 +5,14 @@ use lib.ListN.{length}
 use Rattle.model.specs.Numbers.{rangeEnd, mostVariables}
 use Rattle.model.specs.System.{System, Origin}
 use Rattle.model.specs.Meaning.{State}
+use Rattle.model.specs.Commands.{model}
 use Rattle.model.specs.Steps.{systemOf, target, originOf}
 use Rattle.words.specs.States.{stateOf}
-use Rattle.outline.specs.Outline.{outlineWords, modelOf, Outlines}
+use Rattle.outline.specs.Outline.{outlineWords, modelOf, refusalOf, Outlines}
+
+-- the number by which the bytes are refused, 0 where they are read
+abbrev pub refusalIn : (bytes : List ℕ) → ℕ
+refusalIn bytes = refusalOf (model bytes)
 
 -- the words outline the model of the bytes
 pub record Outlined (bytes words : List ℕ) : Type 0 where

@@ -19,7 +19,7 @@ pub fn says(name: &str, text: &str, settings: &str, status: i32, words: &[&str])
 }
 
 const UNCONDITIONAL: &str =
-    "declares no bounds and no preferences, so that nothing here is conditional";
+    "declares no bounds and no preferences, so that nothing here is conditional [nothing-declared-is-true].\n";
 
 #[test]
 fn the_three_designs() {
@@ -167,7 +167,7 @@ fn theorems_are_on_the_page() {
             cited += 1;
         }
     }
-    assert_eq!(cited, 9);
+    assert_eq!(cited, 12);
 }
 
 /// Every stored search is explained, and the two implementations agree on all that is said.

@@ -5,8 +5,7 @@ use Prim.Native.Nat.{_≤_}
 use lib.ListN.{length}
 use borrow.Author.Tests.{leb-true, leb-false}
 use Rattle.model.specs.Numbers.{mostModelBytes}
-use Rattle.model.specs.Commands.{model}
-use Rattle.outline.specs.Outline.{refusalOf}
+use Rattle.steps.specs.InBytes.{refusalIn}
 use Rattle.plan_check.proofs.Tests.{check-long-model, check-long-plan, check-refused, check-read, told-trouble, told-same}
 use borrow.Author.Needs.{needs}
 use Rattle.plan_check.proofs.check.Statement.{statement}
@@ -37,7 +36,7 @@ returns-2 c =
     let read : tie.After-read-model = search in
     let good : tie.Then3 = search in
     let few : tie.Else2 = search in
-    let none : 0 ≡ refusalOf (model (start (few .before .before) .args .model .now)) = sym (good .if3 .taken) ∙ read .read-model .ensures .0 in
+    let none : 0 ≡ refusalIn (start (few .before .before) .args .model .now) = sym (good .if3 .taken) ∙ read .read-model .ensures .0 in
     told-same _ (check-read _ _ (short (few .before)) (few .if2 .left) none) (c .follow .ensures)
 
 returns-3 : tie.Need-returns-3

@@ -1,5 +1,6 @@
 //! What is proved of each verdict, and what a stopped or contradicted run leaves open.
 
+use crate::command::declarations::NOTHING_DECLARED;
 use crate::command::input::Source;
 use crate::command::known::Known;
 use crate::command::part::Part;
@@ -61,9 +62,9 @@ pub fn proved(known: &Known, run: &Run) -> Part {
         ));
     } else {
         part.say(format!("{}.", capital(&conditional)));
-        part.say(
-            "The model declares no bounds and no preferences, so that nothing here is conditional.",
-        );
+        part.say(format!(
+            "The model declares no bounds and no preferences, so that nothing here is conditional [{NOTHING_DECLARED}]."
+        ));
     }
     part.say(THEOREMS);
     part

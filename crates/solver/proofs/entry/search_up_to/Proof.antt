@@ -4,8 +4,7 @@ use mathlib.Core.Bool.{true}
 use Prim.Native.Nat.{_≤_, _<_}
 use native.Mathlib.Omega.{arith}
 use lib.ListN.{length}
-use Rattle.model.specs.Commands.{model}
-use Rattle.outline.specs.Outline.{refusalOf}
+use Rattle.steps.specs.InBytes.{refusalIn}
 use Rattle.search.specs.Run.{settingsFit, lentFits}
 use Rattle.solver.specs.Searches.{settings, lentOf}
 use Rattle.solver.proofs.Entering.{width-fits, some-steps, narrow, lent-both, refused-says, run-long, run-unfit, run-unlent, run-refused, run-says}
@@ -38,7 +37,7 @@ enough c = sym (c .before .lent-fits .ensures) ∙ c .if3 .taken
 abbrev reading : tie.Then4 → tie.Then3
 reading c = c .before .before .before .before
 
-read : (c : tie.Then4) → 0 ≡ refusalOf (model (start (reading c .before .before) .args .model .now))
+read : (c : tie.Then4) → 0 ≡ refusalIn (start (reading c .before .before) .args .model .now)
 read c = sym (c .if4 .taken) ∙ c .before .before .read-model .ensures .0
 
 abbrev searching : tie.After-search-model → tie.Then4
