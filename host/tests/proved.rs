@@ -2,6 +2,7 @@
 //! REPGYPSUM_MODELS=N makes the run over random models longer.
 
 use repgypsum_host::answer::Answer;
+use repgypsum_host::build::*;
 use repgypsum_host::cases::{groups, Call, Outcome};
 use repgypsum_host::enumerate::Space;
 use repgypsum_host::families::families;
@@ -160,6 +161,46 @@ fn random_plan_checks() {
     }
     println!("answers by number {answers:?}");
     assert!([0, 11, 12, 14].iter().all(|number| answers[*number] >= 20));
+}
+
+/// 2A over sets of up to 64 objects, with entries that take the sum over a half of them out of the range.
+#[test]
+fn random_table_sums() {
+    let mut random = Random::new(0x2A64);
+    let mut answers = [0; 15];
+    let mut halves_out = 0;
+    for _ in 0..models() {
+        let (rows, columns) = (random.between(33, 64), random.between(1, 3));
+        let entries: Vec<i32> = (0..rows * columns)
+            .map(|_| {
+                let near = random.between(-50, 50);
+                random.pick(&[i32::MAX, -i32::MAX, i32::MIN, near, near])
+            })
+            .collect();
+        let set = random.word() & random.word() & random.word() & (u64::MAX >> (64 - rows));
+        let column = random.between(0, columns - 1);
+        let total = entry_sum(0, set_lit(rows as u8, set), obj(column as u8));
+        let model = Build::new(SUM)
+            .element(2, NONE, 0)
+            .table(rows as u8, columns as u8, &entries)
+            .transition(&[], total, &[(0, obj(1))])
+            .base(&[same(elem(0), obj(1))])
+            .end();
+        let checked = proved::plan_check(&model, &[0]);
+        let expected = reference::plan_check(&model, &[0]);
+        assert_eq!(checked, expected, "{model:02x?}");
+        answers[usize::from(checked.0)] += 1;
+        let lower: i64 = (0..32)
+            .filter(|row| set >> row & 1 == 1)
+            .map(|row| i64::from(entries[(row * columns + column) as usize]))
+            .sum();
+        if checked.0 == 0 && i32::try_from(lower).is_err() {
+            halves_out += 1;
+        }
+    }
+    println!("answers by number {answers:?}, {halves_out} plans with a half out of range");
+    assert!([0, 11, 13].iter().all(|number| answers[*number] >= 200));
+    assert!(halves_out >= 200);
 }
 
 /// Damaged models, settings out of range and too little lent: the same refusals, and nothing lent is changed.

@@ -1,11 +1,23 @@
 -- Worked cases of the lower layer, computed from bytes: one table, one theorem.
 use mathlib.Core.Path.{_≡_, refl}
-use mathlib.Core.List.{List, [], _∷_}
+use Prim.Native.Nat.{ℕ, zero, suc}
+use mathlib.Core.List.{List, [], _∷_, _++_}
 use lib.IntN.{pos, negsuc}
 use Rattle.laws.specs.Hex.{hex}
 use Rattle.model.specs.Numbers.{endsEarly, notDue, mismatch, offLimits, tooDeep, bytesAfterEnd, outOfRange, divisorZero, negativeCost, notAPlan}
 use Rattle.model.specs.Values.{value, trouble}
 use Rattle.model.proofs.Opened.{Asked, numberOf, checkOf, Told, valued, checked, opened, allOpened}
+
+-- n entries 0 of a table
+abbrev noughts : (n : ℕ) → List ℕ
+noughts zero = []
+noughts (suc n) = hex 5 0x06_00_00_00_00 ++ noughts n
+
+-- a step whose cost is the sum over objects 0, 1, 40 and 41; these are the entries of 0 and 1 and those of 40 and 41
+abbrev overHalves : (lower upper : ℕ) → List ℕ
+overHalves lower upper =
+    hex 9 0x01_00_03_02_00_00_05_2a_01 ++ (hex 10 lower ++ (noughts 38 ++ (hex 10 upper
+    ++ hex 28 0x07_09_2a_00_40_2a_03_00_00_00_00_03_00_00_30_00_0a_00_30_01_0b_08_53_31_00_30_01_0e)))
 
 abbrev asked : List Asked
 asked =
@@ -33,6 +45,12 @@ asked =
     ∷ checkOf (hex 52 0x01_00_03_02_00_00_05_03_01_06_ff_ff_ff_7f_06_01_00_00_00_06_ff_ff_ff_ff_07_09_2a_00_40_03_07_00_00_00_00_00_00_00_30_00_0a_00_30_01_0b_08_53_31_00_30_01_0e) (hex 1 0x00)
     -- a sum over members whose total leaves the range
     ∷ checkOf (hex 52 0x01_00_03_02_00_00_05_03_01_06_ff_ff_ff_7f_06_01_00_00_00_06_ff_ff_ff_ff_07_09_2a_00_40_03_03_00_00_00_00_00_00_00_30_00_0a_00_30_01_0b_08_53_31_00_30_01_0e) (hex 1 0x00)
+    -- a sum whose lower half is above the range and whose upper half is below it
+    ∷ checkOf (overHalves 0x06_ff_ff_ff_7f_06_ff_ff_ff_7f 0x06_01_00_00_80_06_01_00_00_80) (hex 1 0x00)
+    -- the other way round
+    ∷ checkOf (overHalves 0x06_01_00_00_80_06_01_00_00_80 0x06_ff_ff_ff_7f_06_ff_ff_ff_7f) (hex 1 0x00)
+    -- halves of which one leaves the range, and a total beyond it by one
+    ∷ checkOf (overHalves 0x06_ff_ff_ff_7f_06_ff_ff_ff_7f 0x06_01_00_00_80_06_01_00_00_00) (hex 1 0x00)
     -- a negative cost
     ∷ checkOf (hex 25 0x01_00_03_02_00_00_07_09_20_ff_ff_ff_ff_0a_00_30_01_0b_08_53_31_00_30_01_0e) (hex 1 0x00)
     -- effects all read the old state: two numbers change places
@@ -92,6 +110,9 @@ told =
     ∷ valued (value (pos 9))
     ∷ valued (value (pos 2))
     ∷ checked (value 0x7fff_ffff)
+    ∷ checked (trouble outOfRange)
+    ∷ checked (value 0)
+    ∷ checked (value 0)
     ∷ checked (trouble outOfRange)
     ∷ checked (trouble negativeCost)
     ∷ checked (value 5)

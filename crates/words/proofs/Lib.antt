@@ -3,5 +3,6 @@ pub mod Integers
 pub mod Literal
 pub mod Members
 pub mod Entries
+pub mod Parts
 pub mod Sums
 pub mod Bytes

@@ -27,7 +27,7 @@ none-from zero k = refl
 none-from (suc n) k = refl
 
 -- the lowest digit, and the members from the others
-from-step : (n k s : ℕ) → membersFrom (suc n) k s ≡ consIf (s % 2) k (membersFrom n (suc k) (s / 2))
+pub from-step : (n k s : ℕ) → membersFrom (suc n) k s ≡ consIf (s % 2) k (membersFrom n (suc k) (s / 2))
 unfolding membersFrom consIf
 from-step n k zero = sym (none-from n (suc k))
 from-step n k (suc s) = refl
@@ -39,7 +39,7 @@ from-enough (suc n) zero k s h g = rw (lt-one g) (none-from (suc n) k ∙ sym (n
 from-enough (suc n) (suc m) k s h g =
     rw (from-step n k s, from-step m k s, from-enough n m (suc k) (s / 2) (half-lt n s h) (half-lt m s g))
 
-lt-power : (s : ℕ) → s < 2 ^ s
+pub lt-power : (s : ℕ) → s < 2 ^ s
 lt-power zero = omega arith
 lt-power (suc s) = omega (arith, pow-suc 2 s, lt-power s)
 
@@ -100,12 +100,14 @@ from-lowest (suc n) k s h p =
     (ap (λ (j : ℕ). j ∷ membersFrom n (suc k) (s / 2)) (omega arith)))
     (two-cases (s % 2) (mod-lt s (omega arith)))
 
-pub zeros-below : (n s : ℕ) → s < 2 ^ n → 0 < s → trailingZeros n s < n
+-- a number below 2^m that is not 0 has fewer than m zeros at its end, however many digits are looked at
+pub zeros-below : (n m s : ℕ) → s < 2 ^ m → 0 < s → trailingZeros n s < m
 unfolding trailingZeros
-zeros-below zero s h p = let z : ⊥ = omega arith in absurd z
-zeros-below (suc n) s h p =
+zeros-below n zero s h p = let z : ⊥ = omega arith in absurd z
+zeros-below zero (suc m) s h p = omega arith
+zeros-below (suc n) (suc m) s h p =
     ⊎-elim
-    (λ e. rw e (omega (arith, zeros-below n (s / 2) (half-lt n s h) (omega arith))))
+    (λ e. rw e (omega (arith, zeros-below n m (s / 2) (half-lt m s h) (omega arith))))
     (λ e. rw e (omega arith))
     (two-cases (s % 2) (mod-lt s (omega arith)))
 

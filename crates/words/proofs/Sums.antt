@@ -1,11 +1,14 @@
--- The sum over a set's members, as a loop makes it that takes the least member off each time.
+-- The sum over a set's members, as a loop makes it that takes the least member off each time, and from two halves.
 use mathlib.Core.Path.{_≡_, ap, sym, _∙_}
-use Prim.Native.Nat.{ℕ, _+_, _-_, _*_, _^_, _<_, _≤_}
+use mathlib.Core.List.{_∷_}
+use Prim.Native.Nat.{ℕ, _+_, _-_, _*_, _/_, _%_, _^_, _<_, _≤_}
+use native.Mathlib.Nat.{zero-add, lt-of-lt-of-le}
 use native.Mathlib.Omega.{arith}
 use lib.ListN.{length}
 use lib.IntN.{ℤ, pos, _+ℤ_, +ℤ-assoc, +ℤ-idl, +ℤ-idr}
 use lib.Signed.{mag}
 use lib.Bits.{bitAnd}
+use lib.Pow.{pow-mono}
 use lib.Count.{trailingZeros}
 use mir.Syntax.{w64}
 use mir.Val.{SFits}
@@ -14,25 +17,28 @@ use Rattle.model.specs.Sets.{membersFrom, members}
 use Rattle.model.specs.Meaning.{sumOver}
 use Rattle.words.proofs.Integers.{mag-sum}
 use Rattle.words.proofs.Members.{members-most, members-lowest, and-falls}
+use Rattle.words.proofs.Parts.{sum-by-parts}
 
--- z and the sum over what is left make the sum over s; each member that is left adds less than the range's end
-pub record Sofar (f : ℕ → ℤ) (s left : ℕ) (z : ℤ) : Type 0 where
-  pub word : left < 2 ^ 64
+-- z and the sum over what is left make the sum over s, a set of n objects; each member that is left adds less than the range's end
+pub record Sofar (n : ℕ) (f : ℕ → ℤ) (s left : ℕ) (z : ℤ) : Type 0 where
+  pub word : left < 2 ^ n
   pub total : z +ℤ sumOver f (members left) ≡ sumOver f (members s)
-  pub size : mag z + rangeEnd * length (members left) ≤ 2 ^ 37
+  pub size : mag z + rangeEnd * length (members left) ≤ n * rangeEnd
 
-pub begin : (f : ℕ → ℤ) (s : ℕ) → s < 2 ^ 64 → Sofar f s s (pos 0)
-begin f s h = record { word = h; total = +ℤ-idl _; size = omega (arith, members-most 64 s h) }
+pub begin : (n : ℕ) (f : ℕ → ℤ) (s : ℕ) → s < 2 ^ n → Sofar n f s s (pos 0)
+begin n f s h = record { word = h; total = +ℤ-idl _; size = omega (arith, members-most n s h) }
 
 -- one turn: e is what the least member that is left adds
-module _ {f : ℕ → ℤ} {s left : ℕ} {z e : ℤ} (so : Sofar f s left z) (more : 0 < left) (is : e ≡ f (trailingZeros 64 left)) (small : mag e < rangeEnd) where
+module _ {n : ℕ} {f : ℕ → ℤ} {s left : ℕ} {z e : ℤ} (few : n ≤ 64) (so : Sofar n f s left z) (more : 0 < left) (is : e ≡ f (trailingZeros 64 left)) (small : mag e < rangeEnd) where
+  split : members left ≡ trailingZeros 64 left ∷ members (bitAnd left (left - 1))
+  split = members-lowest 64 left (lt-of-lt-of-le (so .word) (pow-mono few)) more
+
   pub more-fits : SFits w64 (z +ℤ e)
   more-fits = record { sfits = omega (arith, so .size, mag-sum z e) }
 
-  pub one-more : Sofar f s (bitAnd left (left - 1)) (z +ℤ e)
+  pub one-more : Sofar n f s (bitAnd left (left - 1)) (z +ℤ e)
   unfolding sumOver
   one-more =
-      let split = members-lowest 64 left (so .word) more in
       let rest = sumOver f (members (bitAnd left (left - 1))) in
       record {
         word = omega (arith, so .word, and-falls left more);
@@ -40,6 +46,15 @@ module _ {f : ℕ → ℤ} {s left : ℕ} {z e : ℤ} (so : Sofar f s left z) (m
         size = omega (arith, so .size, ap length split, mag-sum z e);
       }
 
-pub done : (f : ℕ → ℤ) (s : ℕ) (z : ℤ) → Sofar f s 0 z → z ≡ sumOver f (members s)
+pub done : (n : ℕ) (f : ℕ → ℤ) (s : ℕ) (z : ℤ) → Sofar n f s 0 z → (z ≡ sumOver f (members s)) × (mag z ≤ n * rangeEnd)
 unfolding sumOver members membersFrom
-done f s z so = sym (+ℤ-idr z) ∙ so .total
+done n f s z so = (sym (+ℤ-idr z) ∙ so .total, omega (arith, so .size))
+
+-- ---- two halves
+
+pub halves-fit : (a b : ℤ) → mag a ≤ 32 * rangeEnd → mag b ≤ 32 * rangeEnd → SFits w64 (a +ℤ b)
+halves-fit a b ha hb = record { sfits = omega (arith, mag-sum a b) }
+
+-- a is the sum over objects 0 to 31, b over 32 to 63
+pub by-halves : (f : ℕ → ℤ) (s : ℕ) {a b : ℤ} → a ≡ sumOver (λ i. f (0 + i)) (members (s % 2 ^ 32)) → b ≡ sumOver (λ i. f (32 + i)) (members (s / 2 ^ 32)) → a +ℤ b ≡ sumOver f (members s)
+by-halves f s ha hb = rw (ha, hb) (simp zero-add (sym (sum-by-parts 32 f s)))

@@ -1,7 +1,7 @@
 // A table's entries, read where they stand in the model's bytes. A table is one word: its columns, its cells and where they begin.
 
 ghost use mathlib.Core.Path.{_≡_};
-ghost use Prim.Native.Nat.{_≤_, _<_};
+ghost use Prim.Native.Nat.{_+_, _*_, _^_, _≤_, _<_};
 ghost use lib.Signed.{mag};
 ghost use Rattle.model.specs.Numbers.{rangeEnd};
 ghost use Rattle.model.specs.Sets.{members};
@@ -33,17 +33,28 @@ pub fn entry(model: &[u8], table: u64, i: u64, j: u64) -> i64
     0
 }
 
-// The sum of the entries in column j at the rows that are members of s.
-pub fn total(model: &[u8], table: u64, s: u64, j: u64) -> i64
-    requires { ⌜ j < 64 ⌝ }
-    ensures { λ r. ⌜ r ≡ sumOver (λ i. entryIn (now (model .entry)) (atOf table) (columnsOf table) (cellsOf table) i j) (members s) ⌝ }
+// The sum of the entries in column j at the rows from + i, for the members i of s. It may leave the range.
+fn walked(model: &[u8], table: u64, s: u64, from: u64, j: u64) -> i64
+    requires { ⌜ (s < 2 ^ 32) × (from ≤ 32) × (j < 64) ⌝ }
+    ensures { λ r. ⌜ (r ≡ sumOver (λ i. entryIn (now (model .entry)) (atOf table) (columnsOf table) (cellsOf table) (from + i) j) (members s)) × (mag r ≤ 32 * rangeEnd) ⌝ }
 {
     let mut left = s;
     let mut sum: i64 = 0;
     while left != 0 {
-        let i = u64::trailing_zeros(left) as u64;
+        let i = from + (u64::trailing_zeros(left) as u64);
         sum += entry(model, table, i, j);
         left = left & (left - 1);
     }
     sum
+}
+
+// The sum of the entries in column j at the rows that are members of s: over objects 0 to 31, over 32 to 63, and both added.
+// The range is not asked here: a half may leave it where the total does not.
+pub fn total(model: &[u8], table: u64, s: u64, j: u64) -> i64
+    requires { ⌜ j < 64 ⌝ }
+    ensures { λ r. ⌜ r ≡ sumOver (λ i. entryIn (now (model .entry)) (atOf table) (columnsOf table) (cellsOf table) i j) (members s) ⌝ }
+{
+    let lower = walked(model, table, s % 4294967296, 0, j);
+    let upper = walked(model, table, s / 4294967296, 32, j);
+    lower + upper
 }

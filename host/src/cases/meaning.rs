@@ -70,6 +70,7 @@ pub fn cases() -> Vec<Case> {
     order_of_trouble(&mut cases);
     sets(&mut cases);
     conditions(&mut cases);
+    halves(&mut cases);
     cases.0
 }
 
@@ -561,4 +562,96 @@ fn conditions(cases: &mut Cases) {
     ] {
         value(cases, note, eight(), number, expected);
     }
+}
+
+/// A table of one column, 0 but for the entries at these rows.
+fn sparse(names: Build, rows: u8, entries: &[(usize, i32)]) -> Build {
+    let mut column = vec![0; rows as usize];
+    for &(row, entry) in entries {
+        column[row] = entry;
+    }
+    names.table(rows, 1, &column)
+}
+
+/// 2A over objects below 32 and from 32 on: a half may leave the range, the total may not.
+fn halves(cases: &mut Cases) {
+    let over = |rows: u8, members: &[u8]| {
+        let set = members.iter().fold(0, |set, member| set | 1 << member);
+        entry_sum(0, set_lit(rows, set), obj(0))
+    };
+    for (note, entries, expected) in [
+        (
+            "2A: objects below 32 above the range, the others below it",
+            [(0, MAX), (1, MAX), (40, -MAX), (41, -MAX)],
+            0,
+        ),
+        (
+            "2A: objects below 32 below the range, the others above it",
+            [(0, -MAX), (1, -MAX), (40, MAX), (41, MAX)],
+            0,
+        ),
+        (
+            "2A: objects 30 to 33, the halves out of range",
+            [(30, MAX), (31, MAX), (32, -MAX), (33, 5 - MAX)],
+            5,
+        ),
+        (
+            "2A: the lower half out of range, the total at the range's end",
+            [(0, MAX), (1, MAX), (40, -MAX), (41, 0)],
+            MAX,
+        ),
+        (
+            "2A: both halves out of range, the total at the range's lower end",
+            [(0, MAX), (1, 1), (40, MIN), (41, MIN)],
+            MIN,
+        ),
+    ] {
+        let members = entries.map(|(row, _)| row as u8);
+        value(
+            cases,
+            note,
+            sparse(names(), 42, &entries),
+            over(42, &members),
+            expected,
+        );
+    }
+    for (note, entries) in [
+        (
+            "2A: the lower half out of range, the total one above it",
+            [(0, MAX), (1, MAX), (40, -MAX), (41, 1)],
+        ),
+        (
+            "2A: the lower half out of range, the total one below it",
+            [(0, MIN), (1, MIN), (40, MAX), (41, 0)],
+        ),
+        (
+            "2A: each half within the range, the total one above it",
+            [(0, MAX), (1, 0), (40, 1), (41, 0)],
+        ),
+    ] {
+        let members = entries.map(|(row, _)| row as u8);
+        let model = one_step(sparse(names(), 42, &entries), over(42, &members));
+        cases.check(note, model, &[0], 11, 0);
+    }
+    let halves: Vec<_> = (0..64)
+        .map(|row| (row, if row < 32 { MAX } else { row as i32 - MAX }))
+        .collect();
+    value(
+        cases,
+        "2A: all 64 objects",
+        sparse(names(), 64, &halves),
+        over(64, &Vec::from_iter(0..64)),
+        1_520,
+    );
+    value(
+        cases,
+        "2A: a set variable's members, the halves out of range",
+        sparse(
+            names().set(42, (3 << 40) | 3),
+            42,
+            &[(0, MAX), (1, MAX), (40, -MAX), (41, 7 - MAX)],
+        ),
+        entry_sum(0, set(1), obj(0)),
+        7,
+    );
 }

@@ -1,69 +1,33 @@
--- `words::tables::total` meets its contract. The invariant: the sum so far and the sum over the members left make the whole.
--- The measure is the set that is left.
-use Prim.Native.Nat.{ℕ, _<_}
-use mathlib.Core.List.{List}
-use native.Mathlib.Omega.{arith}
-use lib.Count.{trailing-le}
-use lib.IntN.{ℤ}
+-- `words::tables::total` meets its contract: the sum over the lower half and the sum over the upper half make the sum.
+use Prim.Native.Nat.{ℕ}
+use mathlib.Core.Path.{_≡_}
+use lib.IntN.{_+ℤ_}
 use mir.Syntax.{w64}
-use mir.Val.{toZ}
+use mir.Val.{SFits, toZ, ofZ}
+use borrow.Author.Needs.{needs}
 use Rattle.words.specs.Tables.{entryIn, columnsOf, cellsOf, atOf}
 use Rattle.words.proofs.Integers.{back}
-use Rattle.words.proofs.Members.{zeros-below, and-falls}
-use Rattle.words.proofs.Sums.{Sofar, begin, more-fits, one-more, done}
+use Rattle.words.proofs.Sums.{halves-fit, by-halves}
 use Rattle.words.proofs.tables.total.Statement.{statement}
 use Rattle.words.proofs.tables.total.Tie as tie
 
--- the entries of column j, by their row
-abbrev column : List ℕ → ℕ → ℕ → ℕ → ℤ
-column model table j i = entryIn model (atOf table) (columnsOf table) (cellsOf table) i j
+-- the halves' sums are far from the ends of 64 bits
+fits : (c : tie.After-walked2) → SFits w64 (c .before .walked .result +ℤ c .walked2 .result)
+fits c = halves-fit (c .before .walked .result) (c .walked2 .result) (c .before .walked .ensures .1) (c .walked2 .ensures .1)
 
-abbrev Inv-loop : tie.InvT-loop
-Inv-loop model table s j left₀ sum₀ left sum = Sofar (column model table j) s left (toZ w64 sum)
+-- each half's sum, read back from its bits
+lower : (c : tie.After-walked2) → toZ w64 (ofZ w64 (c .before .walked .result)) ≡ c .before .walked .result
+lower c = back (record { sfits = c .before .walked .ok })
 
-abbrev μ-loop : tie.MeasureT-loop
-μ-loop model table s j left₀ sum₀ left sum = left
+upper : (c : tie.After-walked2) → toZ w64 (ofZ w64 (c .walked2 .result)) ≡ c .walked2 .result
+upper c = back (record { sfits = c .walked2 .ok })
 
-loop-holds : tie.Need-loop-holds Inv-loop μ-loop
-loop-holds c = begin _ (c .before .args .s) (c .before .fits .s .fits)
-
-cast-i : tie.Need-cast-i Inv-loop μ-loop
-cast-i c = record { fits = omega (arith, trailing-le 64 (c .before .loop .left)) }
-
-entry-requires : tie.Need-entry-requires Inv-loop μ-loop
-entry-requires c κs = (zeros-below 64 (c .before .loop .left) (c .before .loop .inv .word) (omega (arith, c .loop-test .taken)), c .before .before .before .pre)
-
-add-sum : tie.Need-add-sum Inv-loop μ-loop
-add-sum c =
-    rw (back {z = c .entry .result} (record { sfits = c .entry .ok }))
-    (more-fits (c .before .before .loop .inv) (omega (arith, c .before .loop-test .taken)) (c .entry .ensures .0) (c .entry .ensures .1))
-
-sub-left : tie.Need-sub-left Inv-loop μ-loop
-sub-left c = omega (arith, c .before .loop-test .taken)
-
-loop-less : tie.Need-loop-less Inv-loop μ-loop
-loop-less c = and-falls (c .before .before .loop .left) (omega (arith, c .before .loop-test .taken))
-
-loop-again : tie.Need-loop-again Inv-loop μ-loop
-loop-again c =
-    let more : 0 < c .before .before .loop .left = omega (arith, c .before .loop-test .taken) in
-    rw (back {z = c .entry .result} (record { sfits = c .entry .ok }), back (more-fits (c .before .before .loop .inv) more (c .entry .ensures .0) (c .entry .ensures .1)))
-    (one-more (c .before .before .loop .inv) more (c .entry .ensures .0) (c .entry .ensures .1))
-
-returns : tie.Need-returns Inv-loop μ-loop
-returns c = done _ _ _ (rw (c .loop-test .left) at (c .before .loop .inv))
+returns : tie.Need-returns
+returns c =
+    let start : tie.Start = search in
+    let a = start .args in
+    rw (lower c, upper c, back (fits c))
+    (by-halves (λ (i : ℕ). entryIn (a .model .now) (atOf (a .table)) (columnsOf (a .table)) (cellsOf (a .table)) i (a .j)) (a .s) (c .before .walked .ensures .0) (c .walked2 .ensures .0))
 
 pub total-spec : {M : Type 1} → statement M
-total-spec =
-    tie.close
-    (tie.spec
-    Inv-loop
-    μ-loop
-    loop-holds
-    cast-i
-    entry-requires
-    add-sum
-    sub-left
-    loop-less
-    loop-again
-    returns)
+total-spec = tie.close (tie.spec (λ c κs. search needs) (λ c κs. search needs) (λ c. rw (lower c, upper c) (fits c)) returns)
