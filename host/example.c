@@ -5,7 +5,7 @@
 #include <stdio.h>
 #include <stdlib.h>
 
-enum { WIDTH = 16, LENGTH = 64, BUDGET = 100000, LONGEST_MODEL = 65536 };
+enum { WIDTH = 16, LENGTH = 64, BUDGET = 100000, LONGEST_MODEL = REPGYPSUM_MOST_MODEL_BYTES };
 
 /* Reads a file of at most one byte more than the longest model; answers how many bytes it has, or -1. */
 static long read_model(const char *path, uint8_t *model)

@@ -1,13 +1,37 @@
-/* Repgypsum for C: the search and the plan check on the bytes of a model.
+/* Repgypsum for C and C++: the search and the plan check on the bytes of a model, on x86-64.
  *
- * Link with target/staticlib/librepgypsum.a, which `rt staticlib repgypsum` writes, on x86-64. Every function takes any bytes
- * and any numbers: what is wrong with them is told by a refusal. Nothing is allocated and nothing is kept between calls. A call
- * takes less than 32 kilobytes of stack (measured: some 20, host/tests/stack.rs). A pointer may be null only where its length is 0.
+ * Link with librepgypsum.a, or with librepgypsum.so; `make install` puts both in their place with a file for pkg-config. Of the C
+ * library they need memcpy and memset alone.
+ *
+ * Every function takes any bytes and any numbers: what is wrong with them is told by a refusal. What the caller sees to:
+ *
+ * - A pointer has as many elements behind it as its length says, and may be null only where that is 0.
+ * - `words` is aligned as uint64_t is, to 8 bytes. Bytes need no alignment.
+ * - The buffers of a search do not overlap: `model`, `plan` and `words` are apart. Those of a plan check are only read and may.
+ * - Nobody else writes to a lent buffer during the call.
+ *
+ * Threads: there is no shared state. Nothing is allocated, nothing is kept between calls, and no variable outlives one; calls with
+ * buffers of their own may run at the same time.
+ *
+ * Stack: a call takes less than 32 kilobytes (measured: some 20, host/tests/stack.rs), whatever the model.
+ *
+ * What is proved of the functions stands in docs/AUDIT.md; this header stands outside the proofs.
  */
 #ifndef REPGYPSUM_H
 #define REPGYPSUM_H
 
 #include <stdint.h>
+
+#define REPGYPSUM_VERSION "0.1.0"
+#define REPGYPSUM_VERSION_MAJOR 0
+#define REPGYPSUM_VERSION_MINOR 1
+#define REPGYPSUM_VERSION_PATCH 0
+
+/* Limits: bytes of a model, the widest beam, steps of a plan (and so the length limit), transitions. */
+#define REPGYPSUM_MOST_MODEL_BYTES 65536
+#define REPGYPSUM_MOST_WIDTH 4096
+#define REPGYPSUM_MOST_STEPS 256
+#define REPGYPSUM_MOST_TRANSITIONS 256
 
 #ifdef __cplusplus
 extern "C" {

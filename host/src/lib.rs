@@ -1,5 +1,5 @@
 //! What stands outside the proofs: a plain second implementation of document 01 with its enumeration, stored cases and model
-//! families, a fast one to measure against, the proved libraries, the text form of models, and the command line.
+//! families, a fast one to measure against, the proved libraries, the text form of models, JSON, and the command line.
 
 pub mod answer;
 pub mod bench;
@@ -12,6 +12,7 @@ pub mod enumerate;
 pub mod families;
 pub mod fast;
 pub mod generate;
+pub mod json;
 pub mod line;
 pub mod models;
 pub mod numbers;

@@ -30,7 +30,7 @@ mod writer;
 use crate::reference::read_model;
 
 pub use listing::{Listing, Step};
-pub use names::{Group, Names, VariableName};
+pub use names::{kind_name, Group, Names, VariableName};
 pub use place::{Error, Place};
 pub use printer::disassemble;
 pub use sources::{Sources, LONGEST_TEXT};

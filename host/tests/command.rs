@@ -12,8 +12,16 @@ mod declarations;
 mod explain;
 #[path = "command/fuzz.rs"]
 mod fuzz;
+#[path = "command/json.rs"]
+mod json;
+#[path = "command/json_text.rs"]
+mod json_text;
 #[path = "command/long_runs.rs"]
 mod long_runs;
+#[path = "command/markup.rs"]
+mod markup;
+#[path = "command/page.rs"]
+mod page;
 #[path = "command/plan.rs"]
 mod plan;
 #[path = "command/quotation_texts.rs"]

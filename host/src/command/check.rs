@@ -2,10 +2,12 @@
 
 use super::arguments::{decimal, Arguments};
 use super::input::{looks_like_text, source, Source};
+use super::json::{self, Members, JSON};
 use super::known::Known;
 use super::refusals::LOOKS_LIKE_TEXT;
 use super::words::{counted, refusal_name};
 use super::{why, Complaint, Done, ANSWERED, REFUSED};
+use crate::json::Json;
 use crate::numbers::{limit, refusal};
 use crate::proved;
 use std::ffi::OsString;
@@ -15,7 +17,7 @@ const PLAN: &str = "--plan";
 const PLAN_HEX: &str = "--plan-hex";
 
 pub fn run(arguments: &[OsString], input: &mut dyn Read) -> Result<Done, Complaint> {
-    let arguments = Arguments::read(arguments, &[PLAN, PLAN_HEX], &[])?;
+    let arguments = Arguments::read(arguments, &[PLAN, PLAN_HEX], &[JSON])?;
     let given = given(&arguments)?;
     let source = source(arguments.file(), input)?;
     let plan = match given {
@@ -23,10 +25,37 @@ pub fn run(arguments: &[OsString], input: &mut dyn Read) -> Result<Done, Complai
         Given::Hexadecimal(text) => hexadecimal(&text)?,
     };
     let (answer, cost) = proved::plan_check(&source.model, &plan);
-    let text = format!("{answer} {cost}\n");
     let status = if answer == 0 { ANSWERED } else { REFUSED };
-    let done = Done::new(text.into_bytes(), status);
-    Ok(done.note(explained(&source, &plan, answer)))
+    let why = explained(&source, &plan, answer);
+    if arguments.flag(JSON) {
+        let members = members(&source, &plan, (answer, cost), why);
+        return Ok(Done::new(json::document("check", status, members), status));
+    }
+    let text = format!("{answer} {cost}\n");
+    Ok(Done::new(text.into_bytes(), status).note(why))
+}
+
+fn members(
+    source: &Source,
+    plan: &[u8],
+    (answer, cost): (u8, u64),
+    why: Option<String>,
+) -> Members {
+    let name = match answer {
+        0 => "a plan",
+        _ => refusal_name(answer),
+    };
+    let answer = Json::Object(vec![
+        ("number", answer.into()),
+        ("name", name.into()),
+        ("cost", cost.into()),
+    ]);
+    vec![
+        ("model", json::model(source)),
+        ("plan", json::steps(source.names.as_ref(), plan)),
+        ("answer", answer),
+        ("why", why.into()),
+    ]
 }
 
 /// Why the plan check refuses, in a sentence.

@@ -1,10 +1,14 @@
 //! `repgypsum declarations`: whether the bounds and preferences of a model are true, as far as can be seen.
 
+mod json;
+
 use super::arguments::Arguments;
 use super::input::{looks_like_text, source, Source};
+use super::json::{self as shared, JSON};
 use super::known::Known;
 use super::part::Part;
 use super::refusals::LOOKS_LIKE_TEXT;
+use super::theorems::NOTHING_DECLARED;
 use super::words::{counted, grouped, refusal_name};
 use super::{target, warnings, Complaint, Done, ANSWERED, REFUSED};
 use crate::declarations::{look, Findings, Looking, NotBetter, TooHigh, Truth};
@@ -23,11 +27,15 @@ const STATES: u32 = 50_000;
 const WALKS: u32 = 1_000;
 const SEED: u32 = 1;
 
-/// The theorem that a model without declarations has none that is false.
-pub const NOTHING_DECLARED: &str = "nothing-declared-is-true";
+/// How far is looked if nothing is said.
+pub const USUAL: Looking = Looking {
+    states: STATES as usize,
+    walks: WALKS as usize,
+    seed: SEED as u64,
+};
 
 pub fn run(arguments: &[OsString], input: &mut dyn Read) -> Result<Done, Complaint> {
-    let arguments = Arguments::read(arguments, &OPTIONS, &[])?;
+    let arguments = Arguments::read(arguments, &OPTIONS, &[JSON])?;
     let number = |name, most, usual| -> Result<u32, Complaint> {
         Ok(arguments.number(name, most)?.unwrap_or(usual))
     };
@@ -38,28 +46,51 @@ pub fn run(arguments: &[OsString], input: &mut dyn Read) -> Result<Done, Complai
         seed: seed.into(),
     };
     let source = source(arguments.file(), input)?;
+    let as_json = arguments.flag(JSON);
     let known = match readable(&source) {
         Ok(known) => known,
-        Err(number) => {
-            let text = format!("refused {number}\n");
-            let mut note = format!("{}: {}", source.title, refusal_name(number));
-            if looks_like_text(&source.model) {
-                note = format!("{note}. {LOOKS_LIKE_TEXT}");
-            }
-            return Ok(Done::new(text.into_bytes(), REFUSED).note(Some(note)));
-        }
+        Err(number) => return Ok(refused(&source, looking, number, as_json)),
     };
     let findings = look(&source.model, &known.model, looking);
-    let mut text = head(&source, &known);
-    for part in parts(&source, &known, looking, &findings) {
-        text += &part.text();
-    }
     let status = if some_false(&findings) {
         REFUSED
     } else {
         ANSWERED
     };
+    let parts = parts(&source, &known, looking, &findings);
+    if as_json {
+        let mut members = json::members(&source, &known, looking, &findings);
+        members.push(("parts", shared::parts(&parts)));
+        let text = shared::document("declarations", status, members);
+        return Ok(Done::new(text, status));
+    }
+    let mut text = head(&source, &known);
+    for part in parts {
+        text += &part.text();
+    }
     Ok(Done::new(text.into_bytes(), status))
+}
+
+/// What is known of the declarations of a model, part by part, after looking as far as is usual.
+pub fn tested(source: &Source, known: &Known) -> Vec<Part> {
+    let findings = look(&source.model, &known.model, USUAL);
+    parts(source, known, USUAL, &findings)
+}
+
+/// The answer for a model that the reader refuses.
+fn refused(source: &Source, looking: Looking, number: u8, as_json: bool) -> Done {
+    let mut note = format!("{}: {}", source.title, refusal_name(number));
+    if looks_like_text(&source.model) {
+        note = format!("{note}. {LOOKS_LIKE_TEXT}");
+    }
+    let text = match as_json {
+        true => {
+            let members = json::refused(source, looking, number);
+            shared::document("declarations", REFUSED, members)
+        }
+        false => format!("refused {number}\n").into_bytes(),
+    };
+    Done::new(text, REFUSED).note(Some(note).filter(|_| !as_json))
 }
 
 fn readable(source: &Source) -> Result<Known, u8> {

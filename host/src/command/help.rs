@@ -47,6 +47,13 @@ plan:
 
 explain:
   --svg OUT        also writes the plan as a chart
+  --html OUT       also writes one page for the auditor: all of this, the declarations' test, the plan as table and chart, the
+                   model, the quotation, and how to run it again
+  --lane VARIABLE  draws the steps in lanes, by the variable's value after a step
+  --clock VARIABLE draws a step from the number variable's value before it to that after it, in place of its cost
+
+plan, explain, check, declarations:
+  --json           the answer as JSON (docs/JSON.md)
 
 check, one of:
   --plan PLAN      transition numbers (0,1,2 or \"0 1 2\"), names between commas, or a printed line; nothing for no steps

@@ -11,10 +11,13 @@ use std::path::Path;
 /// The ending of files with text models.
 const TEXT_ENDING: &str = ".dp";
 
-/// A model's bytes, what it is called, and of a text the names and the expressions as they are written.
+/// A model's bytes, what it is called, and of a text the files that it is made of, the names and the expressions as they are
+/// written.
 pub struct Source {
     pub title: String,
     pub model: Vec<u8>,
+    /// Titles and contents, the text itself first.
+    pub files: Vec<(String, String)>,
     pub names: Option<Names>,
     pub listing: Option<Listing>,
 }
@@ -82,6 +85,7 @@ pub fn text_model(
             let source = Source {
                 title,
                 model: assembled.bytes,
+                files: sources.contents(),
                 names: Some(assembled.names),
                 listing: Some(assembled.listing),
             };
@@ -100,6 +104,7 @@ pub fn source(file: Option<&OsStr>, input: &mut dyn Read) -> Result<Source, Comp
     Ok(Source {
         title: title(file),
         model: model_bytes(file, input)?,
+        files: Vec::new(),
         names: None,
         listing: None,
     })

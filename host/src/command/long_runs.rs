@@ -33,7 +33,7 @@ pub enum Stop {
 }
 
 impl Stop {
-    fn name(self) -> &'static str {
+    pub fn name(self) -> &'static str {
         match self {
             Stop::Interrupt => "Ctrl-C",
             Stop::Seconds => "--seconds",

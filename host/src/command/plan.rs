@@ -1,11 +1,13 @@
-//! `repgypsum plan`: the answer's line, or its fields by name.
+//! `repgypsum plan`: the answer's line, its fields by name, or JSON.
 
 use super::arguments::Arguments;
 use super::input::source;
-use super::long_runs::{self, Watch};
+use super::json::{self, JSON};
+use super::long_runs::{self, Stop, Watch};
 use super::settings::{Run, Settings, OPTIONS};
 use super::words::{by_state, refusal_name, spaced, verdict_name};
-use super::{quotations, refusals, unconditional, Complaint, Done, ANSWERED, REFUSED};
+use super::{quotations, refusals, unconditional, Complaint, Done, ANSWERED, CANNOT, REFUSED};
+use crate::json::Json;
 use crate::line::answer_line;
 use std::ffi::OsString;
 use std::io::Read;
@@ -16,41 +18,64 @@ const UNCONDITIONAL: &str = "--unconditional";
 
 pub fn run(arguments: &[OsString], input: &mut dyn Read) -> Result<Done, Complaint> {
     let valued = [&OPTIONS[..], &long_runs::VALUED, &[QUOTE]].concat();
-    let flags = [&[FIELDS, UNCONDITIONAL], &long_runs::FLAGS[..]].concat();
+    let flags = [&[FIELDS, UNCONDITIONAL, JSON], &long_runs::FLAGS[..]].concat();
     let arguments = Arguments::read(arguments, &valued, &flags)?;
+    if arguments.flag(FIELDS) && arguments.flag(JSON) {
+        return Err(Complaint::new(format!("{FIELDS} or {JSON}, not both")));
+    }
     let mut settings = Settings::read(&arguments)?;
     let watch = Watch::read(&arguments, &mut settings)?;
     let source = source(arguments.file(), input)?;
     let finished = watch.search(&source.model, settings);
     let (run, settings) = (&finished.run, &finished.settings);
+    let beside = beside(&arguments, &source.model, settings, run);
+    let note = refusals::note(&source.model, settings, run);
+    let wrong = arguments.value(QUOTE).and_then(|out| {
+        let quotation = quotations::quotation(&source, settings, run);
+        quotations::quote(out, quotation)
+    });
+    let status = match wrong {
+        Some(_) => CANNOT,
+        None => status(run),
+    };
+    if arguments.flag(JSON) {
+        let mut members = json::search(&source, settings, run);
+        members.extend([
+            ("steps", json::steps(source.names.as_ref(), &run.steps)),
+            ("stopped_by", finished.stop.map(Stop::name).into()),
+            ("unconditional", beside.map(|lines| said(&lines)).into()),
+            ("note", note.into()),
+        ]);
+        let text = json::document("plan", status, members);
+        return Ok(Done::new(text, status).failed(wrong));
+    }
     let mut text = if arguments.flag(FIELDS) {
         fields(run)
     } else {
         format!("{}\n", answer_line(&run.answer, &run.steps))
     };
     let stopped = finished.stopped();
-    for line in stopped
-        .into_iter()
-        .chain(beside(&arguments, &source.model, settings, run))
-    {
+    for line in stopped.into_iter().chain(beside.unwrap_or_default()) {
         text += &format!("{line}\n");
     }
-    let done = Done::new(text.into_bytes(), status(run));
-    let done = done.note(refusals::note(&source.model, settings, run));
-    let Some(out) = arguments.value(QUOTE) else {
-        return Ok(done);
-    };
-    let wrong = quotations::quote(out, quotations::quotation(&source, settings, run));
-    Ok(done.failed(wrong))
+    let done = Done::new(text.into_bytes(), status);
+    Ok(done.note(note).failed(wrong))
+}
+
+/// Lines as sentences with the theorems that they cite.
+fn said(lines: &[String]) -> Json {
+    Json::List(lines.iter().map(|line| json::sentence(line)).collect())
 }
 
 /// What the run without declarations shows, if that is asked for.
-fn beside(arguments: &Arguments, model: &[u8], settings: &Settings, run: &Run) -> Vec<String> {
-    if arguments.flag(UNCONDITIONAL) {
-        unconditional::lines(model, settings, run)
-    } else {
-        Vec::new()
-    }
+fn beside(
+    arguments: &Arguments,
+    model: &[u8],
+    settings: &Settings,
+    run: &Run,
+) -> Option<Vec<String>> {
+    let asked = arguments.flag(UNCONDITIONAL);
+    asked.then(|| unconditional::lines(model, settings, run))
 }
 
 /// The exit status that an answer has.

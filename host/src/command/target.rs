@@ -3,14 +3,11 @@
 use super::known::Known;
 use super::part::Part;
 use super::settings::Run;
+use super::theorems::{BROKEN_TARGET, BROKEN_TARGET_ANSWER};
 use super::why;
 use super::words::refusal_name;
 use crate::declarations::broken_by_target;
 use crate::numbers::verdict;
-
-/// The theorems that a target that breaks a constraint has no plan, and which answer the search then gives.
-pub const NO_PLAN: &str = "no-plan-from-broken-target";
-const ANSWER: &str = "broken-target-has-no-plan";
 
 /// Whether the answer is the one for a target that breaks a constraint.
 pub fn decides(known: &Known, run: &Run) -> bool {
@@ -30,10 +27,10 @@ pub fn say_no_plan(known: &Known, part: &mut Part) {
     let told = failing(known).unwrap_or_default();
     part.say(format!("The target breaks a constraint: {told}"));
     part.say(format!(
-        "A target that does so has no plan, of whatever length and whatever the model declares [{NO_PLAN}];"
+        "A target that does so has no plan, of whatever length and whatever the model declares [{BROKEN_TARGET}];"
     ));
     part.say(format!(
-        "the search finds that before it expands a state [{ANSWER}]. So the mark \"no plan\" rests on no declaration."
+        "the search finds that before it expands a state [{BROKEN_TARGET_ANSWER}]. So the mark \"no plan\" rests on no declaration."
     ));
     part.say("The constraint is found by the independent implementation, which is tested and not proved.");
 }
@@ -53,7 +50,7 @@ pub fn part(known: &Known) -> Option<Part> {
         Ok(_) => {
             part.say(format!("It breaks a constraint: {told}"));
             part.say(format!(
-                "So the model has no plan, and the mark \"no plan\" rests on no declaration [{NO_PLAN}]."
+                "So the model has no plan, and the mark \"no plan\" rests on no declaration [{BROKEN_TARGET}]."
             ));
         }
     }

@@ -1,8 +1,7 @@
 //! `plan --unconditional`: the model planned again without its bounds and preferences.
 
-use super::declarations::NOTHING_DECLARED;
 use super::settings::{Run, Settings};
-use super::target;
+use super::theorems::{BROKEN_TARGET, NOTHING_DECLARED};
 use super::words::{by_state, refusal_name, verdict_name};
 use crate::declarations::broken_by_target;
 use crate::line::answer_line;
@@ -24,8 +23,7 @@ pub fn lines(model: &[u8], settings: &Settings, run: &Run) -> Vec<String> {
     let no_plan = !run.answer.refused && run.answer.verdict == verdict::NO_PLAN;
     if let Some(number) = broken_by_target(&read).filter(|_| no_plan) {
         return vec![format!(
-            "The mark \"no plan\" rests on no declaration: the target breaks constraint {number} [{}].",
-            target::NO_PLAN
+            "The mark \"no plan\" rests on no declaration: the target breaks constraint {number} [{BROKEN_TARGET}]."
         )];
     }
     if !declares(model) {

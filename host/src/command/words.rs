@@ -40,6 +40,12 @@ pub fn by_state(number: u8) -> bool {
     (refusal::OUT_OF_RANGE..=refusal::NEGATIVE_COST).contains(&number)
 }
 
+/// The sentence with a capital letter at its front.
+pub fn capital(sentence: &str) -> String {
+    let (first, rest) = sentence.split_at(1);
+    format!("{}{rest}", first.to_uppercase())
+}
+
 /// A number with commas between its thousands.
 pub fn grouped(number: u64) -> String {
     let digits = number.to_string();
@@ -51,6 +57,12 @@ pub fn grouped(number: u64) -> String {
         text.push(digit);
     }
     text
+}
+
+/// The same with its sign, if it is negative.
+pub fn signed(number: i64) -> String {
+    let sign = if number < 0 { "-" } else { "" };
+    format!("{sign}{}", grouped(number.unsigned_abs()))
 }
 
 /// Such as `1 step` and `1,000 steps`.

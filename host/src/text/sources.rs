@@ -79,6 +79,12 @@ impl Sources {
         &self.files[file].text
     }
 
+    /// The title and the text of every file, in the order in which they are named.
+    pub fn contents(&self) -> Vec<(String, String)> {
+        let content = |file: &Source| (file.title.clone(), file.text.clone());
+        self.files.iter().map(content).collect()
+    }
+
     /// Reads the file that is named at this place, and gives its number.
     pub fn read(&mut self, at: Place, name: &str) -> Result<usize, Error> {
         let Some(folder) = &self.files[at.file].folder else {

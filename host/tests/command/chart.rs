@@ -1,95 +1,7 @@
 //! The chart: well formed, a bar for each step as wide as its cost, labels that do not overlap.
 
+use super::markup::{parsed, Element};
 use super::{designs_and, designs_with, example, file, run};
-use std::collections::HashMap;
-
-/// An element of a chart: its tag, its attributes and the text inside it.
-struct Element {
-    tag: String,
-    attributes: HashMap<String, String>,
-    text: String,
-}
-
-impl Element {
-    fn number(&self, name: &str) -> f64 {
-        self.attributes[name].parse().unwrap()
-    }
-}
-
-/// The attributes behind a tag's name, each once, in double quotes.
-fn attributes(mut rest: &str) -> HashMap<String, String> {
-    let mut found = HashMap::new();
-    while !rest.trim().is_empty() {
-        assert!(rest.starts_with(' '), "a blank before an attribute: {rest}");
-        let (name, behind) = rest.trim_start().split_once("=\"").expect("a quoted value");
-        let (value, behind) = behind.split_once('"').expect("a quote behind the value");
-        assert!(
-            name.chars()
-                .all(|c| c.is_ascii_alphanumeric() || "-:".contains(c)),
-            "{name}"
-        );
-        let again = found.insert(name.to_string(), unescaped(value));
-        assert_eq!(again, None, "{name} once");
-        rest = behind;
-    }
-    found
-}
-
-/// Text without `<` and `>`, and with `&` only in the four escapes.
-fn unescaped(text: &str) -> String {
-    assert!(!text.contains(['<', '>']), "{text}");
-    let mut plain = String::new();
-    let mut parts = text.split('&');
-    plain += parts.next().unwrap();
-    for part in parts {
-        let (name, rest) = part.split_once(';').expect("an escape ends");
-        plain += match name {
-            "amp" => "&",
-            "lt" => "<",
-            "gt" => ">",
-            "quot" => "\"",
-            _ => panic!("an unknown escape: {name}"),
-        };
-        plain += rest;
-    }
-    plain
-}
-
-/// The elements of a well-formed document in their order; the root is the first.
-fn parsed(document: &str) -> Vec<Element> {
-    let mut elements: Vec<Element> = Vec::new();
-    let mut open: Vec<usize> = Vec::new();
-    let mut parts = document.trim().split('<');
-    assert_eq!(parts.next(), Some(""));
-    for part in parts {
-        let (inside, text) = part.split_once('>').expect("a tag ends");
-        if let Some(tag) = inside.strip_prefix('/') {
-            let last = open.pop().expect("an open tag");
-            assert_eq!(elements[last].tag, tag);
-        } else {
-            assert!(elements.is_empty() || !open.is_empty(), "one root");
-            let closed = inside.strip_suffix('/');
-            let inside = closed.unwrap_or(inside);
-            let end = inside.find(' ').unwrap_or(inside.len());
-            elements.push(Element {
-                tag: inside[..end].to_string(),
-                attributes: attributes(&inside[end..]),
-                text: String::new(),
-            });
-            if closed.is_none() {
-                open.push(elements.len() - 1);
-            }
-        }
-        if let Some(last) = open.last() {
-            elements[*last].text += &unescaped(text);
-        } else {
-            assert_eq!(text.trim(), "");
-        }
-    }
-    assert!(open.is_empty(), "every tag is closed");
-    assert_eq!(elements[0].tag, "svg");
-    elements
-}
 
 /// The boxes of all texts, left, right and base line, at 7.25 pixels a character.
 fn boxes(elements: &[Element]) -> Vec<(f64, f64, f64)> {
@@ -116,10 +28,15 @@ fn draws(name: &str, text: &str, setting: &str, largest: bool, costs: &[f64]) {
     assert!(left
         .text()
         .contains(&format!("The plan is drawn in {svg}.")));
-    let elements = parsed(&std::fs::read_to_string(svg).unwrap());
+    let elements = parsed("svg", &std::fs::read_to_string(svg).unwrap());
     bars_are_costs(&elements, largest, costs);
+    texts_are_apart(name, &elements);
+}
+
+/// Every text lies inside the chart, and none over another.
+fn texts_are_apart(name: &str, elements: &[Element]) {
     let (wide, high) = (elements[0].number("width"), elements[0].number("height"));
-    let boxes = boxes(&elements);
+    let boxes = boxes(elements);
     for (place, first) in boxes.iter().enumerate() {
         assert!(
             first.0 >= 0.0 && first.1 <= wide && first.2 > 10.0 && first.2 < high,
@@ -257,7 +174,7 @@ fn escapes() {
     let path = file("a<b>&\"c\"\u{7}.dp", text.as_bytes());
     let svg = file("escapes.svg", b"");
     assert_eq!(run(&["explain", "--svg", &svg, &path]).status, 0);
-    let elements = parsed(&std::fs::read_to_string(svg).unwrap());
+    let elements = parsed("svg", &std::fs::read_to_string(svg).unwrap());
     let title = elements
         .iter()
         .find(|element| element.tag == "title")
@@ -266,5 +183,140 @@ fn escapes() {
         title.text.contains("a<b>&\"c\"\u{FFFD}.dp: cheapest"),
         "{}",
         title.text
+    );
+}
+
+/// The chart of a text with these options, its texts apart.
+fn view(name: &str, text: &str, options: &[&str]) -> Vec<Element> {
+    let path = file(&format!("view-{name}.dp"), text.as_bytes());
+    let svg = file(&format!("view-{name}.svg"), b"");
+    let mut arguments = vec!["explain", "--svg", &svg];
+    arguments.extend(options);
+    arguments.push(&path);
+    let left = run(&arguments);
+    assert_eq!((left.status, left.errors.as_str()), (0, ""), "{name}");
+    let elements = parsed("svg", &std::fs::read_to_string(svg).unwrap());
+    texts_are_apart(name, &elements);
+    elements
+}
+
+/// Left, top, width and height of the lanes or of the bars.
+fn boxes_of(elements: &[Element], lanes: bool) -> Vec<[f64; 4]> {
+    let drawn = elements.iter().filter(|element| {
+        let class = element.attributes.contains_key("class");
+        element.tag == "rect" && element.attributes.contains_key("x") && class == lanes
+    });
+    let sides = |element: &Element| ["x", "y", "width", "height"].map(|name| element.number(name));
+    drawn.map(sides).collect()
+}
+
+/// Bars that do not overlap, each in its lane by the numbers of the lanes.
+fn in_lanes(elements: &[Element], due: &[usize]) {
+    let (lanes, bars) = (boxes_of(elements, true), boxes_of(elements, false));
+    assert_eq!(bars.len(), due.len());
+    for (place, (bar, lane)) in bars.iter().zip(due).enumerate() {
+        let lane = lanes[*lane];
+        let inside = lane[1] <= bar[1] && bar[1] + bar[3] <= lane[1] + lane[3];
+        assert!(inside, "bar {place}: {bar:?} in {lane:?}");
+        for other in &bars[..place] {
+            let beside = bar[0] + 0.15 >= other[0] + other[2] || other[0] + 0.15 >= bar[0] + bar[2];
+            assert!(beside || bar[1] != other[1], "{bar:?} {other:?}");
+        }
+    }
+    for (one, next) in lanes.iter().zip(lanes.iter().skip(1)) {
+        assert!(
+            (one[1] + one[3] - next[1]).abs() < 0.2,
+            "lanes follow one another"
+        );
+    }
+}
+
+/// A tour: lanes are places in their order, and a bar begins where the clock stood and ends where it stands.
+#[test]
+fn lanes_and_a_clock() {
+    let text = std::fs::read_to_string(example("tsptw.dp")).unwrap();
+    let plain = view("plain", &text, &[]);
+    assert!(boxes_of(&plain, true).is_empty());
+    let both = view("both", &text, &["--lane=at", "--clock=time"]);
+    // The plan visits p2, p3, p1 and returns home, with the clock at 4, 8, 12 and 15. Lanes are home, p1, p2, p3.
+    in_lanes(&both, &[0, 1, 2, 3]);
+    let scale = 680.0 / 15.0;
+    let bars = boxes_of(&both, false);
+    let due = [(12.0, 15.0), (8.0, 12.0), (0.0, 4.0), (4.0, 8.0)];
+    for (bar, (from, to)) in bars.iter().zip(due) {
+        assert!((bar[0] - bars[2][0] - from * scale).abs() < 0.2);
+        assert!((bar[2] - (to - from) * scale).abs() < 0.2);
+    }
+    let says = |elements: &[Element], words: &str| {
+        elements
+            .iter()
+            .any(|element| element.tag == "text" && element.text.contains(words))
+    };
+    assert!(says(
+        &both,
+        "The line is time at the end. A lane is a value of at."
+    ));
+    let lanes = view("lanes", &text, &["--lane", "at"]);
+    assert!(says(&lanes, "Cost from the start"));
+    in_lanes(&lanes, &[0, 1, 2, 3]);
+}
+
+/// Long names, steps that take nothing, clocks that go back or below 0, and many steps in one lane.
+#[test]
+fn crowded_lanes() {
+    let costs: Vec<u64> = (0..60).map(|place| place * 7 % 5).collect();
+    for rule in ["sum", "largest"] {
+        let text = chain(rule, &costs);
+        let one_lane = text.replace("number n = 0", "number n = 0\nelement at of 2 = 0");
+        in_lanes(
+            &view(&format!("crowd-{rule}"), &one_lane, &["--lane=at"]),
+            &[0; 60],
+        );
+        let own: Vec<usize> = (0..60).collect();
+        in_lanes(
+            &view(&format!("own-{rule}"), &text, &["--lane=n", "--clock=n"]),
+            &own,
+        );
+    }
+    let back = "cost sum\nnumber t = 5\nelement at of 3 = 0\n\
+        transition one:\n when at = 0\n cost 1\n t := -40\n at := 1\n\
+        transition two:\n when at = 1\n cost 1\n t := 1000000\n at := 2\nbase:\n when at = 2\n";
+    in_lanes(&view("back", back, &["--lane=at", "--clock=t"]), &[0, 1]);
+    assert_eq!(
+        boxes_of(&view("back-rows", back, &["--clock=t"]), false).len(),
+        2
+    );
+    let nothing = designs_with("= {a, b, c}", "= {}");
+    assert!(boxes_of(&view("nothing", &nothing, &["--lane=at"]), false).is_empty());
+}
+
+#[test]
+fn views_that_cannot_be() {
+    let designs = example("three-designs.dp");
+    let svg = file("view-wrong.svg", b"");
+    let complains = |options: &[&str], words: &str| {
+        let mut arguments = vec!["explain"];
+        arguments.extend(options);
+        arguments.push(&designs);
+        run(&arguments).complains(2, words);
+    };
+    complains(
+        &["--svg", &svg, "--lane=where"],
+        "--lane: the model has no variable `where`; it has todo, at",
+    );
+    complains(
+        &["--svg", &svg, "--clock=at"],
+        "--clock: `at` is no number, and a clock is one",
+    );
+    complains(
+        &["--lane=at"],
+        "--lane is for a chart: --svg or --html is due",
+    );
+    complains(&["--clock=at"], "--clock is for a chart");
+    // Of a model that is refused no variable is known.
+    let cut = file("view-cut.model", &[1, 0]);
+    assert_eq!(
+        run(&["explain", "--svg", &svg, "--lane=at", &cut]).status,
+        1
     );
 }

@@ -22,7 +22,7 @@ const COMMANDS: [&[&str]; 4] = [
 ];
 
 /// Random bytes, a damaged model, or a model as it was made.
-fn corpus(random: &mut Random) -> Vec<u8> {
+pub fn corpus(random: &mut Random) -> Vec<u8> {
     match random.below(6) {
         0 => (0..random.below(200))
             .map(|_| random.word() as u8)

@@ -1,31 +1,20 @@
 //! What is proved of each verdict, and what a stopped or contradicted run leaves open.
 
-use crate::command::declarations::NOTHING_DECLARED;
 use crate::command::input::Source;
 use crate::command::known::Known;
 use crate::command::part::Part;
 use crate::command::settings::{Run, Settings};
 use crate::command::target;
-use crate::command::words::{counted, grouped};
+use crate::command::theorems::{
+    A_PLAN, CHEAPEST, CONTRADICTED, NOTHING_DECLARED, NO_PLAN, PLAN_CHECK, STOPPED,
+};
+use crate::command::words::{capital, counted, grouped};
 use crate::numbers::{limit, verdict};
 use crate::proved;
-
-/// The theorems of docs/AUDIT.md.
-const A_PLAN: &str = "a-plan-given-is-a-plan";
-const CHEAPEST: &str = "cheapest-costs-no-more";
-const NO_PLAN: &str = "no-plan-means-none";
-const STOPPED: &str = "stopped-bound-below-every-plan";
-const CONTRADICTED: &str = "contradicted-only-if-false";
 
 /// What is said below sentences that cite theorems.
 const THEOREMS: &str =
     "The theorems in brackets are those of docs/AUDIT.md, which says what they rest on.";
-
-/// The sentence with a capital letter at its front.
-fn capital(sentence: &str) -> String {
-    let (first, rest) = sentence.split_at(1);
-    format!("{}{rest}", first.to_uppercase())
-}
 
 /// What the mark stands on, each sentence with its theorem.
 pub fn proved(known: &Known, run: &Run) -> Part {
@@ -183,6 +172,9 @@ pub fn checked_again(source: &Source, run: &Run) -> Part {
     ));
     if (answer, cost) == (0, run.answer.cost) {
         part.say("The plan passes, at the cost that the search states.");
+        part.say(format!(
+            "A sequence of at most 256 steps passes exactly if it is a plan, and with its cost [{PLAN_CHECK}]."
+        ));
     } else {
         part.say("This disagrees with the search: please report it.");
     }

@@ -41,8 +41,39 @@ pub fn last_state(model: &Model, stages: &[Stage]) -> State {
     last.map_or_else(|| model.target(), |stage| stage.state.clone())
 }
 
-/// Columns of text, each as wide as its widest cell; the marked ones end together, the rest begin together.
-fn columns(rows: &[[String; 5]], right: [bool; 5]) -> Vec<String> {
+/// The columns of the table of steps, and which of them have numbers.
+pub const HEADINGS: [&str; 5] = ["step", "cost", "so far", "transition", "what changes"];
+pub const NUMBERS: [bool; 5] = [true, true, true, false, false];
+
+/// What is said below a table of steps.
+pub const OUTSIDE: &str =
+    "Costs and states are from the independent implementation, which is tested and not proved.";
+
+/// The start and each step, with costs and what changes.
+pub fn rows(known: &Known, stages: &[Stage]) -> Vec<[String; 5]> {
+    let mut before = known.model.target();
+    let mut rows = vec![[
+        "start".to_string(),
+        String::new(),
+        "0".to_string(),
+        String::new(),
+        known.state(&before),
+    ]];
+    for (place, stage) in stages.iter().enumerate() {
+        rows.push([
+            (place + 1).to_string(),
+            grouped(stage.cost as u64),
+            grouped(stage.total as u64),
+            known.transition(usize::from(stage.number)),
+            known.changes(&before, &stage.state),
+        ]);
+        before = stage.state.clone();
+    }
+    rows
+}
+
+/// Columns of text, each as wide as its widest cell; those of numbers end together, the rest begin together.
+fn columns(rows: &[[String; 5]]) -> Vec<String> {
     let widest = |column: usize| {
         let widths = rows.iter().map(|row| row[column].chars().count());
         widths.max().unwrap_or(0)
@@ -50,7 +81,7 @@ fn columns(rows: &[[String; 5]], right: [bool; 5]) -> Vec<String> {
     let widths: Vec<usize> = (0..5).map(widest).collect();
     let cell = |row: &[String; 5], column: usize| {
         let (text, width) = (&row[column], widths[column]);
-        if right[column] {
+        if NUMBERS[column] {
             format!("{text:>width$}")
         } else {
             format!("{text:<width$}")
@@ -64,42 +95,15 @@ fn columns(rows: &[[String; 5]], right: [bool; 5]) -> Vec<String> {
 }
 
 /// A table of the steps with their costs and states.
-pub fn part(heading: &'static str, known: &Known, steps: &[u8]) -> Part {
+pub fn part(heading: &'static str, known: &Known, stages: Option<&[Stage]>) -> Part {
     let mut part = Part::new(heading);
-    let Some(stages) = follow(&known.model, steps) else {
+    let Some(stages) = stages else {
         part.say("The independent implementation cannot follow these steps. One of the two is wrong: please report it.");
         return part;
     };
-    let words = |words: [&str; 5]| words.map(str::to_string);
-    let mut rows = vec![words([
-        "step",
-        "cost",
-        "so far",
-        "transition",
-        "what changes",
-    ])];
-    rows.push([
-        "start".to_string(),
-        String::new(),
-        "0".to_string(),
-        String::new(),
-        known.state(&known.model.target()),
-    ]);
-    let mut before = known.model.target();
-    for (place, stage) in stages.iter().enumerate() {
-        let number = usize::from(stage.number);
-        rows.push([
-            (place + 1).to_string(),
-            grouped(stage.cost as u64),
-            grouped(stage.total as u64),
-            known.transition(number),
-            known.changes(&before, &stage.state),
-        ]);
-        before = stage.state.clone();
-    }
-    part.lines = columns(&rows, [true, true, true, false, false]);
-    part.say(
-        "Costs and states are from the independent implementation, which is tested and not proved.",
-    );
+    let mut table = vec![HEADINGS.map(str::to_string)];
+    table.extend(rows(known, stages));
+    part.rows = columns(&table);
+    part.say(OUTSIDE);
     part
 }

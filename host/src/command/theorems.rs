@@ -1,0 +1,78 @@
+//! The theorems that answers cite, as docs/AUDIT.md names them.
+
+/// A theorem: its name, what it says in a sentence, and the file where it stands.
+pub struct Theorem {
+    pub name: &'static str,
+    pub says: &'static str,
+    pub file: &'static str,
+}
+
+pub const A_PLAN: &str = "a-plan-given-is-a-plan";
+pub const CHEAPEST: &str = "cheapest-costs-no-more";
+pub const NO_PLAN: &str = "no-plan-means-none";
+pub const STOPPED: &str = "stopped-bound-below-every-plan";
+pub const CONTRADICTED: &str = "contradicted-only-if-false";
+pub const BROKEN_TARGET: &str = "no-plan-from-broken-target";
+pub const BROKEN_TARGET_ANSWER: &str = "broken-target-has-no-plan";
+pub const NOTHING_DECLARED: &str = "nothing-declared-is-true";
+pub const PLAN_CHECK: &str = "plan-check-exact";
+
+const MISSION: &str = "crates/search/proofs/Mission.antt";
+
+/// All of them.
+pub const THEOREMS: [Theorem; 9] = [
+    Theorem {
+        name: A_PLAN,
+        says: "Under every verdict a plan given is a plan of the model, at the cost stated.",
+        file: MISSION,
+    },
+    Theorem {
+        name: CHEAPEST,
+        says: "Where the mark is cheapest a plan is given, and if the declarations are true every plan of the model costs at least as much, of whatever length.",
+        file: MISSION,
+    },
+    Theorem {
+        name: NO_PLAN,
+        says: "Where the mark is no plan and the declarations are true, the model has none, of whatever length.",
+        file: MISSION,
+    },
+    Theorem {
+        name: STOPPED,
+        says: "The bound of a stopped run is at most the cost of every plan, if the declarations are true.",
+        file: MISSION,
+    },
+    Theorem {
+        name: CONTRADICTED,
+        says: "The mark contradicted is given only if a declaration is false.",
+        file: MISSION,
+    },
+    Theorem {
+        name: BROKEN_TARGET,
+        says: "A model whose target breaks a constraint has no plan, whatever it declares.",
+        file: MISSION,
+    },
+    Theorem {
+        name: BROKEN_TARGET_ANSWER,
+        says: "Where the target breaks a constraint the answer is no plan, without an expansion, in one round.",
+        file: MISSION,
+    },
+    Theorem {
+        name: NOTHING_DECLARED,
+        says: "The declarations of a model without bounds and preferences are true.",
+        file: "crates/model/proofs/Declared.antt",
+    },
+    Theorem {
+        name: PLAN_CHECK,
+        says: "A sequence of at most 256 steps passes the plan check exactly if it is a plan of the model, and with its cost.",
+        file: MISSION,
+    },
+];
+
+/// The theorems that a sentence cites in brackets, in the order of the sentence.
+pub fn cited(sentence: &str) -> Vec<&'static Theorem> {
+    let brackets = sentence.split('[').skip(1);
+    let names = brackets.filter_map(|rest| rest.split_once(']'));
+    names
+        .filter_map(|(name, _)| THEOREMS.iter().find(|theorem| theorem.name == name))
+        .collect()
+}

@@ -1,0 +1,125 @@
+"""The proved library, by ctypes on librepgypsum.so."""
+
+from __future__ import annotations
+
+import ctypes
+import ctypes.util
+import os
+from dataclasses import dataclass
+from pathlib import Path
+from typing import List, Optional, Tuple
+
+from .errors import MissingLibrary
+from .numbers import MOST_STEPS, MOST_WIDTH, words_needed
+
+#: The environment variable that names the shared library.
+LIBRARY = "REPGYPSUM_LIBRARY"
+
+_NAME = "librepgypsum.so"
+
+
+class Fields(ctypes.Structure):
+    """`struct repgypsum_answer` of the header."""
+
+    _fields_ = [
+        ("refused", ctypes.c_uint32),
+        ("verdict", ctypes.c_uint32),
+        ("flag", ctypes.c_uint64),
+        ("cost", ctypes.c_uint64),
+        ("bound", ctypes.c_uint64),
+        ("length", ctypes.c_uint64),
+        ("expansions", ctypes.c_uint64),
+        ("rounds", ctypes.c_uint64),
+        ("width", ctypes.c_uint64),
+    ]
+
+
+@dataclass(frozen=True)
+class Found:
+    """What a search returns, its fields as docs/FORMAT.md has them ("Answer"), and the steps at the front of the plan buffer."""
+
+    refused: bool
+    number: int
+    plan_given: bool
+    cost: int
+    bound: int
+    length: int
+    expansions: int
+    rounds: int
+    width: int
+    plan: bytes
+
+
+def places() -> List[str]:
+    """Where the library is looked for, in this order."""
+    named = os.environ.get(LIBRARY)
+    if named:
+        return [named]
+    root = Path(__file__).resolve().parent
+    beside = [root / _NAME, root.parents[1] / "target" / "shared" / _NAME]
+    found = [str(path) for path in beside if path.exists()]
+    system = ctypes.util.find_library("repgypsum")
+    return found + [system or _NAME]
+
+
+_loaded: Optional[ctypes.CDLL] = None
+
+
+def library() -> ctypes.CDLL:
+    """The library, loaded once."""
+    global _loaded
+    if _loaded is not None:
+        return _loaded
+    last: Optional[OSError] = None
+    for place in places():
+        try:
+            _loaded = _typed(ctypes.CDLL(place))
+            return _loaded
+        except OSError as error:
+            last = error
+    raise MissingLibrary(f"{_NAME} is not found: `make install` puts it in its place, or name it in {LIBRARY} ({last})")
+
+
+def _typed(found: ctypes.CDLL) -> ctypes.CDLL:
+    byte, word, size = ctypes.c_char_p, ctypes.c_void_p, ctypes.c_size_t
+    number = ctypes.c_uint32
+    found.repgypsum_search.argtypes = [byte, size, number, number, number, word, size, word, size]
+    found.repgypsum_search.restype = Fields
+    found.repgypsum_check_answer.argtypes = [byte, size, byte, size]
+    found.repgypsum_check_answer.restype = ctypes.c_uint8
+    found.repgypsum_check_cost.argtypes = [byte, size, byte, size]
+    found.repgypsum_check_cost.restype = ctypes.c_uint64
+    return found
+
+
+def fits(width: int, length: int) -> bool:
+    """Whether a search can have these settings."""
+    return 1 <= width <= MOST_WIDTH and width & (width - 1) == 0 and 1 <= length <= MOST_STEPS
+
+
+def _setting(name: str, value: int) -> int:
+    if isinstance(value, bool) or not isinstance(value, int) or not 0 <= value < 2**32:
+        raise ValueError(f"{name} is a whole number from 0 to {2**32 - 1}, not {value!r}")
+    return value
+
+
+def search(model: bytes, width: int, length: int, budget: int) -> Found:
+    """The proved search, with buffers of the sizes due; settings that it refuses are lent nothing."""
+    width, length = _setting("width", width), _setting("length", length)
+    budget = _setting("budget", budget)
+    lent = (length, words_needed(width, length)) if fits(width, length) else (0, 0)
+    plan = (ctypes.c_uint8 * lent[0])()
+    words = (ctypes.c_uint64 * lent[1])()
+    call = library().repgypsum_search
+    got = call(model, len(model), width, length, budget, plan, lent[0], words, lent[1])
+    same = ("cost", "bound", "length", "expansions", "rounds", "width")
+    fields = {name: getattr(got, name) for name in same}
+    steps = bytes(plan[: got.length])
+    return Found(refused=got.refused == 1, number=got.verdict, plan_given=got.flag == 1, plan=steps, **fields)
+
+
+def check(model: bytes, plan: bytes) -> Tuple[int, int]:
+    """The proved plan check: 0 exactly for a plan, else the refusal's number; and the plan's cost, else 0."""
+    found = library()
+    answer = found.repgypsum_check_answer(model, len(model), plan, len(plan))
+    return answer, found.repgypsum_check_cost(model, len(model), plan, len(plan))

@@ -1,0 +1,134 @@
+"""Answers: every verdict and refusal with its name, plans by number, name and transition, and the states along them."""
+
+import json
+import subprocess
+import threading
+import unittest
+from typing import Dict, List, Tuple
+
+import repgypsum as rg
+from repgypsum import Model, Transition, library, program
+
+from .examples import EXAMPLES, three_designs
+from .surroundings import needs_library, needs_program
+
+
+def stepping(bound: int = 0, cost: int = 1) -> Model:
+    """From 0 to 3 by ones, at a cost each, with a bound."""
+    model = Model()
+    x = model.add_int_var(0, name="x")
+    model.add_transition(Transition("one", cost=x * 0 + cost, preconditions=[x < 3], effects=[(x, x + 1)]))
+    model.add_base_case([x == 3])
+    model.add_dual_bound(bound)
+    return model
+
+
+def answers() -> List[Tuple[Model, Dict[str, int]]]:
+    """Runs with every verdict, and with refusals."""
+    designs = three_designs()
+    blocked = stepping()
+    blocked.add_state_constr(blocked.variables[0] < 3)
+    divided = Model()
+    x = divided.add_int_var(0)
+    divided.add_transition(Transition(cost=1 // x, effects=[(x, x + 1)]))
+    return [
+        (designs, {}),
+        (blocked, {}),
+        (designs, {"width": 1}),
+        (stepping(), {"length": 2}),
+        (stepping(), {"budget": 0}),
+        (stepping(bound=9), {}),
+        (designs, {"width": 3}),
+        (designs, {"length": 0}),
+        (stepping(cost=-1), {}),
+        (divided, {}),
+    ]
+
+
+@needs_library
+class Answers(unittest.TestCase):
+    def test_verdicts_and_refusals(self) -> None:
+        found = [(answer.refused, answer.number) for answer in (model.plan(**given) for model, given in answers())]
+        verdicts = [(False, number) for number in range(6)]
+        self.assertEqual(found, verdicts + [(True, 2), (True, 2), (True, 13), (True, 12)])
+
+    @needs_program
+    def test_names_and_fields_are_those_of_the_program(self) -> None:
+        for model, given in answers():
+            answer = model.plan(**given)
+            options = [f"--{name}={value}" for name, value in given.items()]
+            line = [program.program(), "plan", "--json", *options]
+            said = json.loads(subprocess.run(line, input=model.to_bytes(), capture_output=True, check=False).stdout)
+            for name in ["refused", "number", "name", "cost", "bound", "length", "expansions", "rounds", "width"]:
+                self.assertEqual(getattr(answer, name), said["answer"][name], name)
+            self.assertEqual(answer.plan_given, said["answer"]["plan"])
+            self.assertEqual(answer.line, said["line"])
+            self.assertEqual(list(answer.plan), [step["number"] for step in said["steps"]])
+
+    def test_settings_that_are_no_numbers(self) -> None:
+        for wrong in [-1, 2**32, 1.5, True]:
+            with self.assertRaises(ValueError):
+                three_designs().plan(width=wrong)  # type: ignore[arg-type]
+
+    def test_what_an_answer_shows(self) -> None:
+        answer = three_designs().plan()
+        self.assertEqual(str(answer), "cheapest, cost 7, bound 7: load a, load b, load c")
+        self.assertTrue(answer.is_optimal)
+        self.assertFalse(answer.is_infeasible)
+        self.assertEqual((answer.best_bound, answer.expanded), (7, 14))
+        stopped = stepping().plan(budget=0)
+        self.assertEqual(str(stopped), "budget spent, no plan is given, bound 0")
+        self.assertEqual(str(three_designs().plan(width=3)), "refused 2, setting out of range")
+        refused = stepping(cost=-1).plan()
+        self.assertEqual((refused.steps, refused.plan), ((), b""))
+
+    def test_plans_in_every_form(self) -> None:
+        model = three_designs()
+        a, b, c = model.transitions
+        for plan in [[0, 1, 2], ["load a", "load b", "load c"], [a, b, c], bytes([0, 1, 2]), [a, 1, "load c"]]:
+            self.assertEqual(model.check(plan), rg.Checked(0, 7))
+        wrong = model.check([0, 1])
+        self.assertEqual((wrong.is_plan, wrong.number, wrong.cost, wrong.name), (False, 14, 0, "not a plan"))
+        self.assertFalse(model.check([9]))
+        self.assertEqual(model.check([0] * 257).number, 2)
+        for step in ["load z", 256, -1, three_designs().transitions[0], Transition("x")]:
+            with self.assertRaises(rg.ModelError):
+                model.check([step])
+
+    def test_states(self) -> None:
+        model = three_designs()
+        state = model.target_state
+        self.assertEqual(state[model.variables[0]], frozenset("abc"))
+        self.assertEqual(str(state), "todo = {a, b, c}, at = none")
+        state = model.after("load b", state)
+        self.assertEqual((state["todo"], state["at"]), (frozenset("ac"), "b"))
+        self.assertEqual(state, model.after(1, model.target_state))
+        with self.assertRaises(KeyError):
+            state["nothing"]
+
+    def test_threads(self) -> None:
+        """Calls at the same time give what each gives alone."""
+        due = {name: build().plan().line for name, build in EXAMPLES.items()}
+        found: List[Tuple[str, str]] = []
+
+        def plan(name: str) -> None:
+            found.append((name, EXAMPLES[name]().plan().line))
+
+        threads = [threading.Thread(target=plan, args=(name,)) for name in list(EXAMPLES) * 5]
+        for one in threads:
+            one.start()
+        for one in threads:
+            one.join()
+        self.assertEqual(len(found), 30)
+        self.assertTrue(all(due[name] == line for name, line in found))
+
+    def test_damaged_bytes_are_refused(self) -> None:
+        model = three_designs().to_bytes()
+        self.assertEqual(library.search(model[:-1], 16, 64, 100).number, 4)
+        self.assertEqual(library.search(b"", 16, 64, 100).number, 4)
+        self.assertEqual(library.check(model + b"\x00", b"\x00")[0], 9)
+        self.assertEqual(library.search(bytes(65_537), 16, 64, 100).number, 1)
+
+
+if __name__ == "__main__":
+    unittest.main()
