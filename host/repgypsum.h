@@ -13,7 +13,8 @@
  * Threads: there is no shared state. Nothing is allocated, nothing is kept between calls, and no variable outlives one; calls with
  * buffers of their own may run at the same time.
  *
- * Stack: a call takes less than 32 kilobytes (measured: some 20, host/tests/stack.rs), whatever the model.
+ * Stack: a call takes less than 48 kilobytes (measured: some 40, host/tests/stack.rs), whatever the model; 20.8 are the outline of
+ * the model and what is prepared of it, 2,601 words.
  *
  * What is proved of the functions stands in docs/AUDIT.md; this header stands outside the proofs.
  */

@@ -9,7 +9,7 @@ use beam::layer::LAYER_END;
 use beam::layer::empty;
 use beam::layer::insert;
 use model::length_fits;
-use read_model::read_model;
+use prepare::read_and_prepare;
 
 // The next of a row of numbers below 2^32.
 fn next(x: u64) -> u64
@@ -102,8 +102,8 @@ pub extern "C" fn repgypsum_insertions(
     if length_fits(model.len()) {
         let w = width as usize;
         if layer_fits(w, words.len()) {
-            let mut outline = [0u64; 424];
-            let refusal = read_model(model, &mut outline);
+            let mut outline = [0u64; 2601];
+            let refusal = read_and_prepare(model, &mut outline);
             if refusal == 0 {
                 return offer_children(
                     words,

@@ -126,7 +126,7 @@ sum-same f g h [] = refl
 sum-same f g h (i ∷ l) = rw (h i, sum-same f g h l)
 
 -- the parts of a packed word
-unpacked : (at columns cells : ℕ) → at < 131072 → columns < 128 → cells < 8192
+pub unpacked : (at columns cells : ℕ) → at < 131072 → columns < 128 → cells < 8192
     → (columnsOf (tableWord at columns cells) ≡ columns) × (cellsOf (tableWord at columns cells) ≡ cells) × (atOf (tableWord at columns cells) ≡ at)
 unpacked at columns cells a b c = (omega arith, omega arith, omega arith)
 

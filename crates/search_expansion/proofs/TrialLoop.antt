@@ -1,15 +1,16 @@
 -- The transitions of a node, one after the other: what is left of the expansion after the first t of them.
 use Prim.Native.Nat.{ℕ, suc, _+_, _-_, _≤_, _<_}
-use mathlib.Core.Path.{_≡_, refl, ap, subst, _∙_}
-use mathlib.Core.Bool.{Bool, false, _||_, or-assoc}
+use mathlib.Core.Path.{_≡_, refl, sym, ap, subst, _∙_}
+use mathlib.Core.Bool.{Bool, false, _||_, or-assoc, or-false}
 use mathlib.Core.List.{List}
 use native.Mathlib.Omega.{arith}
 use native.Mathlib.Numerals.{add-one}
 use lib.ListN.{length}
+use Rattle.model.specs.System.{blocked}
 use Rattle.model.specs.Meaning.{State}
 use Rattle.search.specs.Search as definition
 use Rattle.search.specs.Search.{Node, Round, Result, andThen}
-use Rattle.steps.specs.InBytes.{systemIn}
+use Rattle.steps.specs.InBytes.{Outlined, stateIn, systemIn}
 use Rattle.steps.specs.Follow.{costsIn}
 use Rattle.beam.specs.Nodes.{nodeAt}
 use Rattle.beam.specs.Layers.{nodesOf, Indexed, roundWith}
@@ -17,7 +18,7 @@ use Rattle.beam.proofs.Mapped.{round-same}
 use Rattle.search_expansion.specs.declared.trials.Trial.the-variants as T
 use Rattle.search_expansion.specs.declared.trials.Expanded.{Expanded}
 use Rattle.search_expansion.specs.Expansion.{BestIs, Numbered, trialResult, Grows}
-use Rattle.search_expansion.proofs.TrialSteps.{triedBy}
+use Rattle.search_expansion.proofs.TrialSteps.{triedBy, left-alone}
 
 -- a round with other nodes twice, and marked if one of the two was cut
 round-twice : (a b : List (Node State ℕ)) (c d : Bool) (r : Round State ℕ) → roundWith b d (roundWith a c r) ≡ roundWith b (c || d) r
@@ -94,3 +95,7 @@ module _ (bytes outline : List ℕ) (w n i : ℕ) (has : Bool) (best : ℕ) (nod
       pub expanded-at : {e c u : ℕ} → x .trial ≡ T.At e c u → Grows bytes outline w n i has best node layer layer″ (record { count = x .count; cut = marked; trial = T.At e c u }) expandBy
       unfolding trialResult andThen
       expanded-at e = record { held = grown .held; numbered = subst Numbered e (grown .numbered); same = λ path r k b. rw e at (next path r k b) }
+
+    -- a transition that is blocked is passed over
+    pub expanding-past : Outlined bytes outline → t < systemIn bytes .transitions → systemIn bytes .move (stateIn bytes node) t ≡ blocked → Expanding layer′ count cut (t + 1)
+    expanding-past o h e = expanding-more h (left-alone o w count i has best node layer′ t e (so-far .held)) (sym (or-false cut)) refl refl

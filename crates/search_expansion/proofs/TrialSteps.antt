@@ -9,7 +9,7 @@ use lib.ListN.{length, take, getD, set, length-set}
 use lib.Seq.{getD-take, getD-set-same, getD-set-other}
 use Rattle.model.specs.Numbers.{rangeEnd}
 use Rattle.model.specs.Values.{Value, value, trouble}
-use Rattle.model.specs.System.{moved}
+use Rattle.model.specs.System.{blocked, moved}
 use Rattle.model.specs.Meaning.{State}
 use Rattle.search.specs.Search as definition
 use Rattle.search.specs.Search.{Node, Route, Round, Result, less, belowBest}
@@ -163,17 +163,21 @@ module _ {bytes outline : List ℕ} (o : Outlined bytes outline) (w n i : ℕ) (
 
   -- ---- a step
 
-  module _ {child : List ℕ} {q : MoveAnswer} (says : MoveSays bytes node t child q) where
-    front : stateIn bytes (take 16 node) ≡ stateIn bytes node
-    front = state-front o node
+  front : stateIn bytes (take 16 node) ≡ stateIn bytes node
+  front = state-front o node
 
+  -- a blocked transition leaves everything as it is
+  pub left-alone : systemIn bytes .move (stateIn bytes node) t ≡ blocked → Indexed outline w n layer → Grows bytes outline w n i has best node layer layer (record { count = n; cut = false; trial = T.On }) (triedBy bytes w t)
+  unfolding definition.tried trialResult nodeAt
+  left-alone e held = record {
+    held = held;
+    numbered = tt;
+    same = λ path r k best-is. rw (front, e) (ap (λ (q : Round State ℕ). definition.on q) (round-same r (nodesOf w layer bytes path n) k));
+  }
+
+  module _ {child : List ℕ} {q : MoveAnswer} (says : MoveSays bytes node t child q) where
     pub tried-blocked : q ≡ M.Blocked → Indexed outline w n layer → Grows bytes outline w n i has best node layer layer (record { count = n; cut = false; trial = T.On }) (triedBy bytes w t)
-    unfolding definition.tried trialResult nodeAt
-    tried-blocked e held = record {
-      held = held;
-      numbered = tt;
-      same = λ path r k best-is. rw (front, is-blocked _ (sym (says .answer) ∙ e)) (ap (λ (q : Round State ℕ). definition.on q) (round-same r (nodesOf w layer bytes path n) k));
-    }
+    tried-blocked e held = left-alone (is-blocked _ (sym (says .answer) ∙ e)) held
 
     pub tried-before : {e : ℕ} → q ≡ M.Before e → Indexed outline w n layer → Grows bytes outline w n i has best node layer layer (record { count = n; cut = false; trial = T.Before e }) (triedBy bytes w t)
     unfolding definition.tried definition.refuse definition.routeTo trialResult nodeAt roundWith

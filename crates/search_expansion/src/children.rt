@@ -21,6 +21,7 @@ use steps::answers::BoundAnswer;
 use steps::answers::MoveAnswer;
 use steps::bounds::bound;
 use steps::check::combine;
+use steps::moves::allowed;
 use steps::moves::step;
 use steps::moves::transitions;
 
@@ -152,7 +153,7 @@ pub fn either(a: bool, b: bool) -> bool
     if a { true } else { b }
 }
 
-// Expands the node of slot i into the layer in the making.
+// Expands the node of slot i into the layer in the making. A transition that is not allowed is blocked, and not tried.
 pub fn expand(
     layer: &mut [u64],
     model: &[u8],
@@ -172,28 +173,32 @@ pub fn expand(
     let mut cut = false;
     let mut t: usize = 0;
     while t < all {
-        let x = try_transition(layer, model, outline, w, count, found, best, node, i, t);
-        count = x.count;
-        cut = either(cut, x.cut);
-        let trial = x.trial;
-        match trial {
-            Trial::On => {
-                t += 1;
+        if allowed(model, outline, node, t) {
+            let x = try_transition(layer, model, outline, w, count, found, best, node, i, t);
+            count = x.count;
+            cut = either(cut, x.cut);
+            let trial = x.trial;
+            match trial {
+                Trial::On => {
+                    t += 1;
+                }
+                Trial::Before(e) => {
+                    return Expanded {
+                        count: count,
+                        cut: cut,
+                        trial: Trial::Before(e),
+                    };
+                }
+                Trial::At(e, c, u) => {
+                    return Expanded {
+                        count: count,
+                        cut: cut,
+                        trial: Trial::At(e, c, u),
+                    };
+                }
             }
-            Trial::Before(e) => {
-                return Expanded {
-                    count: count,
-                    cut: cut,
-                    trial: Trial::Before(e),
-                };
-            }
-            Trial::At(e, c, u) => {
-                return Expanded {
-                    count: count,
-                    cut: cut,
-                    trial: Trial::At(e, c, u),
-                };
-            }
+        } else {
+            t += 1;
         }
     }
     Expanded {

@@ -8,7 +8,7 @@ ghost use Rattle.steps.specs.InBytes.{Outlined, systemIn, targetIn};
 ghost use Rattle.search_rounds.specs.Rounds.{RoomFor};
 ghost use Rattle.search_report.specs.Answers.{AnswerIs, numbersOf, outcomeOf};
 ghost use Rattle.solver.specs.Searches.{Searched, settings, lentOf, SearchSays, enteredOf, endedAtTarget};
-use read_model::read_model;
+use prepare::read_and_prepare;
 use search::length_fits;
 use search_report::answers::Answer;
 use search_report::answers::Outcome;
@@ -170,8 +170,8 @@ pub fn search_up_to(
         let w = width as usize;
         let l = limit as usize;
         if lent_fits(w, l, plan.len(), words.len()) {
-            let mut outline = [0u64; 424];
-            let number = read_model(model, &mut outline);
+            let mut outline = [0u64; 2601];
+            let number = read_and_prepare(model, &mut outline);
             if number == 0 {
                 return search_model(model, &outline, w, l, budget as u64, plan, words);
             }

@@ -20,7 +20,7 @@ use Rattle.words.specs.Signature.{kindByteOf, kindByte, Objects}
 use Rattle.outline.specs.Outline.{modelOf, preferenceNumber}
 use Rattle.steps.specs.InBytes.{Outlined, systemIn, stateIn}
 use Rattle.steps.specs.Order.{comparedWord, noWorseBy, noWorseAt}
-use Rattle.steps.proofs.Items.{Nth, nth-of}
+use Rattle.prepare.proofs.Items.{Nth, nth-of}
 use Rattle.steps.proofs.StateWords.{state-at}
 
 -- ---- two tests that agree

@@ -29,7 +29,7 @@ use Rattle.steps.specs.InBytes.{Outlined, stateIn, systemIn, targetIn}
 use Rattle.steps.specs.Answers.{statusAnswer, heldAnswer, moveAnswer}
 use Rattle.steps.specs.Says.{MoveSays}
 use Rattle.steps.specs.Follow.{costsIn, followIn, followFromIn, stepTried, finished, FollowsOn, CheckedIs}
-use Rattle.steps.proofs.Items.{none-beyond}
+use Rattle.prepare.proofs.Items.{none-beyond}
 use Rattle.steps.proofs.Trials.{all-held, one-fails, one-troubles}
 use Rattle.steps.proofs.Promises.{combined-at-most, step-cost-below}
 

@@ -1,11 +1,11 @@
 -- The hash of a state: a turn of its loop, and that a state that dominates another has the same hash.
-use Prim.Native.Nat.{ℕ, zero, suc, _+_, _/_, _-_, _^_, _≤_, _<_}
+use Prim.Native.Nat.{ℕ, zero, suc, _+_, _-_, _≤_, _<_}
 use mathlib.Core.Path.{_≡_, refl, ap, _∙_}
 use mathlib.Core.Bool.{Bool, true, false, cond}
 use mathlib.Core.List.{List}
 use native.Mathlib.Omega.{arith}
 use native.Mathlib.Numerals.{add-one}
-use borrow.Author.Tests.{eqb-true, eq-eqb, ne-eqb}
+use borrow.Author.Tests.{eqb-true}
 use lib.Dec.{leb, eqb}
 use lib.ListN.{length, getD, drop}
 use Rattle.laws.proofs.Bools.{and-both}
@@ -14,8 +14,8 @@ use Rattle.model.specs.Steps.{noneWorse, systemOf}
 use Rattle.outline.specs.Outline.{modelOf, variableCountAt, kindsFrom, preferencesFrom}
 use Rattle.steps.specs.InBytes.{Outlined, systemIn, stateIn}
 use Rattle.steps.specs.Order.{comparedWord, noWorseBy, noWorseAt}
-use Rattle.steps.specs.Hashes.{mix, mixUnless, mixAt, mixFrom, hashOf}
-use Rattle.steps.proofs.Items.{nth-of}
+use Rattle.steps.specs.Hashes.{mixWord, hashedWord, mixAt, mixFrom, hashOf}
+use Rattle.prepare.proofs.Items.{nth-of}
 use Rattle.steps.proofs.Dominance.{compared-at}
 
 -- ---- the loop
@@ -32,19 +32,11 @@ mix-end outline state n v m h =
     let e : n - v ≡ 0 = omega arith in
     rw e
 
-pub mix-kept : (p m x : ℕ) → (p ≡ 0 → ⊥) → m ≡ mixUnless p m x
-unfolding mixUnless
-mix-kept p m x n = rw (ne-eqb p 0 n)
-
-pub mix-both : (p m x : ℕ) → p ≡ 0 → mix (mix m x) (x / 4294967296) ≡ mixUnless p m x
-unfolding mixUnless
-mix-both p m x e = rw (eq-eqb p 0 e)
-
 -- ---- the same hash
 
 same-mix : (outline t s : List ℕ) (v m : ℕ) → noWorseAt outline v t s ≡ true → mixAt outline t v m ≡ mixAt outline s v m
-unfolding mixAt mixUnless noWorseAt noWorseBy
-same-mix outline t s v m = by-test (eqb (getD outline (preferencesFrom + v) 0) 0)
+unfolding mixAt hashedWord noWorseAt noWorseBy
+same-mix outline t s v m e = ap (mixWord m) (by-test (eqb (getD outline (preferencesFrom + v) 0) 0) e)
   where
     a : ℕ
     a = comparedWord (getD outline (kindsFrom + v) 0) (getD t v 0)
@@ -52,9 +44,8 @@ same-mix outline t s v m = by-test (eqb (getD outline (preferencesFrom + v) 0) 0
     b : ℕ
     b = comparedWord (getD outline (kindsFrom + v) 0) (getD s v 0)
 
-    by-test : (q : Bool) → cond q (eqb a b) (cond (eqb (getD outline (preferencesFrom + v) 0) 1) (leb a b) (leb b a)) ≡ true
-        → cond q (mix (mix m a) (a / 2 ^ 32)) m ≡ cond q (mix (mix m b) (b / 2 ^ 32)) m
-    by-test true e = ap (λ (x : ℕ). mix (mix m x) (x / 2 ^ 32)) (eqb-true a b e)
+    by-test : (q : Bool) → cond q (eqb a b) (cond (eqb (getD outline (preferencesFrom + v) 0) 1) (leb a b) (leb b a)) ≡ true → cond q a 0 ≡ cond q b 0
+    by-test true e = eqb-true a b e
     by-test false e = refl
 
 module _ (bytes outline : List ℕ) (o : Outlined bytes outline) (t s : List ℕ) where

@@ -1,8 +1,8 @@
 -- Laws that the proofs of the functions cite, and those that callers cite.
-pub mod Items
 pub mod StateWords
 pub mod Outlined
 pub mod Dominance
+pub mod Masks
 pub mod Hashing
 pub mod Readings
 pub mod Evaluated

@@ -1,20 +1,24 @@
 -- A transition's move from its parts: conditions, then cost and effects, then the new state's constraints.
-use Prim.Native.Nat.{ℕ, _+_, _≤_, _<_}
+use Prim.Native.Nat.{ℕ, _+_, _*_, _≤_, _<_}
 use mathlib.Core.Path.{_≡_, refl, sym, ap, _∙_}
-use mathlib.Core.Bool.{Bool, true, false}
+use mathlib.Core.Bool.{Bool, true, false, cond}
 use mathlib.Core.List.{List}
 use native.Mathlib.Omega.{arith}
-use lib.ListN.{length, getD}
+use lib.ListN.{length, getD, drop}
 use lib.IntN.{ℤ}
 use Rattle.laws.proofs.Lists.{byte-inside}
 use Rattle.model.specs.Numbers.{rangeEnd}
 use Rattle.model.specs.Values.{Value, value, trouble, _>>=_}
 use Rattle.model.specs.System.{blocked, moved, troubleBefore}
-use Rattle.model.specs.Syntax.{Transition, Model}
+use Rattle.model.specs.Readers.{read}
+use Rattle.model.specs.Syntax.{Condition, Transition, Model}
 use Rattle.model.specs.Commands.{transition}
 use Rattle.model.specs.Meaning.{State, numberValue, allHold}
 use Rattle.model.specs.Steps.{costOf, effects, Attempt, notTaken, taken, attempt, constrained, moveOf, moveBy, move, systemOf}
-use Rattle.outline.specs.Outline.{modelOf, transitionsFrom}
+use Rattle.outline.specs.Outline.{modelOf}
+use Rattle.prepare.specs.Layout.{guardsFrom}
+use Rattle.prepare.specs.Guards.{passes, guardIn}
+use Rattle.prepare.specs.Prepared.{TransitionAt}
 use Rattle.steps.specs.declared.answers.HeldAnswer.{HeldAnswer}
 use Rattle.steps.specs.declared.answers.HeldAnswer.the-variants as H
 use Rattle.steps.specs.declared.answers.CostAnswer.{CostAnswer}
@@ -27,8 +31,8 @@ use Rattle.steps.specs.declared.answers.MoveAnswer.{MoveAnswer}
 use Rattle.steps.specs.declared.answers.MoveAnswer.the-variants as M
 use Rattle.steps.specs.InBytes.{Outlined, stateIn, systemIn}
 use Rattle.steps.specs.Answers.{heldAnswer, costAnswer, effectsAnswer, attemptAnswer, moveAnswer}
-use Rattle.steps.specs.Says.{HeldSays, CostSays, EffectsRead, EffectsSays, AttemptSay, TakenSays, TakenRead, TransitionRead, AttemptSays, Tried, MoveSays}
-use Rattle.steps.proofs.Items.{Item, item-at, none-beyond}
+use Rattle.steps.specs.Says.{HeldSays, CostSays, EffectsRead, EffectsSays, AttemptSay, TakenSays, TakenRead, TransitionRead, AttemptSays, Tried, AllowedSays, MoveSays}
+use Rattle.prepare.proofs.Items.{Nth, nth-of, none-beyond}
 use Rattle.steps.proofs.Readings.{PartsAt, parts-at}
 use Rattle.steps.proofs.Trials.{constraintsIn, all-held, one-fails, one-troubles}
 
@@ -192,22 +196,71 @@ new-state end m c s (value true) e = cc
 new-state end m c s (value false) e = let z : _≡_ {A = ℕ} 0 1 = cc in absurd (omega arith)
 new-state end m c s (trouble t) e = let z : _≡_ {A = ℕ} 0 1 = cc in absurd (omega arith)
 
+-- ---- the guard
+
+-- a transition whose conditions a guard and others decide
+attempt-guarded : (end : ℕ) (m : Model) (x : Transition) (rest : List Condition) (s : State) (b : Bool)
+    → allHold end (m .tables) (x .conditions) s ≡ cond b (allHold end (m .tables) rest s) (value false)
+    → attempt end m x s ≡ cond b (attempt end m (record { conditions = rest; cost = x .cost; effects = x .effects }) s) (value notTaken)
+unfolding attempt _>>=_
+attempt-guarded end m x rest s true e = rw e
+attempt-guarded end m x rest s false e = rw e
+
+module _ (bytes words : List ℕ) (o : Outlined bytes words) (state : List ℕ) (t : ℕ) (h : t < length (modelOf bytes .transitions)) where
+  there : Nth (modelOf bytes .transitions) t
+  there = nth-of (modelOf bytes .transitions) t h
+
+  guarded : TransitionAt bytes words (modelOf bytes) t (there .nth)
+  guarded = o .prepared .guards t (there .nth) (there .found)
+
+  abbrev guardPasses : Bool
+  guardPasses = passes (guardIn words (guardsFrom + 4 * t)) state
+
+  -- the guard's four words are there
+  pub guard-within : guardsFrom + 4 * t + 4 ≤ length words
+  guard-within = omega (arith, h, o .long, o .outlines .few-transitions)
+
+  -- the transition that is read behind the guard
+  abbrev behind : Transition
+  behind = record { conditions = guarded .rest; cost = there .nth .cost; effects = there .nth .effects }
+
+  decided : attempt rangeEnd (modelOf bytes) (there .nth) (stateIn bytes state) ≡ cond guardPasses (attempt rangeEnd (modelOf bytes) behind (stateIn bytes state)) (value notTaken)
+  decided = attempt-guarded rangeEnd (modelOf bytes) (there .nth) (guarded .rest) (stateIn bytes state) guardPasses (guarded .decides state)
+
+  guard-blocks : false ≡ guardPasses → systemIn bytes .move (stateIn bytes state) t ≡ blocked
+  unfolding systemOf move moveBy moveOf
+  guard-blocks e =
+      let fails : attempt rangeEnd (modelOf bytes) (there .nth) (stateIn bytes state) ≡ value notTaken = decided ∙ rw (← e) in
+      rw (there .found, fails)
+
+  pub allowed-says : (r : Bool) → r ≡ guardPasses → AllowedSays bytes state t r
+  allowed-says r e f = guard-blocks (sym f ∙ e)
+
+  pub move-guarded : (child : List ℕ) → false ≡ guardPasses → MoveSays bytes state t child M.Blocked
+  unfolding moveAnswer
+  move-guarded child e =
+      let m = guard-blocks e in
+      record { answer = rw m; arrives = λ c u i. let z : _≡_ {A = ℕ} 0 1 = cc in absurd (omega arith) }
+
+  module _ {at : ℕ} (stands : at ≡ getD words (guardsFrom + 4 * t + 3) 0) where
+    stands-there : transition (modelOf bytes .variables) (modelOf bytes .tables) (drop at bytes) ≡ read behind (guarded .used)
+    unfolding guardIn
+    stands-there = rw stands (guarded .reads)
+
+    pub transition-read : TransitionRead bytes at
+    transition-read = record { item = behind; used = guarded .used; reads = stands-there }
+
+    pub tried : (child : List ℕ) (q : AttemptAnswer) → true ≡ guardPasses → AttemptSays bytes at state child q → Tried bytes state t child q
+    tried child q e says =
+        let same : attempt rangeEnd (modelOf bytes) (there .nth) (stateIn bytes state) ≡ attempt rangeEnd (modelOf bytes) behind (stateIn bytes state) = decided ∙ rw (← e) in
+        record { transition-of = there .nth; declared = there .found; says = rw same (says behind (guarded .used) stands-there) }
+
 -- ---- the move
 
-module _ (bytes words : List ℕ) (o : Outlined bytes words) (state : List ℕ) (t : ℕ) where
+module _ (bytes state : List ℕ) (t : ℕ) where
   pub move-undeclared : (child : List ℕ) → length (modelOf bytes .transitions) ≤ t → MoveSays bytes state t child M.Blocked
   unfolding systemOf move moveBy moveAnswer
   move-undeclared child h = let n = none-beyond (modelOf bytes .transitions) t h in record { answer = rw n; arrives = λ c u i. let z : _≡_ {A = ℕ} 0 1 = cc (rw n at i) in absurd (omega arith) }
-
-  module _ (h : t < length (modelOf bytes .transitions)) (at : ℕ) (stands : at ≡ getD words (transitionsFrom + t) 0) where
-    there : Item (transition (modelOf bytes .variables) (modelOf bytes .tables)) bytes (modelOf bytes .transitions) t at
-    there = item-at (o .outlines .transitions) h stands
-
-    pub transition-read : TransitionRead bytes at
-    transition-read = record { item = there .item; used = there .used; reads = there .reads }
-
-    pub tried : (child : List ℕ) (q : AttemptAnswer) → AttemptSays bytes at state child q → Tried bytes state t child q
-    tried child q says = record { transition-of = there .item; declared = there .found; says = says (there .item) (there .used) (there .reads) }
 
 module _ (bytes state : List ℕ) (t : ℕ) (child : List ℕ) (q : AttemptAnswer) (a : Tried bytes state t child q) where
   the-move : systemIn bytes .move (stateIn bytes state) t ≡ moveOf rangeEnd (modelOf bytes) (attempt rangeEnd (modelOf bytes) (a .transition-of) (stateIn bytes state))

@@ -18,6 +18,7 @@ use Rattle.model.proofs.Costs as costs
 use Rattle.model.proofs.Ranges as ranges
 use Rattle.model.proofs.Reading.{model-refusal}
 use Rattle.outline.specs.Outline.{modelOf, readModel, refusalOf}
+use Rattle.prepare.specs.Steps.{Ready}
 use Rattle.steps.specs.InBytes.{refusalIn, Outlined, systemIn, stateIn, targetIn, originIn}
 use Rattle.steps.specs.Follow.{costsIn}
 use Rattle.steps.specs.Hashes.{hashOf}
@@ -83,6 +84,10 @@ module _ (bytes : List ℕ) where
   pub origin-spent : originIn bytes .spent ≡ 0
   unfolding originOf
   origin-spent = refl
+
+-- words that the reading has made ready
+pub ready : {bytes outline : List ℕ} → Ready bytes outline → Outlined bytes outline
+ready r = record { outlines = r .room .outlines; prepared = r .prepared; long = r .room .long }
 
 module _ {bytes outline : List ℕ} (o : Outlined bytes outline) where
   pub few-transitions : systemIn bytes .transitions ≤ mostTransitions

@@ -1,5 +1,5 @@
--- Base cases, constraints and bounds by their number: what is left of them, and the answers at the end.
-use Prim.Native.Nat.{ℕ, _+_, _≤_, _<_}
+-- Base cases, conjuncts of the constraints and bounds by their number: what is left of them, and the answers at the end.
+use Prim.Native.Nat.{ℕ, _+_, _*_, _≤_, _<_}
 use mathlib.Core.Path.{_≡_, refl, sym, ap, _∙_}
 use mathlib.Core.Bool.{Bool, true, false, cond}
 use mathlib.Core.List.{List, [], _∷_}
@@ -14,7 +14,10 @@ use Rattle.model.specs.Expressions as reading
 use Rattle.model.specs.Commands.{conditions}
 use Rattle.model.specs.Meaning.{numberValue, conditionValue, allHold, someHolds}
 use Rattle.model.specs.Steps.{admits, statusOf, status, raise, greatest, bound, systemOf}
-use Rattle.outline.specs.Outline.{modelOf, baseCasesFrom, constraintsFrom, boundsFrom}
+use Rattle.outline.specs.Outline.{modelOf, baseCasesFrom, boundsFrom}
+use Rattle.prepare.specs.Layout.{conjunctsFrom, conjunctCountAt}
+use Rattle.prepare.specs.Guards.{passes, guardIn}
+use Rattle.prepare.specs.Prepared.{ConjunctAt, Conjuncts}
 use Rattle.eval_sets.specs.declared.answers.ConditionValue.{ConditionValue}
 use Rattle.eval_sets.specs.declared.answers.ConditionValue.the-variants as C
 use Rattle.eval_sets.specs.declared.answers.NumberValue.{NumberValue}
@@ -28,8 +31,8 @@ use Rattle.steps.specs.declared.answers.StatusAnswer.the-variants as S
 use Rattle.steps.specs.declared.answers.BoundAnswer.the-variants as B
 use Rattle.steps.specs.InBytes.{Outlined, stateIn, systemIn}
 use Rattle.steps.specs.Answers.{heldAnswer, statusAnswer, boundAnswer}
-use Rattle.steps.specs.Says.{ConditionSays, NumberSays, HeldSays}
-use Rattle.steps.proofs.Items.{Item, item-at}
+use Rattle.steps.specs.Says.{ConditionSays, NumberSays, HeldSays, ConjunctSays}
+use Rattle.prepare.proofs.Items.{Nth, nth-of, Item, item-at}
 use Rattle.steps.proofs.Holding.{condition-holds, condition-troubles}
 
 -- ---- answers taken apart
@@ -99,8 +102,8 @@ module _ (bytes state : List ℕ) where
     one = λ c cs. unfold someHolds in refl;
   }
 
-  constraints : Trial Condition Bool Bool
-  constraints = record {
+  conjuncts : Trial Condition Bool Bool
+  conjuncts = record {
     value-of = λ c. conditionValue rangeEnd (modelOf bytes .tables) c (stateIn bytes state);
     then-on = λ holds cs. cond holds (allHold rangeEnd (modelOf bytes .tables) cs (stateIn bytes state)) (value false);
     tried = λ cs. allHold rangeEnd (modelOf bytes .tables) cs (stateIn bytes state);
@@ -119,12 +122,9 @@ module _ (bytes state : List ℕ) where
 -- ---- base cases
 
 module _ (bytes : List ℕ) where
-  -- base case, constraint and bound k stand at a place
+  -- base case and bound k stand at a place
   abbrev pub CaseAt : (k at : ℕ) → Type 0
   CaseAt k at = Item (conditions (modelOf bytes .variables) (modelOf bytes .tables)) bytes (modelOf bytes .baseCases) k at
-
-  abbrev pub ConstraintAt : (k at : ℕ) → Type 0
-  ConstraintAt k at = Item (reading.condition (modelOf bytes .variables) (modelOf bytes .tables) mostNesting) bytes (modelOf bytes .constraints) k at
 
   abbrev pub BoundAt : (k at : ℕ) → Type 0
   BoundAt k at = Item (reading.number (modelOf bytes .variables) (modelOf bytes .tables) mostNesting) bytes (modelOf bytes .bounds) k at
@@ -132,9 +132,6 @@ module _ (bytes : List ℕ) where
 module _ {bytes words : List ℕ} (o : Outlined bytes words) {k at : ℕ} where
   pub case-at : k < length (modelOf bytes .baseCases) → at ≡ getD words (baseCasesFrom + k) 0 → CaseAt bytes k at
   case-at = item-at (o .outlines .base-cases)
-
-  pub constraint-at : k < length (modelOf bytes .constraints) → at ≡ getD words (constraintsFrom + k) 0 → ConstraintAt bytes k at
-  constraint-at = item-at (o .outlines .constraints)
 
   pub bound-at : k < length (modelOf bytes .bounds) → at ≡ getD words (boundsFrom + k) 0 → BoundAt bytes k at
   bound-at = item-at (o .outlines .bounds)
@@ -170,45 +167,91 @@ module _ (bytes state : List ℕ) (k : ℕ) (passed : Seeking bytes state k) whe
     unfolding systemOf status statusOf statusAnswer base-cases
     seeking-troubles e = rw (with-trouble (base-cases bytes state) (modelOf bytes .baseCases) k passed (i .rest) (one-troubles case (at + i .used) (case-said ∙ e)))
 
--- ---- constraints
+-- ---- a conjunct of the constraints
+
+module _ (bytes words : List ℕ) (k : ℕ) (state : List ℕ) where
+  abbrev guardPasses : Bool
+  guardPasses = passes (guardIn words (conjunctsFrom + 4 * k)) state
+
+  pub conjunct-passed-over : false ≡ guardPasses → ConjunctSays bytes words k state (H.All 0)
+  unfolding heldAnswer
+  conjunct-passed-over e x c = rw (c .decides state, ← e)
+
+  module _ (e : true ≡ guardPasses) {at : ℕ} (stands : at ≡ getD words (conjunctsFrom + 4 * k + 3) 0) (r : ConditionValue) (says : ConditionSays bytes at state r) where
+    -- the condition behind the guard has the conjunct's value
+    behind : (x : Condition) (c : ConjunctAt bytes words (modelOf bytes) k x) → stopped (conditionAnswer (conditionValue rangeEnd (modelOf bytes .tables) x (stateIn bytes state)) (c .used)) ≡ r
+    unfolding guardIn
+    behind x c =
+        let same : conditionValue rangeEnd (modelOf bytes .tables) x (stateIn bytes state) ≡ conditionValue rangeEnd (modelOf bytes .tables) (c .part) (stateIn bytes state) = c .decides state ∙ rw (← e) in
+        rw same (sym (says (c .part) (c .used) (rw stands (c .reads))))
+
+    pub conjunct-holds : {b : Bool} {n : ℕ} → r ≡ C.Holds b n → b ≡ true → ConjunctSays bytes words k state (H.All 0)
+    unfolding heldAnswer
+    conjunct-holds f y x c = rw (condition-holds _ (c .used) (behind x c ∙ f) .0, y)
+
+    pub conjunct-fails : {b : Bool} {n : ℕ} → r ≡ C.Holds b n → b ≡ false → ConjunctSays bytes words k state H.Fails
+    unfolding heldAnswer
+    conjunct-fails f y x c = rw (condition-holds _ (c .used) (behind x c ∙ f) .0, y)
+
+    pub conjunct-troubles : {t : ℕ} → r ≡ C.Trouble t → ConjunctSays bytes words k state (H.Trouble t)
+    unfolding heldAnswer
+    conjunct-troubles f x c = rw (condition-troubles _ (c .used) (behind x c ∙ f))
+
+module _ {bytes words : List ℕ} (o : Outlined bytes words) {k : ℕ} (h : k < getD words conjunctCountAt 0) where
+  -- what is read behind the guard stands in the bytes
+  pub conjunct-inside : {at : ℕ} → at ≡ getD words (conjunctsFrom + 4 * k + 3) 0 → at ≤ length bytes
+  unfolding guardIn
+  conjunct-inside stands =
+      let parted = o .prepared .conjuncts in
+      let n = nth-of (parted .parts) k (omega (arith, h, parted .count)) in
+      rw stands (parted .placed k (n .nth) (n .found) .inside)
+
+-- ---- constraints, conjunct by conjunct
 
 abbrev pub constraintsIn : (bytes state : List ℕ) → Value Bool
 constraintsIn bytes state = systemIn bytes .admits (stateIn bytes state)
 
 -- those before k hold
-abbrev pub Meeting : (bytes state : List ℕ) (k : ℕ) → Type 0
-Meeting bytes state k = constraintsIn bytes state ≡ allHold rangeEnd (modelOf bytes .tables) (drop k (modelOf bytes .constraints)) (stateIn bytes state)
+pub record Meeting (bytes words state : List ℕ) (k : ℕ) : Type 0 where
+  pub parted : Conjuncts bytes words (modelOf bytes)
+  pub left : constraintsIn bytes state ≡ allHold rangeEnd (modelOf bytes .tables) (drop k (parted .parts)) (stateIn bytes state)
 
-pub meeting-first : (bytes state : List ℕ) → Meeting bytes state 0
+pub meeting-first : {bytes words : List ℕ} → Outlined bytes words → (state : List ℕ) → Meeting bytes words state 0
 unfolding systemOf admits
-meeting-first bytes state = refl
+meeting-first {bytes} o state = record { parted = o .prepared .conjuncts; left = o .prepared .conjuncts .same (stateIn bytes state) }
 
-module _ (bytes state : List ℕ) (k : ℕ) (passed : Meeting bytes state k) where
-  pub meeting-last : length (modelOf bytes .constraints) ≤ k → H.All 0 ≡ heldAnswer (constraintsIn bytes state) 0
-  unfolding heldAnswer allHold constraints
-  meeting-last h = rw (none-left (constraints bytes state) (modelOf bytes .constraints) k passed h)
+module _ {bytes words state : List ℕ} {k : ℕ} (passed : Meeting bytes words state k) where
+  abbrev parts : List Condition
+  parts = passed .parted .parts
 
-  module _ {at : ℕ} (i : ConstraintAt bytes k at) (r : ConditionValue) (says : ConditionSays bytes at state r) where
-    abbrev constraint : Value Bool
-    constraint = conditionValue rangeEnd (modelOf bytes .tables) (i .item) (stateIn bytes state)
+  pub meeting-last : getD words conjunctCountAt 0 ≤ k → H.All 0 ≡ heldAnswer (constraintsIn bytes state) 0
+  unfolding heldAnswer allHold conjuncts
+  meeting-last h = rw (none-left (conjuncts bytes state) parts k (passed .left) (omega (arith, h, passed .parted .count)))
 
-    constraint-said : stopped (conditionAnswer constraint (i .used)) ≡ r
-    constraint-said = sym (says (i .item) (i .used) (i .reads))
+  module _ (h : k < getD words conjunctCountAt 0) (r : HeldAnswer) (says : ConjunctSays bytes words k state r) where
+    there : Nth parts k
+    there = nth-of parts k (omega (arith, h, passed .parted .count))
 
-    with-constraint : {b : Bool} {n : ℕ} → r ≡ C.Holds b n → constraintsIn bytes state ≡ cond b (allHold rangeEnd (modelOf bytes .tables) (drop (k + 1) (modelOf bytes .constraints)) (stateIn bytes state)) (value false)
-    unfolding constraints
-    with-constraint e = with-value (constraints bytes state) (modelOf bytes .constraints) k passed (i .rest) (condition-holds constraint (i .used) (constraint-said ∙ e) .0)
+    abbrev conjunct : Value Bool
+    conjunct = conditionValue rangeEnd (modelOf bytes .tables) (there .nth) (stateIn bytes state)
 
-    pub meeting-more : {b : Bool} {n : ℕ} → r ≡ C.Holds b n → b ≡ true → Meeting bytes state (k + 1)
-    meeting-more e y = rw y at (with-constraint e)
+    conjunct-said : heldAnswer conjunct 0 ≡ r
+    conjunct-said = sym (says (there .nth) (passed .parted .placed k (there .nth) (there .found)))
 
-    pub meeting-fails : {b : Bool} {n : ℕ} → r ≡ C.Holds b n → b ≡ false → H.Fails ≡ heldAnswer (constraintsIn bytes state) 0
+    with-conjunct : {b : Bool} → conjunct ≡ value b → constraintsIn bytes state ≡ cond b (allHold rangeEnd (modelOf bytes .tables) (drop (k + 1) parts) (stateIn bytes state)) (value false)
+    unfolding conjuncts
+    with-conjunct = with-value (conjuncts bytes state) parts k (passed .left) (there .rest)
+
+    pub meeting-more : {n : ℕ} → r ≡ H.All n → Meeting bytes words state (k + 1)
+    meeting-more e = record { parted = passed .parted; left = with-conjunct (all-held conjunct 0 (conjunct-said ∙ e) .0) }
+
+    pub meeting-fails : r ≡ H.Fails → H.Fails ≡ heldAnswer (constraintsIn bytes state) 0
     unfolding heldAnswer
-    meeting-fails e y = rw (with-constraint e, y)
+    meeting-fails e = rw (with-conjunct (one-fails conjunct 0 (conjunct-said ∙ e)))
 
-    pub meeting-troubles : {t : ℕ} → r ≡ C.Trouble t → H.Trouble t ≡ heldAnswer (constraintsIn bytes state) 0
-    unfolding heldAnswer constraints
-    meeting-troubles e = rw (with-trouble (constraints bytes state) (modelOf bytes .constraints) k passed (i .rest) (condition-troubles constraint (i .used) (constraint-said ∙ e)))
+    pub meeting-troubles : {t : ℕ} → r ≡ H.Trouble t → H.Trouble t ≡ heldAnswer (constraintsIn bytes state) 0
+    unfolding heldAnswer conjuncts
+    meeting-troubles e = rw (with-trouble (conjuncts bytes state) parts k (passed .left) (there .rest) (one-troubles conjunct 0 (conjunct-said ∙ e)))
 
 -- ---- bounds
 

@@ -14,14 +14,18 @@ mix m x =
     let p = (m % 2 ^ 32 + x % 2 ^ 32) % 2 ^ 32 * 2654435761 in
     p / 2 ^ 32 + p % 2 ^ 32
 
--- 64 bits, where there is no preference
-unfoldable pub mixUnless : (preference m x : ℕ) → ℕ
-mixUnless p m x = cond (eqb p 0) (mix (mix m x) (x / 2 ^ 32)) m
+-- 64 bits
+unfoldable pub mixWord : (m x : ℕ) → ℕ
+mixWord m x = mix (mix m x) (x / 2 ^ 32)
+
+-- what is hashed of a word: what is compared of it, and nothing where there is a preference
+unfoldable pub hashedWord : (kind preference word : ℕ) → ℕ
+hashedWord k p w = cond (eqb p 0) (comparedWord k w) 0
 
 module _ (outline state : List ℕ) where
   -- the word of variable v mixed into m
   unfoldable pub mixAt : (v m : ℕ) → ℕ
-  mixAt v m = mixUnless (getD outline (preferencesFrom + v) 0) m (comparedWord (getD outline (kindsFrom + v) 0) (getD state v 0))
+  mixAt v m = mixWord m (hashedWord (getD outline (kindsFrom + v) 0) (getD outline (preferencesFrom + v) 0) (getD state v 0))
 
   -- n variables from v on
   unfoldable pub mixFrom : (n v m : ℕ) → ℕ

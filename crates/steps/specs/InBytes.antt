@@ -8,16 +8,19 @@ use Rattle.model.specs.Meaning.{State}
 use Rattle.model.specs.Commands.{model}
 use Rattle.model.specs.Steps.{systemOf, target, originOf}
 use Rattle.words.specs.States.{stateOf}
-use Rattle.outline.specs.Outline.{outlineWords, modelOf, refusalOf, Outlines}
+use Rattle.outline.specs.Outline.{modelOf, refusalOf, Outlines}
+use Rattle.prepare.specs.Layout.{preparedWords}
+use Rattle.prepare.specs.Prepared.{Prepared}
 
 -- the number by which the bytes are refused, 0 where they are read
 abbrev pub refusalIn : (bytes : List ℕ) → ℕ
 refusalIn bytes = refusalOf (model bytes)
 
--- the words outline the model of the bytes
+-- the words outline the model of the bytes, and hold what is prepared of it
 pub record Outlined (bytes words : List ℕ) : Type 0 where
   pub outlines : Outlines bytes words (modelOf bytes)
-  pub long : outlineWords ≤ length words
+  pub prepared : Prepared bytes words (modelOf bytes)
+  pub long : preparedWords ≤ length words
 
 abbrev pub systemIn : (bytes : List ℕ) → System State ℕ
 systemIn bytes = systemOf rangeEnd (modelOf bytes)

@@ -1,6 +1,7 @@
 -- What is promised of the parts of a model where they stand in its bytes: values in the state that the words stand for.
 use Prim.Native.Nat.{ℕ, _+_, _≤_}
 use mathlib.Core.Path.{_≡_}
+use mathlib.Core.Bool.{Bool, false}
 use mathlib.Core.List.{List, []}
 use mathlib.Core.Option.{some}
 use lib.ListN.{length, getElem?, drop}
@@ -8,7 +9,7 @@ use lib.Dec.{eqb}
 use lib.IntN.{ℤ}
 use Rattle.model.specs.Numbers.{rangeEnd, mostNesting, mostVariables}
 use Rattle.model.specs.Values.{Value, value, trouble, _>>=_}
-use Rattle.model.specs.System.{moved}
+use Rattle.model.specs.System.{blocked, moved}
 use Rattle.model.specs.Readers.{Reader, read, many}
 use Rattle.model.specs.Syntax.{Element, Set, Number, Condition, Kind, aNumber, Variable, Expression, Effect, Transition, Table}
 use Rattle.model.specs.Expressions as reading
@@ -23,6 +24,7 @@ use Rattle.eval_sets.specs.declared.answers.SetValue.{SetValue}
 use Rattle.eval_sets.specs.Answers.{numberAnswer, conditionAnswer}
 use Rattle.eval_tests.specs.Stopped.{stopped}
 use Rattle.outline.specs.Outline.{modelOf}
+use Rattle.prepare.specs.Prepared.{ConjunctAt}
 use Rattle.steps.specs.declared.answers.HeldAnswer.{HeldAnswer}
 use Rattle.steps.specs.declared.answers.CostAnswer.{CostAnswer}
 use Rattle.steps.specs.declared.answers.CostAnswer.the-variants as C
@@ -132,6 +134,10 @@ module _ (bytes : List ℕ) where
     abbrev pub AttemptSays : (child : List ℕ) → AttemptAnswer → Type 0
     AttemptSays child r = (x : Transition) (n : ℕ) → transition variablesIn tablesIn (drop at bytes) ≡ read x n → AttemptSay child r (attempt rangeEnd (modelOf bytes) x (stateIn bytes state))
 
+  -- conjunct k of the constraints, tried in a state
+  abbrev pub ConjunctSays : (words : List ℕ) (k : ℕ) (state : List ℕ) → HeldAnswer → Type 0
+  ConjunctSays words k state r = (x : Condition) → ConjunctAt bytes words (modelOf bytes) k x → r ≡ heldAnswer (conditionValue rangeEnd tablesIn x (stateIn bytes state)) 0
+
   -- a cost, then effects
   pub record TakenRead (at : ℕ) : Type 0 where
     pub cost : Number
@@ -150,3 +156,7 @@ module _ (bytes : List ℕ) where
   pub record MoveSays (state : List ℕ) (t : ℕ) (child : List ℕ) (r : MoveAnswer) : Type 0 where
     pub answer : r ≡ moveAnswer (systemIn bytes .move (stateIn bytes state) t)
     pub arrives : (c : ℕ) (u : State) → systemIn bytes .move (stateIn bytes state) t ≡ moved c u → stateIn bytes child ≡ u
+
+  -- where the answer is no, transition t is blocked
+  abbrev pub AllowedSays : (state : List ℕ) (t : ℕ) → Bool → Type 0
+  AllowedSays state t r = r ≡ false → systemIn bytes .move (stateIn bytes state) t ≡ blocked

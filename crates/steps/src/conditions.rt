@@ -1,9 +1,12 @@
 // Conditions tried in order, the constraints of a state, and its status.
 
 ghost use mathlib.Core.Path.{_≡_};
+ghost use Prim.Native.Nat.{_<_};
+ghost use lib.ListN.{getD};
+ghost use Rattle.prepare.specs.Layout.{conjunctCountAt};
 ghost use Rattle.steps.specs.InBytes.{Outlined, stateIn, systemIn};
 ghost use Rattle.steps.specs.Answers.{heldAnswer, statusAnswer};
-ghost use Rattle.steps.specs.Says.{HeldSays};
+ghost use Rattle.steps.specs.Says.{HeldSays, ConjunctSays};
 use crate::answers::HeldAnswer;
 use crate::answers::StatusAnswer;
 use crate::parts::condition_at;
@@ -11,9 +14,10 @@ use eval_sets::answers::ConditionValue;
 use laws::byte_at;
 use outline::layout::BASE_CASE_COUNT;
 use outline::layout::BASE_CASES;
-use outline::layout::CONSTRAINT_COUNT;
-use outline::layout::CONSTRAINTS;
 use outline::word_at;
+use prepare::guards::passes;
+use prepare::layout::CONJUNCT_COUNT;
+use prepare::layout::CONJUNCTS;
 
 // Tries the conditions 08 from a place on.
 pub fn conditions_hold(model: &[u8], at: usize, outline: &[u64], state: &[u64]) -> HeldAnswer
@@ -36,24 +40,41 @@ pub fn conditions_hold(model: &[u8], at: usize, outline: &[u64], state: &[u64]) 
     HeldAnswer::All(next)
 }
 
-// Tries the state constraints.
+// Tries conjunct k of the state constraints: where its guard does not pass, it holds.
+fn conjunct_holds(model: &[u8], outline: &[u64], k: usize, state: &[u64]) -> HeldAnswer
+    requires { ⌜ Outlined (now model) (now outline) × (k < getD (now outline) conjunctCountAt 0) ⌝ }
+    ensures { λ r. ⌜ ConjunctSays (now (model .entry)) (now (outline .entry)) k (now (state .entry)) r ⌝ }
+{
+    if passes(outline, CONJUNCTS + 4 * k, state) {
+        let at = word_at(outline, CONJUNCTS + 4 * k + 3) as usize;
+        return match condition_at(model, at, outline, state) {
+            ConditionValue::Holds(holds, _) => {
+                if holds {
+                    HeldAnswer::All(0)
+                } else {
+                    HeldAnswer::Fails
+                }
+            }
+            ConditionValue::Trouble(t) => HeldAnswer::Trouble(t),
+        };
+    }
+    HeldAnswer::All(0)
+}
+
+// Tries the state constraints, conjunct by conjunct.
 pub fn constraints_hold(model: &[u8], outline: &[u64], state: &[u64]) -> HeldAnswer
     requires { ⌜ Outlined (now model) (now outline) ⌝ }
     ensures { λ r. ⌜ r ≡ heldAnswer (systemIn (now (model .entry)) .admits (stateIn (now (model .entry)) (now (state .entry)))) 0 ⌝ }
 {
-    let count = word_at(outline, CONSTRAINT_COUNT) as usize;
+    let count = word_at(outline, CONJUNCT_COUNT) as usize;
     let mut k: usize = 0;
     while k < count {
-        let at = word_at(outline, CONSTRAINTS + k) as usize;
-        match condition_at(model, at, outline, state) {
-            ConditionValue::Holds(holds, _) => {
-                if holds {
-                    k += 1;
-                } else {
-                    return HeldAnswer::Fails;
-                }
+        match conjunct_holds(model, outline, k, state) {
+            HeldAnswer::All(_) => {
+                k += 1;
             }
-            ConditionValue::Trouble(t) => return HeldAnswer::Trouble(t),
+            HeldAnswer::Fails => return HeldAnswer::Fails,
+            HeldAnswer::Trouble(t) => return HeldAnswer::Trouble(t),
         }
     }
     HeldAnswer::All(0)

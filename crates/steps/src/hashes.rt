@@ -3,13 +3,12 @@
 ghost use mathlib.Core.Path.{_≡_};
 ghost use Prim.Native.Nat.{_<_};
 ghost use Rattle.model.specs.Numbers.{mostVariables};
+ghost use Rattle.prepare.specs.Prepared.{MasksAt};
 ghost use Rattle.steps.specs.InBytes.{Outlined};
-ghost use Rattle.steps.specs.Hashes.{mix as Hashes·mix, mixUnless, mixAt, hashOf};
-use crate::states::compared_word;
-use outline::layout::KINDS;
-use outline::layout::PREFERENCES;
+ghost use Rattle.steps.specs.Hashes.{mix as Hashes·mix, mixWord, mixAt, hashOf};
 use outline::layout::VARIABLE_COUNT;
 use outline::word_at;
+use prepare::layout::MASKS;
 
 // 32 bits of x mixed into m.
 fn mix(m: u64, x: u64) -> u64
@@ -19,24 +18,19 @@ fn mix(m: u64, x: u64) -> u64
     p / 4294967296 + p % 4294967296
 }
 
-// 64 bits of x mixed into m where there is no preference.
-fn mix_unless(preference: u64, m: u64, x: u64) -> u64
-    ensures { λ r. ⌜ r ≡ mixUnless preference m x ⌝ }
+// 64 bits of x mixed into m.
+fn mix_word(m: u64, x: u64) -> u64
+    ensures { λ r. ⌜ r ≡ mixWord m x ⌝ }
 {
-    if preference == 0 {
-        return mix(mix(m, x), x / 4294967296);
-    }
-    m
+    mix(mix(m, x), x / 4294967296)
 }
 
 // The word of variable v mixed into m.
 fn mix_at(outline: &[u64], state: &[u64], v: usize, m: u64) -> u64
-    requires { ⌜ v < mostVariables ⌝ }
+    requires { ⌜ (v < mostVariables) × MasksAt (now outline) v ⌝ }
     ensures { λ r. ⌜ r ≡ mixAt (now (outline .entry)) (now (state .entry)) v m ⌝ }
 {
-    let kind = word_at(outline, KINDS + v);
-    let preference = word_at(outline, PREFERENCES + v);
-    mix_unless(preference, m, compared_word(kind, word_at(state, v)))
+    mix_word(m, word_at(state, v) & word_at(outline, MASKS + 2 * v + 1))
 }
 
 // The hash of a state; one that dominates another has the same.

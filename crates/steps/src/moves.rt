@@ -8,7 +8,7 @@ ghost use Rattle.model.specs.Steps as steps;
 ghost use Rattle.outline.specs.Outline.{modelOf};
 ghost use Rattle.steps.specs.InBytes.{Outlined, StateRoom, stateIn, systemIn};
 ghost use Rattle.steps.specs.Answers.{moveAnswer};
-ghost use Rattle.steps.specs.Says.{CostSays, CostWithin, NumberWordSays, WordSays, WordWithin, EffectsRead, EffectsSays, TakenRead, TakenSays, TransitionRead, AttemptSays, Tried, MoveSays};
+ghost use Rattle.steps.specs.Says.{CostSays, CostWithin, NumberWordSays, WordSays, WordWithin, EffectsRead, EffectsSays, TakenRead, TakenSays, TransitionRead, AttemptSays, Tried, AllowedSays, MoveSays};
 use crate::answers::AttemptAnswer;
 use crate::answers::CostAnswer;
 use crate::answers::EffectsAnswer;
@@ -26,8 +26,9 @@ use eval_sets::answers::NumberValue;
 use laws::byte_at;
 use outline::layout::KINDS;
 use outline::layout::TRANSITION_COUNT;
-use outline::layout::TRANSITIONS;
 use outline::word_at;
+use prepare::guards::passes;
+use prepare::layout::GUARDS;
 use words::arithmetic::biased;
 
 // The cost at a place; a negative one is trouble.
@@ -173,6 +174,14 @@ pub fn transitions(model: &[u8], outline: &[u64]) -> usize
     word_at(outline, TRANSITION_COUNT) as usize
 }
 
+// Whether the guard of transition t passes in a state: where it does not, the transition is blocked.
+pub fn allowed(model: &[u8], outline: &[u64], state: &[u64], t: usize) -> bool
+    requires { ⌜ Outlined (now model) (now outline) × (t < systemIn (now model) .transitions) ⌝ }
+    ensures { λ r. ⌜ AllowedSays (now (model .entry)) (now (state .entry)) t r ⌝ }
+{
+    passes(outline, GUARDS + 4 * t, state)
+}
+
 // Tries transition t in a state, and writes the new state's words. A number that is not declared is blocked.
 pub fn step(model: &[u8], outline: &[u64], state: &[u64], t: usize, child: &mut [u64]) -> MoveAnswer
     requires { ⌜ Outlined (now model) (now outline) × StateRoom (now state) × StateRoom (now child) ⌝ }
@@ -181,7 +190,10 @@ pub fn step(model: &[u8], outline: &[u64], state: &[u64], t: usize, child: &mut 
     if transitions(model, outline) <= t {
         return MoveAnswer::Blocked;
     }
-    let at = word_at(outline, TRANSITIONS + t) as usize;
-    let tried = attempt(model, at, outline, state, child);
-    settle(model, outline, state, t, child, tried)
+    if passes(outline, GUARDS + 4 * t, state) {
+        let at = word_at(outline, GUARDS + 4 * t + 3) as usize;
+        let tried = attempt(model, at, outline, state, child);
+        return settle(model, outline, state, t, child, tried);
+    }
+    MoveAnswer::Blocked
 }

@@ -4,15 +4,16 @@ ghost use mathlib.Core.Path.{_≡_};
 ghost use mathlib.Core.List.{_++_};
 ghost use Prim.Native.Nat.{_<_};
 ghost use lib.ListN.{take, drop};
+ghost use Rattle.prepare.specs.Prepared.{MasksAt};
 ghost use Rattle.steps.specs.InBytes.{Outlined, StateRoom, stateIn, systemIn, targetIn};
-ghost use Rattle.steps.specs.Order.{comparedWord, noWorseBy, noWorseAt};
+ghost use Rattle.steps.specs.Order.{noWorseBy, noWorseAt};
 use laws::copy_words;
-use outline::layout::KINDS;
 use outline::layout::PREFERENCES;
 use outline::layout::STARTS;
 use outline::layout::STATE_WORDS;
 use outline::layout::VARIABLE_COUNT;
 use outline::word_at;
+use prepare::layout::MASKS;
 
 // Copies the words of a state.
 pub fn copy_state(from: &[u64], to: &mut [u64])
@@ -30,19 +31,6 @@ pub fn start(model: &[u8], outline: &[u64], state: &mut [u64])
     copy_state(&outline[STARTS..], state);
 }
 
-// What is compared of a word, by the byte of its variable's kind.
-pub fn compared_word(kind: u64, w: u64) -> u64
-    ensures { λ r. ⌜ r ≡ comparedWord kind w ⌝ }
-{
-    if kind == 0 {
-        return w % 4294967296;
-    }
-    if kind <= 64 {
-        return w % 64;
-    }
-    w
-}
-
 // Whether t is no worse than s by a preference: 0 none, 1 less, 2 more.
 fn no_worse_by(preference: u64, t: u64, s: u64) -> bool
     ensures { λ r. ⌜ r ≡ noWorseBy preference t s ⌝ }
@@ -58,16 +46,12 @@ fn no_worse_by(preference: u64, t: u64, s: u64) -> bool
 
 // Whether variable v of t is no worse than that of s.
 fn no_worse_at(outline: &[u64], v: usize, t: &[u64], s: &[u64]) -> bool
-    requires { ⌜ v < 16 ⌝ }
+    requires { ⌜ (v < 16) × MasksAt (now outline) v ⌝ }
     ensures { λ r. ⌜ r ≡ noWorseAt (now (outline .entry)) v (now (t .entry)) (now (s .entry)) ⌝ }
 {
-    let kind = word_at(outline, KINDS + v);
+    let mask = word_at(outline, MASKS + 2 * v);
     let preference = word_at(outline, PREFERENCES + v);
-    no_worse_by(
-        preference,
-        compared_word(kind, word_at(t, v)),
-        compared_word(kind, word_at(s, v)),
-    )
+    no_worse_by(preference, word_at(t, v) & mask, word_at(s, v) & mask)
 }
 
 // Whether state t dominates state s.

@@ -6,6 +6,7 @@ use lib.ListN.{length}
 use borrow.Author.Tests.{leb-true, leb-false}
 use Rattle.model.specs.Numbers.{mostModelBytes}
 use Rattle.steps.specs.InBytes.{refusalIn}
+use Rattle.steps.proofs.Promises.{ready}
 use Rattle.plan_check.proofs.Tests.{check-long-model, check-long-plan, check-refused, check-read, told-trouble, told-same}
 use borrow.Author.Needs.{needs}
 use Rattle.plan_check.proofs.check.Statement.{statement}
@@ -21,30 +22,30 @@ short c = leb-true (length (start (c .before) .args .model .now)) mostModelBytes
 returns : tie.Need-returns
 returns c = told-trouble _ (check-long-plan _ _ (short (c .before)) (c .if2 .taken)) refl refl
 
-read-model-requires : tie.Need-read-model-requires
-read-model-requires c κs = let first : tie.Then1 = search in (short first, search needs)
+read-and-prepare-requires : tie.Need-read-and-prepare-requires
+read-and-prepare-requires c κs = let first : tie.Then1 = search in (short first, search needs)
 
 follow-requires : tie.Need-follow-requires
 follow-requires c κs =
-    let read : tie.After-read-model = search in
+    let read : tie.After-read-and-prepare = search in
     let good : tie.Then3 = search in
     let few : tie.Else2 = search in
-    (record { outlines = read .read-model .ensures .1 .0 (good .if3 .taken); long = omega (arith, read .read-model .ensures .1 .1) }, few .if2 .left)
+    (ready (read .read-and-prepare .ensures .1 (good .if3 .taken)), few .if2 .left)
 
 returns-2 : tie.Need-returns-2
 returns-2 c =
-    let read : tie.After-read-model = search in
+    let read : tie.After-read-and-prepare = search in
     let good : tie.Then3 = search in
     let few : tie.Else2 = search in
-    let none : 0 ≡ refusalIn (start (few .before .before) .args .model .now) = sym (good .if3 .taken) ∙ read .read-model .ensures .0 in
+    let none : 0 ≡ refusalIn (start (few .before .before) .args .model .now) = sym (good .if3 .taken) ∙ read .read-and-prepare .ensures .0 in
     told-same _ (check-read _ _ (short (few .before)) (few .if2 .left) none) (c .follow .ensures)
 
 returns-3 : tie.Need-returns-3
 returns-3 c =
-    let read : tie.After-read-model = search in
+    let read : tie.After-read-and-prepare = search in
     let bad : tie.Else3 = search in
     let few : tie.Else2 = search in
-    told-trouble _ (check-refused _ _ _ (short (few .before)) (few .if2 .left) (read .read-model .ensures .0) (omega (arith, bad .if3 .left))) refl refl
+    told-trouble _ (check-refused _ _ _ (short (few .before)) (few .if2 .left) (read .read-and-prepare .ensures .0) (omega (arith, bad .if3 .left))) refl refl
 
 returns-4 : tie.Need-returns-4
 returns-4 c =
@@ -58,7 +59,7 @@ check-spec =
     (λ c κs. search needs)
     returns
     (λ c. search needs)
-    read-model-requires
+    read-and-prepare-requires
     (λ c. search needs)
     follow-requires
     returns-2

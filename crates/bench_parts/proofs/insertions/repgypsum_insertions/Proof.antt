@@ -8,6 +8,7 @@ use lib.ListN.{length}
 use borrow.Author.Tests.{leb-true}
 use Rattle.model.specs.Numbers.{mostModelBytes}
 use Rattle.bench_parts.specs.Timed.{layerFits}
+use Rattle.steps.proofs.Promises.{ready}
 use Rattle.bench_parts.proofs.Offering.{room, too-long, no-room, refused, read}
 use Rattle.bench_parts.proofs.insertions.repgypsum_insertions.Statement.{statement}
 use Rattle.bench_parts.proofs.insertions.repgypsum_insertions.Tie as tie
@@ -26,36 +27,36 @@ tested c = c .before
 fits : (c : tie.Then2) → (let a = start (tested (c .before) .before) .args in layerFits (a .width) (length (a .words .now)) ≡ true)
 fits c = sym (c .before .layer-fits .ensures) ∙ c .if2 .taken
 
-read-model-requires : tie.Need-read-model-requires
-read-model-requires c κs =
+read-and-prepare-requires : tie.Need-read-and-prepare-requires
+read-and-prepare-requires c κs =
     let first : tie.Then1 = search in
     (leb-true (length (start (first .before) .args .model .now)) mostModelBytes (short first), search needs)
 
 offer-children-requires : tie.Need-offer-children-requires
 offer-children-requires c κs =
     let good : tie.Then3 = search in
-    let outlined : tie.After-read-model = search in
+    let outlined : tie.After-read-and-prepare = search in
     let second : tie.Then2 = search in
     let a = start (tested (second .before) .before) .args in
-    (record { outlines = outlined .read-model .ensures .1 .0 (good .if3 .taken); long = omega (arith, outlined .read-model .ensures .1 .1) }, room (a .width) (length (a .words .now)) (fits second))
+    (ready (outlined .read-and-prepare .ensures .1 (good .if3 .taken)), room (a .width) (length (a .words .now)) (fits second))
 
 returns : tie.Need-returns
 returns c =
     let kept : tie.After-offer-children = search in
     let good : tie.Then3 = search in
-    let outlined : tie.After-read-model = search in
+    let outlined : tie.After-read-and-prepare = search in
     let second : tie.Then2 = search in
     let a = start (tested (second .before) .before) .args in
     kept .offer-children .ensures
-    ∙ read (a .model .now) (length (a .words .now)) (a .width) (a .children) (a .seed) (short (tested (second .before))) (fits second) (sym (outlined .read-model .ensures .0) ∙ good .if3 .taken)
+    ∙ read (a .model .now) (length (a .words .now)) (a .width) (a .children) (a .seed) (short (tested (second .before))) (fits second) (sym (outlined .read-and-prepare .ensures .0) ∙ good .if3 .taken)
 
 returns-2 : tie.Need-returns-2
 returns-2 c =
     let bad : tie.Else3 = search in
-    let outlined : tie.After-read-model = search in
+    let outlined : tie.After-read-and-prepare = search in
     let second : tie.Then2 = search in
     let a = start (tested (second .before) .before) .args in
-    refused (a .model .now) (length (a .words .now)) (a .width) (a .children) (a .seed) (short (tested (second .before))) (fits second) _ (outlined .read-model .ensures .0) (omega (arith, bad .if3 .left))
+    refused (a .model .now) (length (a .words .now)) (a .width) (a .children) (a .seed) (short (tested (second .before))) (fits second) _ (outlined .read-and-prepare .ensures .0) (omega (arith, bad .if3 .left))
 
 returns-3 : tie.Need-returns-3
 returns-3 c =
@@ -77,7 +78,7 @@ repgypsum-insertions-spec =
     (λ c κs. search needs)
     (λ c κs. search needs)
     (λ c. search needs)
-    read-model-requires
+    read-and-prepare-requires
     (λ c. search needs)
     offer-children-requires
     (λ c. search needs)

@@ -5,7 +5,7 @@ use native.Mathlib.Omega.{arith}
 use mathlib.Core.Path.{_∙_}
 use Rattle.steps.specs.InBytes.{systemIn}
 use Rattle.steps.proofs.Promises.{few-transitions}
-use Rattle.search_expansion.proofs.TrialLoop.{Expanding, expanding-first, expanding-more, expanded-all, expanded-before, expanded-at}
+use Rattle.search_expansion.proofs.TrialLoop.{Expanding, expanding-first, expanding-more, expanding-past, expanded-all, expanded-before, expanded-at}
 use Rattle.search_expansion.proofs.children.expand.Statement.{statement}
 use Rattle.search_expansion.proofs.children.expand.Tie as tie
 
@@ -18,9 +18,12 @@ abbrev μ-loop : tie.MeasureT-loop
 abbrev begun : tie.After-transitions Inv-loop μ-loop → tie.Start Inv-loop μ-loop
 begun c = c .before .before .before .before .before
 
--- the turn in which a transition is tried
+-- the turn in which a transition is allowed or not, and that in which it is tried
+abbrev asked : tie.After-allowed Inv-loop μ-loop → tie.In-loop Inv-loop μ-loop
+asked c = c .before
+
 abbrev turn : tie.After-try-transition Inv-loop μ-loop → tie.In-loop Inv-loop μ-loop
-turn c = c .before .before
+turn c = asked (c .before .before .before)
 
 -- transition t is one of the model's
 one-left : (c : tie.In-loop Inv-loop μ-loop) → c .before .loop .t < systemIn (begun (c .before .before) .args .model .now) .transitions
@@ -31,7 +34,7 @@ loop-holds c = expanding-first _ _ _ _ _ _ _ _ _ (begun c .pre .0)
 
 try-transition-requires : tie.Need-try-transition-requires Inv-loop μ-loop
 try-transition-requires c κs =
-    let here = c .before in
+    let here = asked (c .before .before) in
     let pre = begun (here .before .before) .pre in (
       here .before .loop .inv .held,
       (pre .1 .0, (pre .1 .1 .0, (pre .1 .1 .1 .0, (pre .1 .1 .1 .1, omega (arith, one-left here, few-transitions (pre .1 .0)))))),
@@ -65,6 +68,11 @@ returns-2 c =
     expanded-at _ _ _ _ _ _ _ _ _ (turn tried .before .loop .inv) (one-left (turn tried)) (tried .try-transition .ensures) (c .before .before .before .either .ensures)
     (c .before .trial2 .given .1)
 
+loop-again-2 : tie.Need-loop-again-2 Inv-loop μ-loop
+loop-again-2 c =
+    let here = asked (c .before) in
+    expanding-past _ _ _ _ _ _ _ _ _ (here .before .loop .inv) (begun (here .before .before) .pre .1 .0) (one-left here) (c .before .allowed .ensures (c .if1 .left))
+
 returns-3 : tie.Need-returns-3 Inv-loop μ-loop
 returns-3 c = expanded-all _ _ _ _ _ _ _ _ _ (c .before .loop .inv) (omega (arith, c .loop-test .left, c .before .before .transitions .ensures))
 
@@ -76,6 +84,7 @@ expand-spec =
     μ-loop
     (λ c κs. search needs)
     loop-holds
+    (λ c κs. (begun (c .before .before) .pre .1 .0, one-left c))
     try-transition-requires
     (λ c κs. search needs)
     (λ c. search needs)
@@ -88,5 +97,8 @@ expand-spec =
     (λ c. search needs)
     same-length-2
     returns-2
+    (λ c. search needs)
+    (λ c. search needs)
+    loop-again-2
     (λ c. c .before .loop .inv .long)
     returns-3)

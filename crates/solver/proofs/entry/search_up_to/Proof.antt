@@ -7,6 +7,7 @@ use lib.ListN.{length}
 use Rattle.steps.specs.InBytes.{refusalIn}
 use Rattle.search.specs.Run.{settingsFit, lentFits}
 use Rattle.solver.specs.Searches.{settings, lentOf}
+use Rattle.steps.proofs.Promises.{ready}
 use Rattle.solver.proofs.Entering.{width-fits, some-steps, narrow, lent-both, refused-says, run-long, run-unfit, run-unlent, run-refused, run-says}
 use borrow.Author.Needs.{needs}
 use Rattle.solver.proofs.entry.search_up_to.Statement.{statement}
@@ -38,7 +39,7 @@ abbrev reading : tie.Then4 → tie.Then3
 reading c = c .before .before .before .before
 
 read : (c : tie.Then4) → 0 ≡ refusalIn (start (reading c .before .before) .args .model .now)
-read c = sym (c .if4 .taken) ∙ c .before .before .read-model .ensures .0
+read c = sym (c .if4 .taken) ∙ c .before .before .read-and-prepare .ensures .0
 
 abbrev searching : tie.After-search-model → tie.Then4
 searching c = c .before .before .before .before
@@ -59,8 +60,8 @@ search-model-requires c κs =
     let tests = room .before .before in
     let a = start tests .args in
     let both = lent-both (a .width) (a .limit) (length (a .plan .now)) (length (a .words .now)) (enough room) in
-    let outlined = read .before .before .read-model .ensures in (
-      record { outlines = outlined .1 .0 (read .if4 .taken); long = omega (arith, outlined .1 .1) },
+    let outlined = read .before .before .read-and-prepare .ensures in (
+      ready (outlined .1 (read .if4 .taken)),
       (
         record { some-width = is-width tests .0; narrow = is-width tests .1; few-steps = few-steps tests; plan-room = both .0; words-room = both .1 },
         (width-fits (a .width) (a .limit) 0 (fit tests), search needs),
@@ -84,7 +85,7 @@ returns-3 c =
     let a = start tests .args in
     refused-says (a .most) (a .model .now) (a .plan .now) (a .words .now) (a .width) (a .limit) (a .budget) _ _
     (run-refused (a .most) (a .model .now) (a .plan .now) (a .words .now) (a .width) (a .limit) (a .budget) (tests .before .before .if1 .left) (fit tests) (enough room)
-    _ (read .read-model .ensures .0) (omega (arith, c .before .if4 .left)))
+    _ (read .read-and-prepare .ensures .0) (omega (arith, c .before .if4 .left)))
     (c .refusal2 .ensures)
 
 returns-4 : tie.Need-returns-4

@@ -1,9 +1,10 @@
 -- `steps::hashes::hash` meets its contract. The invariant: mixing in the variables left comes to the same.
-use Prim.Native.Nat.{ℕ, _+_, _-_, _≤_}
+use Prim.Native.Nat.{ℕ, _+_, _-_, _≤_, _<_}
 use mathlib.Core.Path.{_≡_, sym, ap, _∙_}
 use native.Mathlib.Omega.{arith}
 use native.Mathlib.Nat.{sub-zero}
 use borrow.Author.Needs.{needs}
+use Rattle.model.specs.Numbers.{mostVariables}
 use Rattle.steps.specs.Hashes.{mixFrom, hashOf}
 use Rattle.steps.proofs.Hashing.{mix-more, mix-end}
 use Rattle.steps.proofs.hashes.hash.Statement.{statement}
@@ -24,7 +25,8 @@ loop-holds c = (omega arith, rw sub-zero)
 mix-at-requires : tie.Need-mix-at-requires Inv-loop μ-loop
 mix-at-requires c κs =
     let o = begun (c .before .before) .pre in
-    omega (arith, c .before .before .word-at .ensures, o .outlines .variable-count, o .outlines .few-variables)
+    let few : c .before .loop .v < mostVariables = omega (arith, c .loop-test .taken, c .before .before .word-at .ensures, o .outlines .variable-count, o .outlines .few-variables) in
+    (few, o .prepared .masks _ few)
 
 loop-again : tie.Need-loop-again Inv-loop μ-loop
 loop-again c =

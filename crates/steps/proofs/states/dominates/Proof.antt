@@ -5,6 +5,7 @@ use mathlib.Core.Path.{sym, _∙_}
 use Prim.Native.Nat.{_-_, _<_}
 use borrow.Author.Needs.{needs}
 use lib.ListN.{length}
+use Rattle.model.specs.Numbers.{mostVariables}
 use Rattle.outline.specs.Outline.{modelOf}
 use Rattle.steps.proofs.states.dominates.Statement.{statement}
 use Rattle.steps.proofs.states.dominates.Tie as tie
@@ -21,6 +22,12 @@ begun c = c .before .before .before .before .before
 -- variable v is declared
 declared : (c : tie.In-loop Inv-loop μ-loop) → c .before .loop .v < length (modelOf (begun (c .before .before) .args .model .now) .variables)
 declared c = omega (arith, c .loop-test .taken, c .before .before .word-at .ensures, begun (c .before .before) .pre .outlines .variable-count)
+
+no-worse-at-requires : tie.Need-no-worse-at-requires Inv-loop μ-loop
+no-worse-at-requires c κs =
+    let o = begun (c .before .before) .pre in
+    let few : c .before .loop .v < mostVariables = omega (arith, declared c, o .outlines .few-variables) in
+    (few, o .prepared .masks _ few)
 
 loop-again : tie.Need-loop-again Inv-loop μ-loop
 loop-again c =
@@ -45,7 +52,7 @@ dominates-spec =
     μ-loop
     (λ c κs. search needs)
     (λ c. comparing-first _ _ (begun c .pre) _ _)
-    (λ c κs. omega (arith, declared c, begun (c .before .before) .pre .outlines .few-variables))
+    no-worse-at-requires
     (λ c. search needs)
     (λ c. search needs)
     loop-again

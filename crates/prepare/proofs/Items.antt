@@ -33,7 +33,6 @@ module _ {A : Type 0} where
 pub record Item {A : Type 0} (r : Reader A) (bytes : List ℕ) (l : List A) (k at : ℕ) : Type 0 where
   pub item : A
   pub used : ℕ
-  pub found : getElem? l k ≡ some item
   pub rest : drop k l ≡ item ∷ drop (k + 1) l
   pub inside : at ≤ length bytes
   pub reads : r (drop at bytes) ≡ read item used
@@ -42,4 +41,4 @@ pub item-at : {A : Type 0} {r : Reader A} {bytes words : List ℕ} {from : ℕ} 
 item-at {l = l} items {k} h stands =
     let n = nth-of l k h in
     let i = items k (n .nth) (n .found) in
-    record { item = n .nth; used = i .used; found = n .found; rest = n .rest; inside = rw stands (i .inside); reads = rw stands (i .reads) }
+    record { item = n .nth; used = i .used; rest = n .rest; inside = rw stands (i .inside); reads = rw stands (i .reads) }

@@ -1,0 +1,11 @@
+pub mod Deeper
+pub mod Connectives
+pub mod Bits
+pub mod Tails
+pub mod Tested
+pub mod Guarding
+pub mod Items
+pub mod Kept
+pub mod Parting
+pub mod Dividing
+pub mod Loops

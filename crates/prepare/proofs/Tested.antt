@@ -1,0 +1,148 @@
+-- The two conditions that test one word: what the evaluators make of their bytes, and so their values.
+use Prim.Native.Nat.{ℕ, _+_, _-_, _%_, _^_, _≤_, _<_}
+use mathlib.Core.Path.{_≡_, refl, sym, ap, ap₂, _∙_}
+use mathlib.Core.Bool.{Bool}
+use mathlib.Core.List.{List, []}
+use native.Mathlib.Omega.{arith}
+use lib.ListN.{length, getD, drop, length-drop}
+use lib.Seq.{getD-drop, drop-drop}
+use lib.Dec.{eqb}
+use borrow.Author.Tests.{le-ltb}
+use Rattle.model.specs.Numbers.{rangeEnd, mostNesting, mostObjects}
+use Rattle.model.specs.Values.{Value, value, trouble}
+use Rattle.model.specs.Readers.{read, word}
+use Rattle.model.specs.Sets as Sets
+use Rattle.model.specs.Syntax.{Condition, Model}
+use Rattle.model.specs.Expressions.{condition}
+use Rattle.model.specs.Meaning.{conditionValue}
+use Rattle.words.specs.States.{stateOf}
+use Rattle.outline.specs.Outline.{fullFrom, tablesFrom, modelOf, Outlines}
+use Rattle.eval_sets.specs.declared.answers.ConditionValue.the-variants as C
+use Rattle.eval_sets.specs.Answers.{conditionAnswer, conditionPast, elementAnswer, setAnswer, setPast}
+use Rattle.eval_sets.specs.Forms.{setForm, conditionForm}
+use Rattle.eval_sets.specs.Runs.{Environment, environment, elementOf, runElement, elementThenSet, twoSets, setBehind, combined, runSet, memberOf, emptySet, conditionBehind, conditionAt, runCondition}
+use Rattle.eval_sets.specs.Promise.{Describes}
+use Rattle.eval_sets.proofs.Opening.{variable-some, literal-few, set-opens, condition-opens}
+use Rattle.eval_sets.proofs.Parts.{element-set-is, sets-are}
+use Rattle.eval_sets.proofs.Promises.{run-condition}
+use Rattle.eval_sets.proofs.Slices.{first-at}
+use Rattle.prepare.specs.declared.tests.Test.{Test}
+use Rattle.prepare.specs.Forms.{MemberForm, MissingForm}
+use Rattle.prepare.specs.Steps.{TestSays}
+use Rattle.prepare.proofs.Bits.{member-test, missing-test}
+
+-- ---- runs
+
+element-literal : (ws e : List ℕ) → 2 ≤ length e → getD e 0 0 ≡ 0x30 → runElement ws e ≡ elementAnswer (getD e 1 0 % mostObjects) 2
+unfolding runElement elementOf
+element-literal ws e l b = simp (b, le-ltb (length e) 2 l)
+
+module _ (ws fs bytes : List ℕ) where
+  some-behind : (at n : ℕ) → at + 1 + n ≤ length bytes → n ≤ length (drop (at + 1) bytes)
+  some-behind at n l = rw (length-drop (at + 1) bytes) (omega arith)
+
+  -- 41 v
+  variable-run : (d at v : ℕ) → (d ≡ 0 → ⊥) → at + 2 ≤ length bytes → getD bytes at 0 ≡ 0x41 → getD bytes (at + 1) 0 ≡ v → runSet d ws fs (drop at bytes) ≡ setAnswer (getD ws v 0) (getD fs v 0) 2
+  unfolding setForm setBehind
+  variable-run d at v some l b e =
+      let there = some-behind at 1 (omega arith) in
+      let is : getD (drop (at + 1) bytes) 0 0 ≡ v = sym (first-at (at + 1) bytes) ∙ e in
+      set-opens ws fs .opened d at bytes some (omega arith) b
+      ∙ ap (setPast 1) (variable-some ws fs (drop (at + 1) bytes) (λ z. absurd (omega arith)) ∙ ap (λ (u : ℕ). setAnswer (getD ws u 0) (getD fs u 0) 1) is)
+
+  -- 40 n and the members s
+  literal-run : (d at s : ℕ) → (d ≡ 0 → ⊥) → at + 10 ≤ length bytes → getD bytes at 0 ≡ 0x40 → getD bytes (at + 1) 0 ≤ mostObjects → word 8 (drop (at + 2) bytes) ≡ read s 8
+      → runSet d ws fs (drop at bytes) ≡ setAnswer s (2 ^ getD bytes (at + 1) 0 - 1) 10
+  unfolding setForm setBehind
+  literal-run d at s some l b few h =
+      let is : getD (drop (at + 1) bytes) 0 0 ≡ getD bytes (at + 1) 0 = sym (first-at (at + 1) bytes) in
+      let two-on : at + 1 + 1 ≡ at + 2 = omega arith in
+      let members : word 8 (drop 1 (drop (at + 1) bytes)) ≡ read s 8 = rw (drop-drop 1 (at + 1) bytes, two-on) h in
+      set-opens ws fs .opened d at bytes some (omega arith) b
+      ∙ ap (setPast 1) (literal-few (drop (at + 1) bytes) s (some-behind at 9 (omega arith)) (rw is few) members ∙ ap (λ (u : ℕ). setAnswer s (2 ^ u - 1) 9) is)
+
+module _ (p : Environment) (bytes : List ℕ) (at : ℕ) where
+  -- 54 30 k 41 v
+  member-run : (v : ℕ) → MemberForm bytes at → getD bytes (at + 4) 0 ≡ v → runCondition mostNesting p (drop at bytes) ≡ C.Holds (Sets.isMember (getD bytes (at + 2) 0 % mostObjects) (getD (p .state) v 0)) 5
+  unfolding conditionForm conditionAt conditionBehind memberOf conditionPast
+  member-run v f e =
+      let object : runElement (p .state) (drop (at + 1) bytes) ≡ elementAnswer (getD (drop (at + 1) bytes) 1 0 % mostObjects) 2 =
+      element-literal (p .state) (drop (at + 1) bytes) (some-behind (p .state) (p .full) bytes at 2 (omega (arith, f .inside))) (sym (first-at (at + 1) bytes) ∙ f .object) in
+      let k : getD (drop (at + 1) bytes) 1 0 ≡ getD bytes (at + 2) 0 = getD-drop (at + 1) bytes 1 0 ∙ ap (λ (i : ℕ). getD bytes i 0) (place 1) in
+      let third : drop 2 (drop (at + 1) bytes) ≡ drop (at + 3) bytes = drop-drop 2 (at + 1) bytes ∙ ap (λ (i : ℕ). drop i bytes) (place 2) in
+      let set : runSet 31 (p .state) (p .full) (drop 2 (drop (at + 1) bytes)) ≡ setAnswer (getD (p .state) v 0) (getD (p .full) v 0) 2 =
+      ap (runSet 31 (p .state) (p .full)) third ∙ variable-run (p .state) (p .full) bytes 31 (at + 3) v (λ z. absurd (omega arith)) (omega (arith, f .inside)) (f .variable) (ap (λ (i : ℕ). getD bytes i 0) (after-three 1) ∙ e) in
+      condition-opens p .opened mostNesting at bytes (λ z. absurd (omega arith)) (omega (arith, f .inside)) (f .member)
+      ∙ ap (λ (i : _). conditionPast 1 (memberOf i)) (element-set-is (p .state) _ (drop (at + 1) bytes) _ _ _ _ _ object set)
+      ∙ ap (λ (i : ℕ). C.Holds (Sets.isMember (i % mostObjects) (getD (p .state) v 0)) 5) k
+    where
+      place : (i : ℕ) → at + 1 + i ≡ at + (1 + i)
+      place i = omega arith
+
+      after-three : (i : ℕ) → at + 3 + i ≡ at + (3 + i)
+      after-three i = omega arith
+
+  -- 55 45 40 n members 41 v
+  missing-run : (v s : ℕ) → MissingForm bytes at → word 8 (drop (at + 4) bytes) ≡ read s 8 → getD bytes (at + 13) 0 ≡ v
+      → runCondition mostNesting p (drop at bytes) ≡ C.Holds (eqb (Sets.intersection s (getD (p .state) v 0)) 0) 14
+  unfolding conditionForm conditionAt conditionBehind emptySet conditionPast setForm setBehind combined
+  missing-run v s f h e =
+      let ws = p .state in
+      let fs = p .full in
+      let first : runSet 30 ws fs (drop (at + 2) bytes) ≡ setAnswer s (2 ^ getD bytes (at + 2 + 1) 0 - 1) 10 =
+      literal-run ws fs bytes 30 (at + 2) s (λ z. absurd (omega arith)) (omega (arith, f .inside)) (f .members)
+      (rw (from-two 1) (f .few)) (ap (λ (i : ℕ). word 8 (drop i bytes)) (from-two 2) ∙ h) in
+      let behind : drop 10 (drop (at + 2) bytes) ≡ drop (at + 12) bytes = drop-drop 10 (at + 2) bytes ∙ ap (λ (i : ℕ). drop i bytes) (from-two 10) in
+      let second : runSet 30 ws fs (drop 10 (drop (at + 2) bytes)) ≡ setAnswer (getD ws v 0) (getD fs v 0) 2 =
+      ap (runSet 30 ws fs) behind ∙ variable-run ws fs bytes 30 (at + 12) v (λ z. absurd (omega arith)) (omega (arith, f .inside)) (f .variable) (ap (λ (i : ℕ). getD bytes i 0) (omega-last at) ∙ e) in
+      let both : runSet 31 ws fs (drop (at + 1) bytes) ≡ setAnswer (Sets.intersection s (getD ws v 0)) (2 ^ getD bytes (at + 2 + 1) 0 - 1) 13 =
+      set-opens ws fs .opened 31 (at + 1) bytes (λ z. absurd (omega arith)) (omega (arith, f .inside)) (f .intersection)
+      ∙ rw (from-one 1) (ap (λ (i : _). setPast 1 (setAnswer (Sets.intersection (i .first) (i .second)) (i .full) (i .used))) (sets-are ws (λ g. runSet 30 ws fs g) (drop (at + 2) bytes) _ _ _ _ _ _ first second)) in
+      condition-opens p .opened mostNesting at bytes (λ z. absurd (omega arith)) (omega (arith, f .inside)) (f .empty)
+      ∙ ap (λ (i : _). conditionPast 1 (emptySet i)) both
+    where
+      from-one : (i : ℕ) → at + 1 + i ≡ at + (1 + i)
+      from-one i = omega arith
+
+      from-two : (i : ℕ) → at + 2 + i ≡ at + (2 + i)
+      from-two i = omega arith
+
+      omega-last : (at : ℕ) → at + 12 + 1 ≡ at + 13
+      omega-last at = omega arith
+
+-- ---- values
+
+holds-value : (v : Value Bool) (n : ℕ) {b : Bool} {k : ℕ} → conditionAnswer v n ≡ C.Holds b k → (v ≡ value b) × (n ≡ k)
+unfolding conditionAnswer
+holds-value (value b) n e = (cc, cc)
+holds-value (trouble t) n e = let z : _≡_ {A = ℕ} 0 1 = cc in absurd (omega arith)
+
+-- an outline's full sets and tables are what the evaluators are to be handed
+pub outline-describes : {bytes words : List ℕ} {m : Model} (state : List ℕ) → Outlines bytes words m → Describes (m .variables) (m .tables) (environment bytes state (drop fullFrom words) (drop tablesFrom words))
+outline-describes {bytes} {words} state o = record {
+  sets = λ v x e k. getD-drop fullFrom words v 0 ∙ o .variables v x e .full k;
+  tabled = λ t h. rw (getD-drop tablesFrom words t 0) (o .tables t h);
+}
+
+module _ (bytes : List ℕ) (at : ℕ) where
+  -- what runs to the test in every state is the test
+  told : (r : Test) → ((p : Environment) → runCondition mostNesting p (drop at bytes) ≡ C.Holds (eqb (Sets.intersection (getD (p .state) (r .variable) 0) (r .mask)) (r .need)) (r .used)) → TestSays bytes at r
+  told r runs words x n o some h = record {
+    used = holds-value (conditionValue rangeEnd (modelOf bytes .tables) x (stateOf (modelOf bytes .variables) [])) n (answer []) .1;
+    decides = λ state. holds-value _ n (answer state) .0;
+  }
+    where
+      answer : (state : List ℕ) → conditionAnswer (conditionValue rangeEnd (modelOf bytes .tables) x (stateOf (modelOf bytes .variables) state)) n
+          ≡ C.Holds (eqb (Sets.intersection (getD state (r .variable) 0) (r .mask)) (r .need)) (r .used)
+      answer state =
+          let p = environment bytes state (drop fullFrom words) (drop tablesFrom words) in
+          sym (run-condition mostNesting p (drop at bytes) _ _ x n (outline-describes state o) h) ∙ runs p
+
+  pub member-says : (v bit : ℕ) → MemberForm bytes at → getD bytes (at + 4) 0 ≡ v → bit ≡ 2 ^ (getD bytes (at + 2) 0 % mostObjects) → TestSays bytes at (record { variable = v; mask = bit; need = bit; used = 5 })
+  member-says v bit f e b = told _ (λ p. member-run p bytes at v f e ∙ rw (b, member-test (getD bytes (at + 2) 0 % mostObjects) (getD (p .state) v 0)))
+
+  pub missing-says : (v s : ℕ) → MissingForm bytes at → word 8 (drop (at + 4) bytes) ≡ read s 8 → getD bytes (at + 13) 0 ≡ v → TestSays bytes at (record { variable = v; mask = s; need = 0; used = 14 })
+  missing-says v s f h e = told _ (λ p. missing-run p bytes at v s f h e ∙ rw (missing-test s (getD (p .state) v 0)))
+
+  pub nothing-says : (v mask need : ℕ) → TestSays bytes at (record { variable = v; mask = mask; need = need; used = 0 })
+  nothing-says v mask need words x n o some h = absurd (some refl)

@@ -1,0 +1,89 @@
+// Conditions that test one word of a state: a member that is there, 54 30 k 41 v, and members that are not, 55 45 40 n members 41 v.
+
+ghost use mathlib.Core.Path.{_≡_};
+ghost use mathlib.Core.Bool.{true};
+ghost use Rattle.prepare.specs.Steps.{TestSays, TestWithin};
+ghost use Rattle.prepare.specs.Forms.{MemberForm, MissingForm};
+use eval_sets::bytes::after;
+use laws::byte_at;
+use laws::wide;
+use words::literals::long;
+use words::sets::single;
+
+// A test of one word: under the mask it is as needed. It takes so many bytes, none where there is no test.
+pub struct Test {
+    pub variable: usize,
+    pub mask: u64,
+    pub need: u64,
+    pub used: usize,
+}
+
+// Whether 54 30 k 41 v stands at a place.
+fn is_member(model: &[u8], at: usize) -> bool
+    ensures { λ r. ⌜ (r ≡ true → MemberForm (now (model .entry)) at) ⌝ }
+{
+    if model.len() < 5 {
+        return false;
+    }
+    if model.len() - 5 < at {
+        return false;
+    }
+    if model[at] == 0x54 {
+        if model[at + 1] == 0x30 {
+            return model[at + 3] == 0x41;
+        }
+    }
+    false
+}
+
+// Whether 55 45 40 n members 41 v stands at a place.
+fn is_missing(model: &[u8], at: usize) -> bool
+    ensures { λ r. ⌜ (r ≡ true → MissingForm (now (model .entry)) at) ⌝ }
+{
+    if model.len() < 14 {
+        return false;
+    }
+    if model.len() - 14 < at {
+        return false;
+    }
+    if model[at] == 0x55 {
+        if model[at + 1] == 0x45 {
+            if model[at + 2] == 0x40 {
+                if model[at + 3] <= 64 {
+                    return model[at + 12] == 0x41;
+                }
+            }
+        }
+    }
+    false
+}
+
+// The test that the condition at a place makes.
+pub fn test_at(model: &[u8], at: usize) -> Test
+    ensures says { λ r. ⌜ TestSays (now (model .entry)) at r ⌝ }
+    ensures within { λ r. ⌜ TestWithin r ⌝ }
+{
+    if is_member(model, at) {
+        let bit = single(wide(byte_at(model, at + 2)) % 64);
+        return Test {
+            variable: byte_at(model, at + 4) as usize,
+            mask: bit,
+            need: bit,
+            used: 5,
+        };
+    }
+    if is_missing(model, at) {
+        return Test {
+            variable: byte_at(model, at + 13) as usize,
+            mask: long(after(model, at + 4)),
+            need: 0,
+            used: 14,
+        };
+    }
+    Test {
+        variable: 0,
+        mask: 0,
+        need: 0,
+        used: 0,
+    }
+}
