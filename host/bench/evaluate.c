@@ -6,14 +6,18 @@
 
 /* The proved evaluators: a number's value, or INT64_MIN for trouble; 1 where a condition holds, 0 where not, 2 for trouble. */
 int64_t repgypsum_number_value(const uint8_t *e, uintptr_t e_len, const uint8_t *model, uintptr_t model_len, const uint64_t *state, uintptr_t state_len,
-                               const uint64_t *full, uintptr_t full_len, const uint64_t *tables, uintptr_t tables_len);
+                               const uint64_t *outline, uintptr_t outline_len);
 uint8_t repgypsum_condition_value(const uint8_t *e, uintptr_t e_len, const uint8_t *model, uintptr_t model_len, const uint64_t *state, uintptr_t state_len,
-                                  const uint64_t *full, uintptr_t full_len, const uint64_t *tables, uintptr_t tables_len);
+                                  const uint64_t *outline, uintptr_t outline_len);
+
+/* Where the outline has the kinds of variables; a set's is 64 and its object count. */
+enum { KINDS = 16 };
 
 /* ---- the plain interpreter: the forms that are timed and their neighbours */
 
 struct context {
     const uint64_t *state;
+    const uint64_t *outline;
     int trouble;
 };
 
@@ -33,6 +37,12 @@ static uint64_t element(const uint8_t **e, struct context *c) {
     return b == 0x30 ? k : c->state[k];
 }
 
+/* How many objects a set may have, by its first leaf that is a set. */
+static uint64_t objects(const uint8_t *e, const struct context *c) {
+    while (e[0] >= 0x42) e += e[0] <= 0x43 ? 3 : 1;
+    return e[0] == 0x40 ? e[1] : c->outline[KINDS + e[1]] - 64;
+}
+
 static uint64_t members(const uint8_t **e, struct context *c) {
     uint8_t b = *(*e)++;
     if (b == 0x40) {
@@ -46,6 +56,10 @@ static uint64_t members(const uint8_t **e, struct context *c) {
         uint64_t k = element(e, c);
         uint64_t s = members(e, c);
         return b == 0x42 ? s | (1ULL << k) : s & ~(1ULL << k);
+    }
+    if (b == 0x47) {
+        uint64_t all = UINT64_MAX >> (64 - objects(*e, c));
+        return all & ~members(e, c);
     }
     uint64_t s = members(e, c);
     uint64_t t = members(e, c);
@@ -102,46 +116,62 @@ static double now(void) {
 enum { ROUNDS = 20, CALLS = 500000 };
 
 int main(void) {
-    uint64_t state[16], full[16] = {0}, tables[1] = {0};
+    uint64_t state[16], outline[424] = {0};
     for (int v = 0; v < 16; v++) state[v] = 2147483648ULL + (uint64_t)(v * 37);
     state[8] = 0x5a5aULL;
-    full[8] = 0xffffULL;
+    outline[KINDS + 8] = 64 + 16;
     /* the sum of variables 0 to 7, balanced: 15 nodes */
     const uint8_t sum[] = {0x22, 0x22, 0x22, 0x21, 0, 0x21, 1, 0x22, 0x21, 2, 0x21, 3, 0x22, 0x22, 0x21, 4, 0x21, 5, 0x22, 0x21, 6, 0x21, 7};
     /* object 3 in set variable 8: 3 nodes */
     const uint8_t member[] = {0x54, 0x30, 3, 0x41, 8};
-    double proved[2] = {0, 0}, plain[2] = {0, 0};
+    /* object 3 in its complement: 4 nodes */
+    const uint8_t outside[] = {0x54, 0x30, 3, 0x47, 0x41, 8};
+    double proved[3] = {0, 0, 0}, plain[3] = {0, 0, 0};
     int64_t check = 0;
     for (int round = 0; round < ROUNDS; round++) {
         double a = now();
         for (int i = 0; i < CALLS; i++) {
             state[0] = 2147483648ULL + (uint64_t)(i & 255);
-            check += repgypsum_number_value(sum, sizeof sum, sum, sizeof sum, state, 16, full, 16, tables, 1);
+            check += repgypsum_number_value(sum, sizeof sum, sum, sizeof sum, state, 16, outline, 424);
         }
         double b = now();
         for (int i = 0; i < CALLS; i++) {
             state[0] = 2147483648ULL + (uint64_t)(i & 255);
-            struct context c = {state, 0};
+            struct context c = {state, outline, 0};
             const uint8_t *e = sum;
             check -= number(&e, &c);
         }
         double d = now();
         for (int i = 0; i < CALLS; i++) {
             state[8] = (uint64_t)(i & 65535);
-            check += repgypsum_condition_value(member, sizeof member, member, sizeof member, state, 16, full, 16, tables, 1);
+            check += repgypsum_condition_value(member, sizeof member, member, sizeof member, state, 16, outline, 424);
         }
         double f = now();
         for (int i = 0; i < CALLS; i++) {
             state[8] = (uint64_t)(i & 65535);
-            struct context c = {state, 0};
+            struct context c = {state, outline, 0};
             const uint8_t *e = member;
             check -= condition(&e, &c);
         }
         double g = now();
+        for (int i = 0; i < CALLS; i++) {
+            state[8] = (uint64_t)(i & 65535);
+            check += repgypsum_condition_value(outside, sizeof outside, outside, sizeof outside, state, 16, outline, 424);
+        }
+        double h = now();
+        for (int i = 0; i < CALLS; i++) {
+            state[8] = (uint64_t)(i & 65535);
+            struct context c = {state, outline, 0};
+            const uint8_t *e = outside;
+            check -= condition(&e, &c);
+        }
+        double j = now();
         proved[0] += b - a;
         plain[0] += d - b;
         proved[1] += f - d;
         plain[1] += g - f;
+        proved[2] += h - g;
+        plain[2] += j - h;
     }
     if (check != 0) {
         printf("the two disagree\n");
@@ -150,5 +180,6 @@ int main(void) {
     double calls = (double)ROUNDS * CALLS;
     printf("sum of eight variables: proved %.2f ns a node, plain C %.2f, ratio %.2f\n", proved[0] / calls / 15, plain[0] / calls / 15, proved[0] / plain[0]);
     printf("condition 54: proved %.2f ns a node, plain C %.2f, ratio %.2f\n", proved[1] / calls / 3, plain[1] / calls / 3, proved[1] / plain[1]);
+    printf("condition 54 of a complement: proved %.2f ns a node, plain C %.2f, ratio %.2f\n", proved[2] / calls / 4, plain[2] / calls / 4, proved[2] / plain[2]);
     return 0;
 }

@@ -14,12 +14,11 @@ pub extern "C" fn repgypsum_number_value(
     e: &[u8],
     model: &[u8],
     state: &[u64],
-    full: &[u64],
-    tables: &[u64],
+    outline: &[u64],
 ) -> i64
-    ensures { λ r. ⌜ r ≡ numberCode (runNumber 32 (environment (now (model .entry)) (now (state .entry)) (now (full .entry)) (now (tables .entry))) (now (e .entry))) ⌝ }
+    ensures { λ r. ⌜ r ≡ numberCode (runNumber 32 (environment (now (model .entry)) (now (state .entry)) (now (outline .entry))) (now (e .entry))) ⌝ }
 {
-    match eval_numbers::number(e, model, state, full, tables, 32) {
+    match eval_numbers::number(e, model, state, outline, 32) {
         NumberValue::Value(z, _) => z,
         NumberValue::Trouble(_) => -9223372036854775808,
     }
@@ -31,12 +30,11 @@ pub extern "C" fn repgypsum_condition_value(
     e: &[u8],
     model: &[u8],
     state: &[u64],
-    full: &[u64],
-    tables: &[u64],
+    outline: &[u64],
 ) -> u8
-    ensures { λ r. ⌜ r ≡ conditionCode (runCondition 32 (environment (now (model .entry)) (now (state .entry)) (now (full .entry)) (now (tables .entry))) (now (e .entry))) ⌝ }
+    ensures { λ r. ⌜ r ≡ conditionCode (runCondition 32 (environment (now (model .entry)) (now (state .entry)) (now (outline .entry))) (now (e .entry))) ⌝ }
 {
-    match eval_tests::test(e, model, state, full, tables, 32) {
+    match eval_tests::test(e, model, state, outline, 32) {
         ConditionValue::Holds(b, _) => if b { 1 } else { 0 },
         ConditionValue::Trouble(_) => 2,
     }

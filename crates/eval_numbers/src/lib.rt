@@ -2,7 +2,6 @@
 
 ghost use mathlib.Core.Path.{_≡_};
 ghost use Prim.Native.Nat.{_≤_};
-ghost use mathlib.Core.Bool.{false};
 ghost use lib.ListN.{length, drop};
 ghost use Rattle.eval_sets.specs.Runs as runs;
 ghost use Rattle.eval_sets.specs.Runs.{environment, runNumber, runCondition};
@@ -27,22 +26,13 @@ fn pair(
     at: usize,
     model: &[u8],
     state: &[u64],
-    full: &[u64],
-    tables: &[u64],
+    outline: &[u64],
     depth: usize,
 ) -> PairValue
-    ensures { λ r. ⌜ r ≡ runs.runPair (λ f. runNumber depth (environment (now (model .entry)) (now (state .entry)) (now (full .entry)) (now (tables .entry))) f) (drop at (now (e .entry))) ⌝ }
+    ensures { λ r. ⌜ r ≡ runs.pairAt depth (environment (now (model .entry)) (now (state .entry)) (now (outline .entry))) (drop at (now (e .entry))) ⌝ }
 {
-    match number_from(e, at, model, state, full, tables, depth) {
-        NumberValue::Value(x, n) => match number_from(
-            e,
-            at + n,
-            model,
-            state,
-            full,
-            tables,
-            depth,
-        ) {
+    match number_from(e, at, model, state, outline, depth) {
+        NumberValue::Value(x, n) => match number_from(e, at + n, model, state, outline, depth) {
             NumberValue::Value(y, m) => {
                 let used = n + m;
                 PairValue::Values(x, y, used)
@@ -60,14 +50,13 @@ fn number_before(
     n: usize,
     model: &[u8],
     state: &[u64],
-    full: &[u64],
-    tables: &[u64],
+    outline: &[u64],
     depth: usize,
 ) -> NumberValue
     requires { ⌜ n ≤ length (drop at (now e)) ⌝ }
-    ensures { λ r. ⌜ r ≡ runs.numberBefore n (runNumber depth (environment (now (model .entry)) (now (state .entry)) (now (full .entry)) (now (tables .entry))) (drop n (drop at (now (e .entry))))) (runs.skipAt (drop at (now (e .entry)))) ⌝ }
+    ensures { λ r. ⌜ r ≡ runs.numberBeforeAt n depth (environment (now (model .entry)) (now (state .entry)) (now (outline .entry))) (drop at (now (e .entry))) ⌝ }
 {
-    match number_from(e, at + n, model, state, full, tables, depth) {
+    match number_from(e, at + n, model, state, outline, depth) {
         NumberValue::Value(z, m) => {
             let k = n + m;
             let used = k + skip(after(e, at + k));
@@ -84,15 +73,14 @@ fn number_beyond(
     n: usize,
     model: &[u8],
     state: &[u64],
-    full: &[u64],
-    tables: &[u64],
+    outline: &[u64],
     depth: usize,
 ) -> NumberValue
     requires { ⌜ n ≤ length (drop at (now e)) ⌝ }
-    ensures { λ r. ⌜ r ≡ runs.chosen false n (λ k. runNumber depth (environment (now (model .entry)) (now (state .entry)) (now (full .entry)) (now (tables .entry))) (drop k (drop at (now (e .entry))))) (runs.skipAt (drop at (now (e .entry)))) ⌝ }
+    ensures { λ r. ⌜ r ≡ runs.numberBeyondAt n depth (environment (now (model .entry)) (now (state .entry)) (now (outline .entry))) (drop at (now (e .entry))) ⌝ }
 {
     let k = n + skip(after(e, at + n));
-    number_past(k, number_from(e, at + k, model, state, full, tables, depth))
+    number_past(k, number_from(e, at + k, model, state, outline, depth))
 }
 
 // 2B, behind its byte: a condition and two numbers, the first where it holds, else the second.
@@ -101,18 +89,17 @@ fn choice(
     at: usize,
     model: &[u8],
     state: &[u64],
-    full: &[u64],
-    tables: &[u64],
+    outline: &[u64],
     depth: usize,
 ) -> NumberValue
-    ensures { λ r. ⌜ r ≡ runs.runChoice (λ f. runNumber depth (environment (now (model .entry)) (now (state .entry)) (now (full .entry)) (now (tables .entry))) f) (λ f. runCondition depth (environment (now (model .entry)) (now (state .entry)) (now (full .entry)) (now (tables .entry))) f) (drop at (now (e .entry))) ⌝ }
+    ensures { λ r. ⌜ r ≡ runs.choiceAt depth (environment (now (model .entry)) (now (state .entry)) (now (outline .entry))) (drop at (now (e .entry))) ⌝ }
 {
-    match condition_from(e, at, model, state, full, tables, depth) {
+    match condition_from(e, at, model, state, outline, depth) {
         ConditionValue::Holds(b, n) => {
             if b {
-                number_before(e, at, n, model, state, full, tables, depth)
+                number_before(e, at, n, model, state, outline, depth)
             } else {
-                number_beyond(e, at, n, model, state, full, tables, depth)
+                number_beyond(e, at, n, model, state, outline, depth)
             }
         }
         ConditionValue::Trouble(t) => NumberValue::Trouble(t),
@@ -126,22 +113,18 @@ fn connective(
     at: usize,
     model: &[u8],
     state: &[u64],
-    full: &[u64],
-    tables: &[u64],
+    outline: &[u64],
     depth: usize,
 ) -> ConditionValue
-    ensures { λ r. ⌜ r ≡ runs.runConnective decides (λ f. runCondition depth (environment (now (model .entry)) (now (state .entry)) (now (full .entry)) (now (tables .entry))) f) (drop at (now (e .entry))) ⌝ }
+    ensures { λ r. ⌜ r ≡ runs.connectiveAt decides depth (environment (now (model .entry)) (now (state .entry)) (now (outline .entry))) (drop at (now (e .entry))) ⌝ }
 {
-    match condition_from(e, at, model, state, full, tables, depth) {
+    match condition_from(e, at, model, state, outline, depth) {
         ConditionValue::Holds(b, n) => {
             if leaves::agree(decides, b) {
                 let used = n + skip(after(e, at + n));
                 ConditionValue::Holds(b, used)
             } else {
-                condition_past(
-                    n,
-                    condition_from(e, at + n, model, state, full, tables, depth),
-                )
+                condition_past(n, condition_from(e, at + n, model, state, outline, depth))
             }
         }
         ConditionValue::Trouble(t) => ConditionValue::Trouble(t),
@@ -155,23 +138,22 @@ fn number_behind(
     at: usize,
     model: &[u8],
     state: &[u64],
-    full: &[u64],
-    tables: &[u64],
+    outline: &[u64],
     depth: usize,
 ) -> NumberValue
-    ensures { λ r. ⌜ r ≡ runs.numberAt depth (environment (now (model .entry)) (now (state .entry)) (now (full .entry)) (now (tables .entry))) form (drop at (now (e .entry))) ⌝ }
+    ensures { λ r. ⌜ r ≡ runs.numberAt depth (environment (now (model .entry)) (now (state .entry)) (now (outline .entry))) form (drop at (now (e .entry))) ⌝ }
 {
     match form {
         NumberForm::Literal => leaves::literal_number(after(e, at)),
         NumberForm::Variable => leaves::number_variable(after(e, at), state),
         NumberForm::Arithmetic(o) => leaves::arithmetic(
             o,
-            pair(e, at, model, state, full, tables, depth),
+            pair(e, at, model, state, outline, depth),
         ),
-        NumberForm::Entry => leaves::entry_number(after(e, at), model, state, tables),
-        NumberForm::Size => leaves::size_number(e, at, state, full, depth),
-        NumberForm::Total => leaves::total_number(e, at, model, state, full, tables, depth),
-        NumberForm::Choice => choice(e, at, model, state, full, tables, depth),
+        NumberForm::Entry => leaves::entry_number(after(e, at), model, state, outline),
+        NumberForm::Size => leaves::size_number(e, at, state, outline, depth),
+        NumberForm::Total => leaves::total_number(e, at, model, state, outline, depth),
+        NumberForm::Choice => choice(e, at, model, state, outline, depth),
         NumberForm::Other => NumberValue::Trouble(NOTHING),
     }
 }
@@ -183,31 +165,29 @@ fn condition_behind(
     at: usize,
     model: &[u8],
     state: &[u64],
-    full: &[u64],
-    tables: &[u64],
+    outline: &[u64],
     depth: usize,
 ) -> ConditionValue
-    ensures { λ r. ⌜ r ≡ runs.conditionAt depth (environment (now (model .entry)) (now (state .entry)) (now (full .entry)) (now (tables .entry))) form (drop at (now (e .entry))) ⌝ }
+    ensures { λ r. ⌜ r ≡ runs.conditionAt depth (environment (now (model .entry)) (now (state .entry)) (now (outline .entry))) form (drop at (now (e .entry))) ⌝ }
 {
     match form {
         ConditionForm::Comparison(r) => leaves::comparison(
             r,
-            pair(e, at, model, state, full, tables, depth),
+            pair(e, at, model, state, outline, depth),
         ),
         ConditionForm::Same => leaves::same_elements(after(e, at), state),
-        ConditionForm::Member => leaves::member_of(e, at, state, full, depth),
-        ConditionForm::Empty => leaves::empty_set(e, at, state, full, depth),
-        ConditionForm::Subset => leaves::subset_of(e, at, state, full, depth),
+        ConditionForm::Member => leaves::member_of(e, at, state, outline, depth),
+        ConditionForm::Empty => leaves::empty_set(e, at, state, outline, depth),
+        ConditionForm::Subset => leaves::subset_of(e, at, state, outline, depth),
         ConditionForm::Negation => leaves::negation(condition_from(
             e,
             at,
             model,
             state,
-            full,
-            tables,
+            outline,
             depth,
         )),
-        ConditionForm::Connective(b) => connective(b, e, at, model, state, full, tables, depth),
+        ConditionForm::Connective(b) => connective(b, e, at, model, state, outline, depth),
         ConditionForm::Other => ConditionValue::Trouble(NOTHING),
     }
 }
@@ -218,11 +198,10 @@ fn number_from(
     at: usize,
     model: &[u8],
     state: &[u64],
-    full: &[u64],
-    tables: &[u64],
+    outline: &[u64],
     depth: usize,
 ) -> NumberValue
-    ensures { λ r. ⌜ r ≡ runNumber depth (environment (now (model .entry)) (now (state .entry)) (now (full .entry)) (now (tables .entry))) (drop at (now (e .entry))) ⌝ }
+    ensures { λ r. ⌜ r ≡ runNumber depth (environment (now (model .entry)) (now (state .entry)) (now (outline .entry))) (drop at (now (e .entry))) ⌝ }
 {
     if depth == 0 {
         return NumberValue::Trouble(NOTHING);
@@ -240,16 +219,7 @@ fn number_from(
     }
     number_past(
         1,
-        number_behind(
-            number_form(b),
-            e,
-            next,
-            model,
-            state,
-            full,
-            tables,
-            depth - 1,
-        ),
+        number_behind(number_form(b), e, next, model, state, outline, depth - 1),
     )
 }
 
@@ -259,11 +229,10 @@ pub fn condition_from(
     at: usize,
     model: &[u8],
     state: &[u64],
-    full: &[u64],
-    tables: &[u64],
+    outline: &[u64],
     depth: usize,
 ) -> ConditionValue
-    ensures { λ r. ⌜ r ≡ runCondition depth (environment (now (model .entry)) (now (state .entry)) (now (full .entry)) (now (tables .entry))) (drop at (now (e .entry))) ⌝ }
+    ensures { λ r. ⌜ r ≡ runCondition depth (environment (now (model .entry)) (now (state .entry)) (now (outline .entry))) (drop at (now (e .entry))) ⌝ }
 {
     if depth == 0 {
         return ConditionValue::Trouble(NOTHING);
@@ -274,34 +243,18 @@ pub fn condition_from(
     let b = e[at];
     let next = at + 1;
     if b == 0x54 {
-        return condition_past(1, leaves::member_of(e, next, state, full, depth - 1));
+        return condition_past(1, leaves::member_of(e, next, state, outline, depth - 1));
     }
     condition_past(
         1,
-        condition_behind(
-            condition_form(b),
-            e,
-            next,
-            model,
-            state,
-            full,
-            tables,
-            depth - 1,
-        ),
+        condition_behind(condition_form(b), e, next, model, state, outline, depth - 1),
     )
 }
 
 // The value of the number at the front.
-pub fn number(
-    e: &[u8],
-    model: &[u8],
-    state: &[u64],
-    full: &[u64],
-    tables: &[u64],
-    depth: usize,
-) -> NumberValue
-    ensures run { λ r. ⌜ r ≡ runNumber depth (environment (now (model .entry)) (now (state .entry)) (now (full .entry)) (now (tables .entry))) (now (e .entry)) ⌝ }
-    ensures promise { λ r. ⌜ NumberPromise depth (environment (now (model .entry)) (now (state .entry)) (now (full .entry)) (now (tables .entry))) (now (e .entry)) r ⌝ }
+pub fn number(e: &[u8], model: &[u8], state: &[u64], outline: &[u64], depth: usize) -> NumberValue
+    ensures run { λ r. ⌜ r ≡ runNumber depth (environment (now (model .entry)) (now (state .entry)) (now (outline .entry))) (now (e .entry)) ⌝ }
+    ensures promise { λ r. ⌜ NumberPromise depth (environment (now (model .entry)) (now (state .entry)) (now (outline .entry))) (now (e .entry)) r ⌝ }
 {
-    number_from(e, 0, model, state, full, tables, depth)
+    number_from(e, 0, model, state, outline, depth)
 }

@@ -4,9 +4,10 @@ use mathlib.Core.Path.{_≡_, refl, sym, ap, _∙_}
 use native.Mathlib.Omega.{arith}
 use lib.ListN.{getD}
 use mathlib.Core.Bool.{true, false}
-use mathlib.Core.List.{List, [], _∷_}
+use mathlib.Core.List.{List, [], _∷_, _++_}
 use lib.IntN.{pos, negsuc}
 use Rattle.laws.specs.Hex.{hex}
+use Rattle.model.specs.Numbers.{mostObjects}
 use Rattle.model.specs.Values as ofValues
 use Rattle.model.specs.Values.{_>>=_ as _bindValues_}
 use Rattle.model.specs.Sets as ofSets
@@ -14,17 +15,23 @@ use Rattle.model.specs.Syntax.{Kind, aSet, anElement, aNumber, none, Variable, 
 use Rattle.model.specs.Readers as ofReaders
 use Rattle.model.specs.Readers.{_>>=_ as _bindReaders_, _>>_ as _thenReaders_}
 use Rattle.model.specs.Meaning as ofMeaning
+use Rattle.words.specs.FullSets as ofFullSets
 use Rattle.words.specs.Tables as ofTables
 use Rattle.eval_sets.specs.declared.answers.NumberValue.{NumberValue}
 use Rattle.eval_sets.specs.declared.answers.NumberValue.the-variants as N
 use Rattle.eval_sets.specs.declared.answers.ConditionValue.{ConditionValue}
 use Rattle.eval_sets.specs.declared.answers.ConditionValue.the-variants as C
 use Rattle.words.specs.States as ofStates
+use Rattle.outline.specs.Outline.{kindsFrom}
 use Rattle.eval_sets.specs.Forms as ofForms
 use Rattle.eval_sets.specs.Answers as ofAnswers
 use Rattle.eval_sets.specs.Runs as ofRuns
-use Rattle.eval_sets.specs.Promise.{FullSets, Describes}
+use Rattle.eval_sets.specs.Promise.{SetKinds, Describes}
 use Rattle.eval_sets.specs.Runs.{Environment, environment, runNumber, runCondition}
+
+abbrev zeros : ℕ → List ℕ
+zeros zero = []
+zeros (suc n) = 0 ∷ zeros n
 
 -- a table of 3 rows and 1 column, 2^31 − 1, 1 and −1, from byte 9 on; a number 5, an element 2, and the set {0, 2} of 3 objects
 abbrev pub here : Environment
@@ -32,8 +39,7 @@ here =
     environment
     (hex 24 0x01_00_03_02_00_00_05_03_01_06_ff_ff_ff_7f_06_01_00_00_00_06_ff_ff_ff_ff)
     ((2 ^ 31 + 5) ∷ 2 ∷ 5 ∷ [])
-    (0 ∷ 0 ∷ 7 ∷ [])
-    (ofTables.tableWord 9 1 3 ∷ [])
+    (zeros kindsFrom ++ (0 ∷ 3 ∷ (mostObjects + 3) ∷ zeros 61) ++ (ofTables.tableWord 9 1 3 ∷ []))
 
 pub data Asked : Type 0 where
   numberAt : (depth : ℕ) (bytes : List ℕ) → Asked
@@ -46,7 +52,7 @@ pub data Told : Type 0 where
   bytes : ℕ → Told
 
 unfoldable pub opened : Asked → Told
-unfolding hex _bindValues_ ofValues.inRange ofValues.floorBy ofValues.floorQuotient ofSets.isMember ofSets.union ofSets.intersection ofSets.difference
+unfolding hex _bindValues_ ofValues.inRange ofValues.floorBy ofValues.floorQuotient ofSets.isMember ofSets.union ofSets.intersection ofSets.difference ofFullSets.fullOf
     ofSets.isSubset ofSets.consIf ofSets.membersFrom ofSets.members ofReaders.after ofReaders.continue _bindReaders_ _thenReaders_ ofReaders.give
     ofReaders.require ofReaders.byte ofReaders.word ofReaders.signed ofReaders.one ofReaders.integer ofMeaning.equalZ ofMeaning.sumOver
     ofTables.orZero ofTables.cellAt ofTables.entryIn ofStates.valueOf ofForms.numberForm ofForms.setForm ofForms.conditionForm ofForms.shapeOf
@@ -75,6 +81,11 @@ asked =
     ∷ numberAt 32 (hex 6 0x28_00_31_01_30_00)
     -- the size of a complement
     ∷ numberAt 32 (hex 4 0x29_47_41_02)
+    -- of the complement of a changed set, of a combined one, of none of 64 objects; of 65 there is no full set
+    ∷ numberAt 32 (hex 7 0x29_47_43_30_00_41_02)
+    ∷ numberAt 32 (hex 7 0x29_47_46_41_02_41_02)
+    ∷ numberAt 32 (hex 12 0x29_47_40_40_00_00_00_00_00_00_00_00)
+    ∷ numberAt 32 (hex 12 0x29_47_40_41_00_00_00_00_00_00_00_00)
     -- a total whose partial sums alone leave the range, and one that leaves it
     ∷ numberAt 32 (hex 14 0x2a_00_40_03_07_00_00_00_00_00_00_00_30_00)
     ∷ numberAt 32 (hex 14 0x2a_00_40_03_03_00_00_00_00_00_00_00_30_00)
@@ -107,6 +118,10 @@ told =
     ∷ number (N.Value (negsuc 1) 8)
     ∷ number (N.Value (negsuc 0) 6)
     ∷ number (N.Value (pos 1) 4)
+    ∷ number (N.Value (pos 2) 7)
+    ∷ number (N.Value (pos 3) 7)
+    ∷ number (N.Value (pos 64) 12)
+    ∷ number (N.Value (pos 0) 12)
     ∷ number (N.Value (pos 0x7fff_ffff) 14)
     ∷ number (N.Trouble 11)
     ∷ number (N.Value (pos 9) 28)
@@ -156,11 +171,11 @@ started = refl
 other-kind : {X : Type 0} (k : Kind) (x y : Variable) → x ≡ y → y .kind ≡ aSet → x .kind ≡ k → (aSet ≡ k → ⊥) → X
 other-kind k x y q h j n = absurd (n (sym h ∙ sym (ap (λ (v : Variable). v .kind) q) ∙ j))
 
-full-sets : FullSets variables (here .full)
-full-sets zero x q k = other-kind aNumber numberVariable x (cc) k refl (λ c. let z : _≡_ {A = ℕ} 0 1 = cc in omega arith)
-full-sets (suc zero) x q k = other-kind anElement elementVariable x (cc) k refl (λ c. let z : _≡_ {A = ℕ} 0 1 = cc in omega arith)
-full-sets (suc (suc zero)) x q k = let w : setVariable ≡ x = cc in rw (← w)
-full-sets (suc (suc (suc v))) x q k = let z : _≡_ {A = ℕ} 0 1 = cc in absurd (omega arith)
+set-kinds : SetKinds variables (here .outline)
+set-kinds zero x q k = other-kind aNumber numberVariable x (cc) k refl (λ c. let z : _≡_ {A = ℕ} 0 1 = cc in omega arith)
+set-kinds (suc zero) x q k = other-kind anElement elementVariable x (cc) k refl (λ c. let z : _≡_ {A = ℕ} 0 1 = cc in omega arith)
+set-kinds (suc (suc zero)) x q k = let w : setVariable ≡ x = cc in rw (← w) (refl, omega arith)
+set-kinds (suc (suc (suc v))) x q k = let z : _≡_ {A = ℕ} 0 1 = cc in absurd (omega arith)
 
 cells-there : (k : ℕ) → k < 3 → getD (tableAt tables 0 .entries) k (pos 0) ≡ ofTables.cellAt (here .model) 9 k
 unfolding hex tableAt ofTables.cellAt ofTables.orZero ofReaders.after ofReaders.continue _bindReaders_ ofReaders.give ofReaders.byte ofReaders.word ofReaders.signed ofReaders.one ofReaders.integer
@@ -172,7 +187,7 @@ cells-there (suc (suc (suc k))) h = absurd (omega arith)
 pub described : Describes variables tables here
 unfolding tableAt
 described = record {
-  sets = full-sets;
+  sets = set-kinds;
   tabled = λ t h. let q : t ≡ 0 = omega arith in
       rw q (record { at = 9; packed = refl; near = omega arith; narrow = omega arith; few = omega arith; cells = cells-there });
 }

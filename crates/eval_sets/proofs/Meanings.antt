@@ -1,5 +1,5 @@
 -- The run of an expression that reads well gives its value and the bytes that reading used.
-use Prim.Native.Nat.{ℕ, zero, suc, _+_, _-_, _%_, _^_, _<_, _≤_}
+use Prim.Native.Nat.{ℕ, zero, suc, _+_, _%_, _<_, _≤_}
 use mathlib.Core.Path.{_≡_, refl, sym, ap, _∙_}
 use mathlib.Core.Bool.{Bool}
 use mathlib.Core.List.{List, _∷_}
@@ -7,7 +7,7 @@ use native.Mathlib.Omega.{arith}
 use lib.ListN.{length, drop, getD}
 use lib.IntN.{ℤ}
 use lib.Signed.{mag}
-use borrow.Author.Tests.{le-ltb, le-leb}
+use borrow.Author.Tests.{le-ltb}
 use Rattle.model.specs.Numbers.{rangeEnd, mostObjects}
 use Rattle.model.specs.Values.{Value, value}
 use Rattle.model.specs.Sets as Sets
@@ -30,14 +30,19 @@ use Rattle.eval_sets.specs.declared.first_bytes.Relation.the-variants as
 use Rattle.eval_sets.specs.declared.first_bytes.ConditionForm.{ConditionForm}
 use Rattle.eval_sets.specs.declared.first_bytes.ConditionForm.the-variants as CF
 use Rattle.words.specs.States.{valueOf, stateOf}
+use Rattle.words.proofs.FullSets.{full-of}
 use Rattle.eval_sets.specs.Forms.{numberForm, setForm, conditionForm}
 use Rattle.eval_sets.specs.Answers.{numberAnswer, conditionAnswer, setAnswer, elementAnswer, numberPast, conditionPast, setPast}
 use Rattle.eval_sets.specs.Runs as R
 use Rattle.eval_sets.specs.Runs.{Environment, runElement, runSet, runNumber, runCondition, setBehind, numberBehind, conditionBehind}
-use Rattle.eval_sets.specs.Promise.{FullSets, Describes}
+use Rattle.eval_sets.specs.Promise.{SetKinds, Describes}
 use Rattle.eval_sets.proofs.Reading.{Of, unsaid, of-map, of-both, of-one, of-two, of-three, Long, Byte, of-integer, of-objectNumber, Members, of-objectsAndMembers, Declared, of-variable, of-elementAndSet, of-twoSets, of-inTable, pick, pick-none, of-forms, of-noDepth}
 use Rattle.eval_sets.proofs.Spans.{number-ends, condition-ends, ends-span}
 use Rattle.eval_sets.proofs.Parts.{state-at, number-past, condition-past, elements-are, element-set-is, set-element-is, sets-are, pair-is, test-is, negation-is, both-is, either-is, choice-is, sum-same, entry-is}
+
+-- the outline tells the objects of the set variable v, no more than a set may have
+abbrev Known : (outline : List ℕ) (v objects : ℕ) → Type 0
+Known os v objects = (R.objectsIn os v ≡ objects) × (objects ≤ mostObjects)
 
 module _ (vs : List Variable) (ts : List Table) (ws : List ℕ) where
   abbrev here : State
@@ -74,61 +79,84 @@ module _ (vs : List Variable) (ts : List Table) (ws : List ℕ) where
 
   -- ---- sets
 
-  -- a set's answer: its members, the full set of its objects, the bytes
+  -- a set's answer: its members, how many objects it may have, the bytes
   abbrev setSays : Set → ℕ → SetValue
-  setSays x n = setAnswer (setValue x here) (2 ^ setCount x - 1) n
+  setSays x n = setAnswer (setValue x here) (setCount x) n
 
-  module _ (fs : List ℕ) (known : (v objects : ℕ) → Declared vs aSet v objects → getD fs v 0 ≡ 2 ^ objects - 1) where
-    literal-set : (objects members n : ℕ) (f : List ℕ) → Members f objects members n → R.literalSet f ≡ setAnswer members (2 ^ objects - 1) n
+  module _ (os : List ℕ) (known : (v objects : ℕ) → Declared vs aSet v objects → Known os v objects) where
+    literal-set : (objects members n : ℕ) (f : List ℕ) → Members f objects members n → R.literalSet f ≡ setAnswer members objects n
     unfolding R.literalSet R.literalMembers
     literal-set objects members n f h =
         let long : 9 ≤ length (objects ∷ h .rest) = omega (arith, h .long) in
-        rw (h .whole, le-ltb (length (objects ∷ h .rest)) 9 long, h .there, le-leb objects mostObjects (h .few), h .used)
+        rw (h .whole, le-ltb (length (objects ∷ h .rest)) 9 long, h .there, h .used)
 
-    variable-set : (v objects n : ℕ) (f : List ℕ) → Byte f v n → Declared vs aSet v objects → R.setVariableAt ws fs f ≡ setAnswer (mag (numberAt here v)) (2 ^ objects - 1) n
+    variable-set : (v objects n : ℕ) (f : List ℕ) → Byte f v n → Declared vs aSet v objects → R.setVariableAt ws os f ≡ setAnswer (mag (numberAt here v)) objects n
     unfolding R.setVariableAt valueOf
-    variable-set v objects n f h x = rw (h .whole, h .used, known v objects x, variable-is aSet v objects x)
+    variable-set v objects n f h x = rw (h .whole, h .used, known v objects x .0, variable-is aSet v objects x)
+
+    -- a set that reads well has no more objects than a set may have
+    set-counted : (d : ℕ) (e : List ℕ) → Of (λ x n. setCount x ≤ mostObjects) (set vs ts d e)
+    unfolding set setCount
+    set-counted zero e = of-noDepth e
+    set-counted (suc d) e = of-forms _ e (λ b f q.
+        pick counted b f 0x40 _ _ tt tt (of-one objectsAndMembers _ f (of-objectsAndMembers f) (λ a n p. p .few))
+        (pick counted b f 0x41 _ _ tt tt (of-one (variable vs ts aSet) _ f (of-variable vs ts aSet f) (λ v n p. known (v .0) (v .1) (p .1) .1))
+        (pick counted b f 0x42 _ _ tt tt (of-elementAndSet (element vs ts d) (set vs ts d) add f (element-runs d f) (set-counted d) (λ a n y m p q. q))
+        (pick counted b f 0x43 _ _ tt tt (of-elementAndSet (element vs ts d) (set vs ts d) remove f (element-runs d f) (set-counted d) (λ a n y m p q. q))
+        (pick counted b f 0x44 _ _ tt tt (of-twoSets (set vs ts d) union f (set-counted d f) (set-counted d) (λ a n y m p q. p))
+        (pick counted b f 0x45 _ _ tt tt (of-twoSets (set vs ts d) intersection f (set-counted d f) (set-counted d) (λ a n y m p q. p))
+        (pick counted b f 0x46 _ _ tt tt (of-twoSets (set vs ts d) difference f (set-counted d f) (set-counted d) (λ a n y m p q. p))
+        (pick counted b f 0x47 _ _ tt tt (of-one (set vs ts d) complement f (set-counted d f) (λ a n p. p))
+        (pick-none counted b f tt (λ t. unsaid))))))))))
+      where
+        counted : ℕ → Unit {0} → Read Set → Type 0
+        counted b u r = Of (λ x n. setCount x ≤ mostObjects) r
+
+    complement-is : (objects s n : ℕ) → objects ≤ mostObjects → R.complemented (setAnswer s objects n) ≡ setAnswer (Sets.complement objects s) objects n
+    unfolding R.complemented Sets.complement
+    complement-is objects s n h = rw (full-of objects h)
 
     -- what is behind the first byte
     Behind : (List ℕ → SetValue) → List ℕ → ℕ → SetForm → Read Set → Type 0
-    Behind rs f b form r = Of (λ x n. setBehind ws fs rs form f ≡ setSays x n) r
+    Behind rs f b form r = Of (λ x n. setBehind ws os rs form f ≡ setSays x n) r
 
-    pub set-runs : (d : ℕ) (e : List ℕ) → Of (λ x n. runSet d ws fs e ≡ setSays x n) (set vs ts d e)
-    unfolding set runSet setForm Behind setBehind setValue setCount naturalAt R.changed R.combined R.complemented Sets.complement
+    pub set-runs : (d : ℕ) (e : List ℕ) → Of (λ x n. runSet d ws os e ≡ setSays x n) (set vs ts d e)
+    unfolding set runSet setForm Behind setBehind setValue setCount naturalAt R.changed R.combined
     set-runs zero e = of-noDepth e
     set-runs (suc d) e = of-forms _ e (λ b f q. rw q (of-map (λ x n h. ap (setPast 1) h)
-        (pick (Behind (λ g. runSet d ws fs g) f) b f 0x40 _ _ _ _ (of-one objectsAndMembers _ f (of-objectsAndMembers f) (λ a n p. literal-set (a .0) (a .1) n f p))
-        (pick (Behind (λ g. runSet d ws fs g) f) b f 0x41 _ _ _ _ (of-one (variable vs ts aSet) _ f (of-variable vs ts aSet f) (λ v n p. variable-set (v .0) (v .1) n f (p .0) (p .1)))
-        (pick (Behind (λ g. runSet d ws fs g) f) b f 0x42 _ _ _ _ (of-elementAndSet (element vs ts d) (set vs ts d) add f (element-runs d f) (set-runs d)
-        (λ a n y m p q. ap (R.changed Ch.Add) (element-set-is ws (λ g. runSet d ws fs g) f _ n _ _ m p q)))
-        (pick (Behind (λ g. runSet d ws fs g) f) b f 0x43 _ _ _ _ (of-elementAndSet (element vs ts d) (set vs ts d) remove f (element-runs d f) (set-runs d)
-        (λ a n y m p q. ap (R.changed Ch.Remove) (element-set-is ws (λ g. runSet d ws fs g) f _ n _ _ m p q)))
-        (pick (Behind (λ g. runSet d ws fs g) f) b f 0x44 _ _ _ _ (of-twoSets (set vs ts d) union f (set-runs d f) (set-runs d)
-        (λ a n y m p q. ap (R.combined Co.Union) (sets-are ws (λ g. runSet d ws fs g) f _ _ n _ _ m p q)))
-        (pick (Behind (λ g. runSet d ws fs g) f) b f 0x45 _ _ _ _ (of-twoSets (set vs ts d) intersection f (set-runs d f) (set-runs d)
-        (λ a n y m p q. ap (R.combined Co.Intersection) (sets-are ws (λ g. runSet d ws fs g) f _ _ n _ _ m p q)))
-        (pick (Behind (λ g. runSet d ws fs g) f) b f 0x46 _ _ _ _ (of-twoSets (set vs ts d) difference f (set-runs d f) (set-runs d)
-        (λ a n y m p q. ap (R.combined Co.Difference) (sets-are ws (λ g. runSet d ws fs g) f _ _ n _ _ m p q)))
-        (pick (Behind (λ g. runSet d ws fs g) f) b f 0x47 _ _ _ _ (of-one (set vs ts d) complement f (set-runs d f) (λ a n p. ap R.complemented p))
-        (pick-none (Behind (λ g. runSet d ws fs g) f) b f SF.Other (λ t. unsaid))))))))))))
+        (pick (Behind (λ g. runSet d ws os g) f) b f 0x40 _ _ _ _ (of-one objectsAndMembers _ f (of-objectsAndMembers f) (λ a n p. literal-set (a .0) (a .1) n f p))
+        (pick (Behind (λ g. runSet d ws os g) f) b f 0x41 _ _ _ _ (of-one (variable vs ts aSet) _ f (of-variable vs ts aSet f) (λ v n p. variable-set (v .0) (v .1) n f (p .0) (p .1)))
+        (pick (Behind (λ g. runSet d ws os g) f) b f 0x42 _ _ _ _ (of-elementAndSet (element vs ts d) (set vs ts d) add f (element-runs d f) (set-runs d)
+        (λ a n y m p q. ap (R.changed Ch.Add) (element-set-is ws (λ g. runSet d ws os g) f _ n _ _ m p q)))
+        (pick (Behind (λ g. runSet d ws os g) f) b f 0x43 _ _ _ _ (of-elementAndSet (element vs ts d) (set vs ts d) remove f (element-runs d f) (set-runs d)
+        (λ a n y m p q. ap (R.changed Ch.Remove) (element-set-is ws (λ g. runSet d ws os g) f _ n _ _ m p q)))
+        (pick (Behind (λ g. runSet d ws os g) f) b f 0x44 _ _ _ _ (of-twoSets (set vs ts d) union f (set-runs d f) (set-runs d)
+        (λ a n y m p q. ap (R.combined Co.Union) (sets-are ws (λ g. runSet d ws os g) f _ _ n _ _ m p q)))
+        (pick (Behind (λ g. runSet d ws os g) f) b f 0x45 _ _ _ _ (of-twoSets (set vs ts d) intersection f (set-runs d f) (set-runs d)
+        (λ a n y m p q. ap (R.combined Co.Intersection) (sets-are ws (λ g. runSet d ws os g) f _ _ n _ _ m p q)))
+        (pick (Behind (λ g. runSet d ws os g) f) b f 0x46 _ _ _ _ (of-twoSets (set vs ts d) difference f (set-runs d f) (set-runs d)
+        (λ a n y m p q. ap (R.combined Co.Difference) (sets-are ws (λ g. runSet d ws os g) f _ _ n _ _ m p q)))
+        (pick (Behind (λ g. runSet d ws os g) f) b f 0x47 _ _ _ _ (of-one (set vs ts d) complement f (of-both (set-runs d f) (set-counted d f))
+        (λ a n p. ap R.complemented (p .0) ∙ complement-is (setCount a) (setValue a here) n (p .1)))
+        (pick-none (Behind (λ g. runSet d ws os g) f) b f SF.Other (λ t. unsaid))))))))))))
 
 -- ---- numbers and conditions
 
-pub full-known : (vs : List Variable) (fs : List ℕ) → FullSets vs fs → (v objects : ℕ) → Declared vs aSet v objects → getD fs v 0 ≡ 2 ^ objects - 1
-full-known vs fs h v objects x = h v (x .named) (x .found) (x .alike) ∙ ap (λ (k : ℕ). 2 ^ k - 1) (x .counted)
+pub kinds-known : (vs : List Variable) (os : List ℕ) → SetKinds vs os → (v objects : ℕ) → Declared vs aSet v objects → Known os v objects
+kinds-known vs os h v objects x = let k = h v (x .named) (x .found) (x .alike) in (omega (arith, k .0, x .counted), omega (arith, k .1, x .counted))
 
 module _ (vs : List Variable) (ts : List Table) (p : Environment) (known : Describes vs ts p) where
   abbrev now : State
   now = stateOf vs (p .state)
 
   abbrev setAt : ℕ → List ℕ → SetValue
-  setAt d e = runSet d (p .state) (p .full) e
+  setAt d e = runSet d (p .state) (p .outline) e
 
   elements-run : (d : ℕ) (e : List ℕ) → Of (λ x n. runElement (p .state) e ≡ elementAnswer (elementValue x now) n) (element vs ts d e)
   elements-run d e = element-runs vs ts (p .state) d e
 
-  sets-run : (d : ℕ) (e : List ℕ) → Of (λ x n. setAt d e ≡ setAnswer (setValue x now) (2 ^ setCount x - 1) n) (set vs ts d e)
-  sets-run d e = set-runs vs ts (p .state) (p .full) (full-known vs (p .full) (known .sets)) d e
+  sets-run : (d : ℕ) (e : List ℕ) → Of (λ x n. setAt d e ≡ setAnswer (setValue x now) (setCount x) n) (set vs ts d e)
+  sets-run d e = set-runs vs ts (p .state) (p .outline) (kinds-known vs (p .outline) (known .sets)) d e
 
   literal-number : (z : ℤ) (n : ℕ) (f : List ℕ) → integer f ≡ read z n → Long 4 f n → R.literalNumber f ≡ numberAnswer (R.fits z) n
   unfolding R.literalNumber R.literalValue
@@ -140,7 +168,7 @@ module _ (vs : List Variable) (ts : List Table) (p : Environment) (known : Descr
 
   entry-number : (t k i n j m : ℕ) (f : List ℕ) → Byte f t k → t < length ts
       → runElement (p .state) (drop k f) ≡ elementAnswer i n → runElement (p .state) (drop n (drop k f)) ≡ elementAnswer j m
-      → R.entryNumber (p .model) (p .state) (p .tables) f ≡ numberAnswer (R.fits (entryAt (tableAt ts t) i j)) (k + (n + m))
+      → R.entryNumber (p .model) (p .state) (p .outline) f ≡ numberAnswer (R.fits (entryAt (tableAt ts t) i j)) (k + (n + m))
   unfolding R.entryNumber
   entry-number t k i n j m f h l a b =
       let behind : drop k f ≡ h .rest = rw (h .used, h .whole) in
@@ -149,12 +177,12 @@ module _ (vs : List Variable) (ts : List Table) (p : Environment) (known : Descr
 
   total-number : (d t k s g n j m : ℕ) (f : List ℕ) → Byte f t k → t < length ts
       → setAt d (drop k f) ≡ setAnswer s g n → runElement (p .state) (drop n (drop k f)) ≡ elementAnswer j m
-      → R.totalNumber (p .model) (p .state) (p .tables) (λ e. setAt d e) f ≡ numberAnswer (R.fits (sumOver (λ i. entryAt (tableAt ts t) i j) (Sets.members s))) (k + (n + m))
+      → R.totalNumber (p .model) (p .state) (p .outline) (λ e. setAt d e) f ≡ numberAnswer (R.fits (sumOver (λ i. entryAt (tableAt ts t) i j) (Sets.members s))) (k + (n + m))
   unfolding R.totalNumber
   total-number d t k s g n j m f h l a b =
       let behind : drop k f ≡ h .rest = rw (h .used, h .whole) in
       let x = set-element-is (p .state) (λ e. setAt d e) (h .rest) s g n j m (rw behind at a) (rw behind at b) in
-      rw (h .whole, x, sum-same (λ i. R.entryOf (p .model) (getD (p .tables) t 0) i j) (λ i. entryAt (tableAt ts t) i j) (λ i. entry-is (known .tabled t l) i j) (Sets.members s), h .used)
+      rw (h .whole, x, sum-same (λ i. R.entryOf (p .model) (R.tableIn (p .outline) t) i j) (λ i. entryAt (tableAt ts t) i j) (λ i. entry-is (known .tabled t l) i j) (Sets.members s), h .used)
 
   -- what the readers of one depth less tell
   abbrev NumberRuns : ℕ → Type 0

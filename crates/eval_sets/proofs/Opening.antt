@@ -1,49 +1,37 @@
 -- Definitions that go by the bytes' shape, opened by a length: what the code's tests tell.
-use Prim.Native.Nat.{ℕ, zero, suc, _-_, _^_, _<_, _≤_, _+_, _%_}
+use Prim.Native.Nat.{ℕ, zero, suc, _-_, _<_, _≤_, _+_, _%_}
 use mathlib.Core.Path.{_≡_, refl}
 use mathlib.Core.List.{List, [], _∷_}
 use native.Mathlib.Omega.{arith}
 use lib.ListN.{length, getD, drop}
-use lib.Dec.{ltb}
-use borrow.Author.Tests.{le-ltb, le-leb, lt-leb}
-use Rattle.laws.proofs.Bools.{by-cond}
+use borrow.Author.Tests.{le-ltb}
 use lib.IntN.{pos, _-ℤ_}
-use Rattle.model.specs.Numbers.{rangeEnd}
+use Rattle.model.specs.Numbers.{rangeEnd, rangeSize}
 use Rattle.model.specs.Sets.{members}
 use Rattle.model.specs.Meaning.{sumOver}
 use Rattle.words.specs.States.{valueOf}
-use Rattle.model.specs.Readers.{Read, read, refused, word}
+use Rattle.model.specs.Readers.{read, word}
 use Rattle.eval_sets.specs.declared.answers.SetValue.{SetValue}
 use Rattle.eval_sets.proofs.Slices.{behind, first-at, none-behind, some-behind}
 use Rattle.eval_sets.specs.Answers.{noSet, noNumber, noCondition, setAnswer, setPast, numberPast, conditionPast, numberAnswer}
 use Rattle.eval_sets.specs.Forms.{setForm, numberForm, conditionForm}
-use Rattle.eval_sets.specs.Runs.{Environment, runNumber, runCondition, numberAt, conditionAt, fits, numberVariableAt, entryOf, entryNumber, totalNumber, twoElements, setThenElement, setVariableAt, literalSet, literalMembers, setBehind, runSet}
+use Rattle.eval_sets.specs.Runs.{Environment, objectsIn, tableIn, runNumber, runCondition, numberAt, conditionAt, fits, numberVariableAt, entryOf, entryNumber, totalNumber, twoElements, setThenElement, setVariableAt, literalSet, literalMembers, setBehind, runSet}
 
 -- ---- leaves of sets
 
-pub variable-none : (ws fs e : List ℕ) → length e ≡ 0 → setVariableAt ws fs e ≡ noSet
+pub variable-none : (ws os e : List ℕ) → length e ≡ 0 → setVariableAt ws os e ≡ noSet
 unfolding setVariableAt
-variable-none ws fs [] h = refl
-variable-none ws fs (v ∷ e) h = absurd (omega arith)
+variable-none ws os [] h = refl
+variable-none ws os (v ∷ e) h = absurd (omega arith)
 
-pub variable-some : (ws fs e : List ℕ) → (length e ≡ 0 → ⊥) → setVariableAt ws fs e ≡ setAnswer (getD ws (getD e 0 0) 0) (getD fs (getD e 0 0) 0) 1
+pub variable-some : (ws os e : List ℕ) → (length e ≡ 0 → ⊥) → setVariableAt ws os e ≡ setAnswer (getD ws (getD e 0 0) 0) (objectsIn os (getD e 0 0)) 1
 unfolding setVariableAt
-variable-some ws fs [] h = absurd (h refl)
-variable-some ws fs (v ∷ e) h = refl
+variable-some ws os [] h = absurd (h refl)
+variable-some ws os (v ∷ e) h = refl
 
--- more than 64 objects
-pub literal-many : (e : List ℕ) → 64 < getD e 0 0 → literalSet e ≡ noSet
+pub literal-is : (e : List ℕ) (s : ℕ) → 9 ≤ length e → word 8 (drop 1 e) ≡ read s 8 → literalSet e ≡ setAnswer s (getD e 0 0) 9
 unfolding literalSet literalMembers
-literal-many e h =
-    by-cond (λ (x : SetValue). x ≡ noSet) (ltb (length e) 9) (λ q. refl) (λ q. none (word 8 (drop 1 e)))
-  where
-    none : (r : Read ℕ) → literalMembers (getD e 0 0) r ≡ noSet
-    none (read s k) = rw (lt-leb (getD e 0 0) 64 h)
-    none (refused t) = refl
-
-pub literal-few : (e : List ℕ) (s : ℕ) → 9 ≤ length e → getD e 0 0 ≤ 64 → word 8 (drop 1 e) ≡ read s 8 → literalSet e ≡ setAnswer s (2 ^ getD e 0 0 - 1) 9
-unfolding literalSet literalMembers
-literal-few e s h l q = rw (le-ltb (length e) 9 h, q, le-leb (getD e 0 0) 64 l)
+literal-is e s h q = rw (le-ltb (length e) 9 h, q)
 
 -- ---- leaves of numbers
 
@@ -53,31 +41,31 @@ number-variable-none ws [] h = refl
 number-variable-none ws (v ∷ e) h = absurd (omega arith)
 
 pub number-variable-some : (ws e : List ℕ) → (length e ≡ 0 → ⊥)
-    → numberVariableAt ws e ≡ numberAnswer (fits (pos (getD ws (getD e 0 0) 0 % 2 ^ 32) -ℤ pos rangeEnd)) 1
+    → numberVariableAt ws e ≡ numberAnswer (fits (pos (getD ws (getD e 0 0) 0 % rangeSize) -ℤ pos rangeEnd)) 1
 unfolding numberVariableAt valueOf
 number-variable-some ws [] h = absurd (h refl)
 number-variable-some ws (v ∷ e) h = refl
 
-module _ (model ws ts : List ℕ) where
-  pub entry-none : (e : List ℕ) → length e ≡ 0 → entryNumber model ws ts e ≡ noNumber
+module _ (model ws os : List ℕ) where
+  pub entry-none : (e : List ℕ) → length e ≡ 0 → entryNumber model ws os e ≡ noNumber
   unfolding entryNumber
   entry-none [] h = refl
   entry-none (t ∷ e) h = absurd (omega arith)
 
-  pub entry-some : (e : List ℕ) → (length e ≡ 0 → ⊥) → entryNumber model ws ts e
-      ≡ numberAnswer (fits (entryOf model (getD ts (getD e 0 0) 0) (twoElements ws (drop 1 e) .first) (twoElements ws (drop 1 e) .second))) (1 + twoElements ws (drop 1 e) .used)
+  pub entry-some : (e : List ℕ) → (length e ≡ 0 → ⊥) → entryNumber model ws os e
+      ≡ numberAnswer (fits (entryOf model (tableIn os (getD e 0 0)) (twoElements ws (drop 1 e) .first) (twoElements ws (drop 1 e) .second))) (1 + twoElements ws (drop 1 e) .used)
   unfolding entryNumber
   entry-some [] h = absurd (h refl)
   entry-some (t ∷ e) h = refl
 
   module _ (rs : List ℕ → SetValue) where
-    pub total-none : (e : List ℕ) → length e ≡ 0 → totalNumber model ws ts rs e ≡ noNumber
+    pub total-none : (e : List ℕ) → length e ≡ 0 → totalNumber model ws os rs e ≡ noNumber
     unfolding totalNumber
     total-none [] h = refl
     total-none (t ∷ e) h = absurd (omega arith)
 
-    pub total-some : (e : List ℕ) → (length e ≡ 0 → ⊥) → totalNumber model ws ts rs e
-        ≡ numberAnswer (fits (sumOver (λ i. entryOf model (getD ts (getD e 0 0) 0) i (setThenElement ws rs (drop 1 e) .second)) (members (setThenElement ws rs (drop 1 e) .first)))) (1 + setThenElement ws rs (drop 1 e) .used)
+    pub total-some : (e : List ℕ) → (length e ≡ 0 → ⊥) → totalNumber model ws os rs e
+        ≡ numberAnswer (fits (sumOver (λ i. entryOf model (tableIn os (getD e 0 0)) i (setThenElement ws rs (drop 1 e) .second)) (members (setThenElement ws rs (drop 1 e) .first)))) (1 + setThenElement ws rs (drop 1 e) .used)
     unfolding totalNumber
     total-some [] h = absurd (h refl)
     total-some (t ∷ e) h = refl
@@ -109,9 +97,9 @@ module _ {A : Type 0} (run : ℕ → List ℕ → A) (nothing : A) (first : (dep
     opened = λ d at e h l q. rw (← q, behind at 1 e, first-at at e) (at-some d (drop at e) h (some-behind at e l));
   }
 
-pub set-opens : (ws fs : List ℕ) → Opens (λ d e. runSet d ws fs e) noSet (λ d b e. setPast 1 (setBehind ws fs (λ f. runSet d ws fs f) (setForm b) e))
+pub set-opens : (ws os : List ℕ) → Opens (λ d e. runSet d ws os e) noSet (λ d b e. setPast 1 (setBehind ws os (λ f. runSet d ws os f) (setForm b) e))
 unfolding runSet
-set-opens ws fs = opens _ _ _ (λ e. refl) (λ d. refl) (λ d b e. refl)
+set-opens ws os = opens _ _ _ (λ e. refl) (λ d. refl) (λ d b e. refl)
 
 pub number-opens : (p : Environment) → Opens (λ d e. runNumber d p e) noNumber (λ d b e. numberPast 1 (numberAt d p (numberForm b) e))
 unfolding runNumber numberAt

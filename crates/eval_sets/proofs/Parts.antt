@@ -36,8 +36,8 @@ state-at (y ∷ vs) (w ∷ ws) (suc v) x q = state-at vs ws v x q
 
 -- ---- elements and sets
 
-abbrev pub parts : (first second full n : ℕ) → Parts
-parts a b f n = record { first = a; second = b; full = f; used = n }
+abbrev pub parts : (first second objects n : ℕ) → Parts
+parts a b c n = record { first = a; second = b; objects = c; used = n }
 
 module _ (ws : List ℕ) (rs : List ℕ → SetValue) (e : List ℕ) where
   pub elements-are : (i n j m : ℕ) → runElement ws e ≡ elementAnswer i n → runElement ws (drop n e) ≡ elementAnswer j m → twoElements ws e ≡ parts i j 0 (n + m)

@@ -5,7 +5,7 @@ use mathlib.Core.Bool.{Bool, true, false, cond}
 use mathlib.Core.List.{List, [], _∷_}
 use native.Mathlib.Omega.{arith}
 use lib.ListN.{length, drop, getD, length-drop}
-use lib.Dec.{eqb, ltb, leb}
+use lib.Dec.{eqb, ltb}
 use lib.IntN.{ℤ}
 use lib.Signed.{mag}
 use borrow.Author.Tests.{ltb-true, ltb-false}
@@ -78,7 +78,7 @@ module _ (ws : List ℕ) (rs : List ℕ → SetValue) (hs : (e : List ℕ) → r
 
   literal-members : (n L : ℕ) (r : Read ℕ) → 9 ≤ L → R.literalMembers n r .used ≤ L
   unfolding R.literalMembers
-  literal-members n L (read s k) h = by-cond (λ (x : SetValue). x .used ≤ L) (leb n 64) (λ q. h) (λ q. omega arith)
+  literal-members n L (read s k) h = h
   literal-members n L (refused t) h = omega arith
 
   literal-within : (e : List ℕ) → R.literalSet e .used ≤ length e
@@ -87,10 +87,10 @@ module _ (ws : List ℕ) (rs : List ℕ → SetValue) (hs : (e : List ℕ) → r
       by-cond (λ (x : SetValue). x .used ≤ length e) (ltb (length e) 9) (λ q. omega arith)
       (λ q. literal-members (getD e 0 0) (length e) (word 8 (drop 1 e)) (ltb-false (length e) 9 q))
 
-  variable-within : (fs e : List ℕ) → R.setVariableAt ws fs e .used ≤ length e
+  variable-within : (os e : List ℕ) → R.setVariableAt ws os e .used ≤ length e
   unfolding R.setVariableAt
-  variable-within fs [] = omega arith
-  variable-within fs (v ∷ e) = omega arith
+  variable-within os [] = omega arith
+  variable-within os (v ∷ e) = omega arith
 
   changed-used : (h : Change) (p : Parts) → R.changed h p .used ≡ p .used
   unfolding R.changed
@@ -103,21 +103,21 @@ module _ (ws : List ℕ) (rs : List ℕ → SetValue) (hs : (e : List ℕ) → r
   combined-used Co.Intersection p = refl
   combined-used Co.Difference p = refl
 
-  pub set-behind-within : (fs : List ℕ) (form : SetForm) (e : List ℕ) → setBehind ws fs rs form e .used ≤ length e
+  pub set-behind-within : (os : List ℕ) (form : SetForm) (e : List ℕ) → setBehind ws os rs form e .used ≤ length e
   unfolding setBehind R.complemented
-  set-behind-within fs SF.Literal e = literal-within e
-  set-behind-within fs SF.Variable e = variable-within fs e
-  set-behind-within fs (SF.Changed h) e = rw (changed-used h (R.elementThenSet ws rs e)) (element-set-within e)
-  set-behind-within fs (SF.Combined c) e = rw (combined-used c (R.twoSets rs e)) (sets-within e)
-  set-behind-within fs SF.Complement e = hs e
-  set-behind-within fs SF.Other e = omega arith
+  set-behind-within os SF.Literal e = literal-within e
+  set-behind-within os SF.Variable e = variable-within os e
+  set-behind-within os (SF.Changed h) e = rw (changed-used h (R.elementThenSet ws rs e)) (element-set-within e)
+  set-behind-within os (SF.Combined c) e = rw (combined-used c (R.twoSets rs e)) (sets-within e)
+  set-behind-within os SF.Complement e = hs e
+  set-behind-within os SF.Other e = omega arith
 
-pub set-within : (d : ℕ) (ws fs e : List ℕ) → runSet d ws fs e .used ≤ length e
+pub set-within : (d : ℕ) (ws os e : List ℕ) → runSet d ws os e .used ≤ length e
 unfolding runSet
-set-within zero ws fs e = omega arith
-set-within (suc d) ws fs [] = omega arith
-set-within (suc d) ws fs (b ∷ e) =
-    let h = set-behind-within ws (λ f. runSet d ws fs f) (λ f. set-within d ws fs f) fs (setForm b) e in omega (arith, h)
+set-within zero ws os e = omega arith
+set-within (suc d) ws os [] = omega arith
+set-within (suc d) ws os (b ∷ e) =
+    let h = set-behind-within ws (λ f. runSet d ws os f) (λ f. set-within d ws os f) os (setForm b) e in omega (arith, h)
 
 -- ---- numbers and conditions
 
@@ -226,12 +226,12 @@ module _ (rn : List ℕ → NumberValue) (rc : List ℕ → ConditionValue)
     variable-number [] = tt
     variable-number (v ∷ e) = fits-within _ 1 (length (v ∷ e)) (omega arith)
 
-    entry-number : (e : List ℕ) → NumberWithin (length e) (R.entryNumber (p .model) (p .state) (p .tables) e)
+    entry-number : (e : List ℕ) → NumberWithin (length e) (R.entryNumber (p .model) (p .state) (p .outline) e)
     unfolding R.entryNumber
     entry-number [] = tt
     entry-number (t ∷ e) = fits-within _ _ (length (t ∷ e)) (omega (arith, elements-within (p .state) e))
 
-    total-number : (e : List ℕ) → NumberWithin (length e) (R.totalNumber (p .model) (p .state) (p .tables) rs e)
+    total-number : (e : List ℕ) → NumberWithin (length e) (R.totalNumber (p .model) (p .state) (p .outline) rs e)
     unfolding R.totalNumber
     total-number [] = tt
     total-number (t ∷ e) = fits-within _ _ (length (t ∷ e)) (omega (arith, set-element-within (p .state) rs hs e))
@@ -267,7 +267,7 @@ mutual
   number-within (suc d) p (b ∷ e) =
       number-past-within (b ∷ e) 1 _ (omega arith)
       (number-behind-within (λ f. runNumber d p f) (λ f. runCondition d p f) (λ f. number-within d p f) (λ f. condition-within d p f) p
-      (λ f. runSet d (p .state) (p .full) f) (λ f. set-within d (p .state) (p .full) f) (numberForm b) e)
+      (λ f. runSet d (p .state) (p .outline) f) (λ f. set-within d (p .state) (p .outline) f) (numberForm b) e)
 
   pub condition-within : (d : ℕ) (p : Environment) (e : List ℕ) → ConditionWithin (length e) (runCondition d p e)
   condition-within zero p e = tt
@@ -275,7 +275,7 @@ mutual
   condition-within (suc d) p (b ∷ e) =
       condition-past-within (b ∷ e) 1 _ (omega arith)
       (condition-behind-within (λ f. runNumber d p f) (λ f. runCondition d p f) (λ f. number-within d p f) (λ f. condition-within d p f) p
-      (λ f. runSet d (p .state) (p .full) f) (λ f. set-within d (p .state) (p .full) f) (conditionForm b) e)
+      (λ f. runSet d (p .state) (p .outline) f) (λ f. set-within d (p .state) (p .outline) f) (conditionForm b) e)
 
 -- an element takes two bytes or none, and is below 64
 element-kept : (ws : List ℕ) (b k : ℕ) → (R.elementOf ws b k .used ≤ 2) × (R.elementOf ws b k .object < 64)
@@ -310,13 +310,13 @@ set-element-small ws rs e = element-small ws (drop (rs e .used) e)
 pub element-past : (ws : List ℕ) (at : ℕ) (e f : List ℕ) (v : ElementValue) → f ≡ drop at e → v ≡ runElement ws f → v .used ≤ length e - at
 element-past ws at e f v q r = omega (arith, rw (← r, q) at (element-within ws f), length-drop at e)
 
-pub set-past : (d : ℕ) (ws fs : List ℕ) (at : ℕ) (e : List ℕ) (v : SetValue) → v ≡ runSet d ws fs (drop at e) → v .used ≤ length e - at
-set-past d ws fs at e v r = omega (arith, rw (← r) at (set-within d ws fs (drop at e)), length-drop at e)
+pub set-past : (d : ℕ) (ws os : List ℕ) (at : ℕ) (e : List ℕ) (v : SetValue) → v ≡ runSet d ws os (drop at e) → v .used ≤ length e - at
+set-past d ws os at e v r = omega (arith, rw (← r) at (set-within d ws os (drop at e)), length-drop at e)
 
-pub set-variable-used : (ws fs e : List ℕ) → R.setVariableAt ws fs e .used ≤ 1
+pub set-variable-used : (ws os e : List ℕ) → R.setVariableAt ws os e .used ≤ 1
 unfolding R.setVariableAt
-set-variable-used ws fs [] = omega arith
-set-variable-used ws fs (v ∷ e) = omega arith
+set-variable-used ws os [] = omega arith
+set-variable-used ws os (v ∷ e) = omega arith
 
 pub elements-used : (ws e : List ℕ) → R.twoElements ws e .used ≤ 4
 unfolding R.twoElements
@@ -357,13 +357,13 @@ module _ (d : ℕ) (p : Environment) where
   unfolding R.numberAt
   number-at-within form e =
       number-behind-within (λ f. runNumber d p f) (λ f. runCondition d p f) (λ f. number-within d p f) (λ f. condition-within d p f) p
-      (λ f. runSet d (p .state) (p .full) f) (λ f. set-within d (p .state) (p .full) f) form e
+      (λ f. runSet d (p .state) (p .outline) f) (λ f. set-within d (p .state) (p .outline) f) form e
 
   pub condition-at-within : (form : ConditionForm) (e : List ℕ) → ConditionWithin (length e) (R.conditionAt d p form e)
   unfolding R.conditionAt
   condition-at-within form e =
       condition-behind-within (λ f. runNumber d p f) (λ f. runCondition d p f) (λ f. number-within d p f) (λ f. condition-within d p f) p
-      (λ f. runSet d (p .state) (p .full) f) (λ f. set-within d (p .state) (p .full) f) form e
+      (λ f. runSet d (p .state) (p .outline) f) (λ f. set-within d (p .state) (p .outline) f) form e
 
   -- leaves of one byte more
   pub variable-room : (e : List ℕ) → 1 + length e < 2 ^ 64 → NumberRoom 1 (R.numberVariableAt (p .state) e)
@@ -375,7 +375,7 @@ module _ (d : ℕ) (p : Environment) where
   literal-room e h = number-room 1 (length e) (R.literalNumber e) (number-at-within NF.Literal e) h
 
   pub member-room : (e : List ℕ) → 1 + length e < 2 ^ 64
-      → ConditionRoom 1 (R.memberOf (R.elementThenSet (p .state) (λ f. runSet d (p .state) (p .full) f) e))
+      → ConditionRoom 1 (R.memberOf (R.elementThenSet (p .state) (λ f. runSet d (p .state) (p .outline) f) e))
   unfolding R.conditionAt conditionBehind
   member-room e h =
-      condition-room 1 (length e) (R.memberOf (R.elementThenSet (p .state) (λ f. runSet d (p .state) (p .full) f) e)) (condition-at-within CF.Member e) h
+      condition-room 1 (length e) (R.memberOf (R.elementThenSet (p .state) (λ f. runSet d (p .state) (p .outline) f) e)) (condition-at-within CF.Member e) h

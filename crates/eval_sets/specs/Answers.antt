@@ -21,8 +21,8 @@ unfoldable pub conditionAnswer : Value Bool → ℕ → ConditionValue
 conditionAnswer (value b) n = C.Holds b n
 conditionAnswer (trouble t) n = C.Trouble t
 
-abbrev pub setAnswer : (members full n : ℕ) → SetValue
-setAnswer s f n = record { members = s; full = f; used = n }
+abbrev pub setAnswer : (members objects n : ℕ) → SetValue
+setAnswer s c n = record { members = s; objects = c; used = n }
 
 abbrev pub elementAnswer : (object n : ℕ) → ElementValue
 elementAnswer k n = record { object = k; used = n }
@@ -50,7 +50,7 @@ conditionPast k (C.Holds b n) = C.Holds b (k + n)
 conditionPast k (C.Trouble t) = C.Trouble t
 
 abbrev pub setPast : ℕ → SetValue → SetValue
-setPast k v = setAnswer (v .members) (v .full) (k + v .used)
+setPast k v = setAnswer (v .members) (v .objects) (k + v .used)
 
 -- a form of two numbers, by the answer of the two
 unfoldable pub numberOfTwo : (ℤ → ℤ → Value ℤ) → PairValue → NumberValue

@@ -1,31 +1,32 @@
 -- What the evaluators promise of an expression that reads well: its value in the state that the words stand for.
-use Prim.Native.Nat.{ℕ, _-_, _^_, _<_}
+use Prim.Native.Nat.{ℕ, _+_, _≤_, _<_}
 use mathlib.Core.Path.{_≡_}
 use mathlib.Core.List.{List}
 use mathlib.Core.Option as O
 use lib.ListN.{length, getD, getElem?}
-use Rattle.model.specs.Numbers.{rangeEnd}
+use Rattle.model.specs.Numbers.{rangeEnd, mostObjects}
 use Rattle.model.specs.Readers.{read}
 use Rattle.model.specs.Syntax.{Element, Set, Number, Condition, aSet, Variable, Table, tableAt, setCount}
 use Rattle.model.specs.Expressions as reading
 use Rattle.model.specs.Meaning.{elementValue, setValue, numberValue, conditionValue}
 use Rattle.words.specs.Tables.{Tabled}
+use Rattle.outline.specs.Outline.{kindsFrom}
 use Rattle.eval_sets.specs.declared.answers.NumberValue.{NumberValue}
 use Rattle.eval_sets.specs.declared.answers.ConditionValue.{ConditionValue}
 use Rattle.eval_sets.specs.declared.answers.ElementValue.{ElementValue}
 use Rattle.eval_sets.specs.declared.answers.SetValue.{SetValue}
 use Rattle.words.specs.States.{stateOf}
 use Rattle.eval_sets.specs.Answers.{numberAnswer, conditionAnswer, setAnswer, elementAnswer}
-use Rattle.eval_sets.specs.Runs.{Environment}
+use Rattle.eval_sets.specs.Runs.{Environment, tableIn}
 
--- each set variable's full set is that of its objects
-abbrev pub FullSets : List Variable → (full : List ℕ) → Type 0
-FullSets vs fs = (v : ℕ) (x : Variable) → getElem? vs v ≡ O.some x → x .kind ≡ aSet → getD fs v 0 ≡ 2 ^ x .objects - 1
+-- each set variable's kind word tells its objects, at most 64
+abbrev pub SetKinds : List Variable → (outline : List ℕ) → Type 0
+SetKinds vs os = (v : ℕ) (x : Variable) → getElem? vs v ≡ O.some x → x .kind ≡ aSet → (getD os (kindsFrom + v) 0 ≡ mostObjects + x .objects) × (x .objects ≤ mostObjects)
 
--- full sets and table words are those of the declared variables and tables
+-- kind words and table words are those of the declared variables and tables
 pub record Describes (variables : List Variable) (tables : List Table) (p : Environment) : Type 0 where
-  pub sets : FullSets variables (p .full)
-  pub tabled : (t : ℕ) → t < length tables → Tabled (p .model) (getD (p .tables) t 0) (tableAt tables t)
+  pub sets : SetKinds variables (p .outline)
+  pub tabled : (t : ℕ) → t < length tables → Tabled (p .model) (tableIn (p .outline) t) (tableAt tables t)
 
 -- ---- the promises; e are the bytes from the expression on, d is the depth that is left
 
@@ -33,9 +34,9 @@ abbrev pub ElementPromise : (state e : List ℕ) → ElementValue → Type 0
 ElementPromise ws e r = (vs : List Variable) (ts : List Table) (d : ℕ) (x : Element) (n : ℕ)
     → reading.element vs ts d e ≡ read x n → r ≡ elementAnswer (elementValue x (stateOf vs ws)) n
 
-abbrev pub SetPromise : (d : ℕ) (state full e : List ℕ) → SetValue → Type 0
-SetPromise d ws fs e r = (vs : List Variable) (ts : List Table) (x : Set) (n : ℕ) → FullSets vs fs
-    → reading.set vs ts d e ≡ read x n → r ≡ setAnswer (setValue x (stateOf vs ws)) (2 ^ setCount x - 1) n
+abbrev pub SetPromise : (d : ℕ) (state outline e : List ℕ) → SetValue → Type 0
+SetPromise d ws os e r = (vs : List Variable) (ts : List Table) (x : Set) (n : ℕ) → SetKinds vs os
+    → reading.set vs ts d e ≡ read x n → r ≡ setAnswer (setValue x (stateOf vs ws)) (setCount x) n
 
 abbrev pub NumberPromise : (d : ℕ) (p : Environment) (e : List ℕ) → NumberValue → Type 0
 NumberPromise d p e r = (vs : List Variable) (ts : List Table) (x : Number) (n : ℕ) → Describes vs ts p

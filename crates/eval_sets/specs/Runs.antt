@@ -3,7 +3,7 @@ use Prim.Native.Nat.{ℕ, zero, suc, _+_, _-_, _%_, _^_}
 use mathlib.Core.Bool.{Bool, true, false, cond}
 use mathlib.Core.List.{List, [], _∷_}
 use lib.ListN.{length, getD, drop}
-use lib.Dec.{eqb, ltb, leb}
+use lib.Dec.{eqb, ltb}
 use lib.IntN.{ℤ, pos, _+ℤ_, _-ℤ_, _*ℤ_}
 use lib.Signed.{ltZ, leZ}
 use Rattle.model.specs.Numbers.{rangeEnd, mostObjects}
@@ -12,7 +12,9 @@ use Rattle.model.specs.Readers.{Read, read, refused, word, integer}
 use Rattle.model.specs.Sets as Sets
 use Rattle.model.specs.Syntax.{aNumber}
 use Rattle.model.specs.Meaning.{equalZ, sumOver}
+use Rattle.words.specs.FullSets.{fullOf}
 use Rattle.words.specs.Tables.{entryIn, columnsOf, cellsOf, atOf}
+use Rattle.outline.specs.Outline.{kindsFrom, tablesFrom}
 use Rattle.eval_sets.specs.declared.answers.NumberValue.{NumberValue}
 use Rattle.eval_sets.specs.declared.answers.NumberValue.the-variants as N
 use Rattle.eval_sets.specs.declared.answers.PairValue.{PairValue}
@@ -40,15 +42,22 @@ use Rattle.words.specs.States.{valueOf}
 use Rattle.eval_sets.specs.Answers.{numberAnswer, setAnswer, elementAnswer, noNumber, noCondition, noSet, noElement, numberPast, conditionPast, setPast, numberOfTwo, conditionOfTwo, negated}
 use Rattle.eval_sets.specs.Forms.{numberForm, setForm, conditionForm, span}
 
--- what an expression is evaluated in: the model's bytes, the state's words, the full set of each set variable, a word for each table
+-- what an expression is evaluated in: the model's bytes, the state's words, the outline's words
 pub record Environment : Type 0 where
   pub model : List ℕ
   pub state : List ℕ
-  pub full : List ℕ
-  pub tables : List ℕ
+  pub outline : List ℕ
 
-abbrev pub environment : (model state full tables : List ℕ) → Environment
-environment m ws fs ts = record { model = m; state = ws; full = fs; tables = ts }
+abbrev pub environment : (model state outline : List ℕ) → Environment
+environment m ws os = record { model = m; state = ws; outline = os }
+
+-- the objects of the set variable v, by its kind word
+abbrev pub objectsIn : (outline : List ℕ) (v : ℕ) → ℕ
+objectsIn os v = getD os (kindsFrom + v) 0 - mostObjects
+
+-- the word of table t
+abbrev pub tableIn : (outline : List ℕ) (t : ℕ) → ℕ
+tableIn os t = getD os (tablesFrom + t) 0
 
 -- ---- elements
 
@@ -63,16 +72,16 @@ runElement ws e = cond (ltb (length e) 2) noElement (elementOf ws (getD e 0 0) (
 -- ---- sets
 
 abbrev pub elementParts : ElementValue → ElementValue → Parts
-elementParts x y = record { first = x .object; second = y .object; full = 0; used = x .used + y .used }
+elementParts x y = record { first = x .object; second = y .object; objects = 0; used = x .used + y .used }
 
 abbrev pub elementSetParts : ElementValue → SetValue → Parts
-elementSetParts x y = record { first = x .object; second = y .members; full = y .full; used = x .used + y .used }
+elementSetParts x y = record { first = x .object; second = y .members; objects = y .objects; used = x .used + y .used }
 
 abbrev pub setElementParts : SetValue → ElementValue → Parts
-setElementParts x y = record { first = x .members; second = y .object; full = x .full; used = x .used + y .used }
+setElementParts x y = record { first = x .members; second = y .object; objects = x .objects; used = x .used + y .used }
 
 abbrev pub setParts : SetValue → SetValue → Parts
-setParts x y = record { first = x .members; second = y .members; full = x .full; used = x .used + y .used }
+setParts x y = record { first = x .members; second = y .members; objects = x .objects; used = x .used + y .used }
 
 unfoldable pub twoElements : (state : List ℕ) → List ℕ → Parts
 twoElements ws e = elementParts (runElement ws e) (runElement ws (drop (runElement ws e .used) e))
@@ -88,41 +97,54 @@ twoSets rs e = setParts (rs e) (rs (drop (rs e .used) e))
 
 -- u8 object count, u64 members
 unfoldable pub literalMembers : (objects : ℕ) → Read ℕ → SetValue
-literalMembers n (read s k) = cond (leb n mostObjects) (setAnswer s (2 ^ n - 1) 9) noSet
+literalMembers n (read s k) = setAnswer s n 9
 literalMembers n (refused t) = noSet
 
 unfoldable pub literalSet : List ℕ → SetValue
 literalSet e = cond (ltb (length e) 9) noSet (literalMembers (getD e 0 0) (word 8 (drop 1 e)))
 
-unfoldable pub setVariableAt : (state full : List ℕ) → List ℕ → SetValue
-setVariableAt ws fs [] = noSet
-setVariableAt ws fs (v ∷ e) = setAnswer (getD ws v 0) (getD fs v 0) 1
+unfoldable pub setVariableAt : (state outline : List ℕ) → List ℕ → SetValue
+setVariableAt ws os [] = noSet
+setVariableAt ws os (v ∷ e) = setAnswer (getD ws v 0) (objectsIn os v) 1
 
 unfoldable pub changed : Change → Parts → SetValue
-changed Ch.Add p = setAnswer (Sets.union (2 ^ (p .first)) (p .second)) (p .full) (p .used)
-changed Ch.Remove p = setAnswer (Sets.difference (p .second) (2 ^ (p .first))) (p .full) (p .used)
+changed Ch.Add p = setAnswer (Sets.union (2 ^ (p .first)) (p .second)) (p .objects) (p .used)
+changed Ch.Remove p = setAnswer (Sets.difference (p .second) (2 ^ (p .first))) (p .objects) (p .used)
 
 unfoldable pub combined : Combination → Parts → SetValue
-combined Co.Union p = setAnswer (Sets.union (p .first) (p .second)) (p .full) (p .used)
-combined Co.Intersection p = setAnswer (Sets.intersection (p .first) (p .second)) (p .full) (p .used)
-combined Co.Difference p = setAnswer (Sets.difference (p .first) (p .second)) (p .full) (p .used)
+combined Co.Union p = setAnswer (Sets.union (p .first) (p .second)) (p .objects) (p .used)
+combined Co.Intersection p = setAnswer (Sets.intersection (p .first) (p .second)) (p .objects) (p .used)
+combined Co.Difference p = setAnswer (Sets.difference (p .first) (p .second)) (p .objects) (p .used)
 
 unfoldable pub complemented : SetValue → SetValue
-complemented v = setAnswer (v .full - v .members) (v .full) (v .used)
+complemented v = setAnswer (Sets.difference (fullOf (v .objects)) (v .members)) (v .objects) (v .used)
 
 -- what stands behind a set's first byte; rs runs its parts
-unfoldable pub setBehind : (state full : List ℕ) → (List ℕ → SetValue) → SetForm → List ℕ → SetValue
-setBehind ws fs rs SF.Literal e = literalSet e
-setBehind ws fs rs SF.Variable e = setVariableAt ws fs e
-setBehind ws fs rs (SF.Changed h) e = changed h (elementThenSet ws rs e)
-setBehind ws fs rs (SF.Combined c) e = combined c (twoSets rs e)
-setBehind ws fs rs SF.Complement e = complemented (rs e)
-setBehind ws fs rs SF.Other e = noSet
+unfoldable pub setBehind : (state outline : List ℕ) → (List ℕ → SetValue) → SetForm → List ℕ → SetValue
+setBehind ws os rs SF.Literal e = literalSet e
+setBehind ws os rs SF.Variable e = setVariableAt ws os e
+setBehind ws os rs (SF.Changed h) e = changed h (elementThenSet ws rs e)
+setBehind ws os rs (SF.Combined c) e = combined c (twoSets rs e)
+setBehind ws os rs SF.Complement e = complemented (rs e)
+setBehind ws os rs SF.Other e = noSet
 
-unfoldable pub runSet : (depth : ℕ) (state full : List ℕ) → List ℕ → SetValue
-runSet zero ws fs e = noSet
-runSet (suc d) ws fs [] = noSet
-runSet (suc d) ws fs (b ∷ e) = setPast 1 (setBehind ws fs (λ f. runSet d ws fs f) (setForm b) e)
+unfoldable pub runSet : (depth : ℕ) (state outline : List ℕ) → List ℕ → SetValue
+runSet zero ws os e = noSet
+runSet (suc d) ws os [] = noSet
+runSet (suc d) ws os (b ∷ e) = setPast 1 (setBehind ws os (λ f. runSet d ws os f) (setForm b) e)
+
+-- what stands behind a set's first byte, and two parts one behind the other, their sets run with this depth
+abbrev pub setAt : (depth : ℕ) (state outline : List ℕ) → SetForm → List ℕ → SetValue
+setAt d ws os form e = setBehind ws os (λ f. runSet d ws os f) form e
+
+abbrev pub elementThenSetAt : (depth : ℕ) (state outline : List ℕ) → List ℕ → Parts
+elementThenSetAt d ws os e = elementThenSet ws (λ f. runSet d ws os f) e
+
+abbrev pub setThenElementAt : (depth : ℕ) (state outline : List ℕ) → List ℕ → Parts
+setThenElementAt d ws os e = setThenElement ws (λ f. runSet d ws os f) e
+
+abbrev pub twoSetsAt : (depth : ℕ) (state outline : List ℕ) → List ℕ → Parts
+twoSetsAt d ws os e = twoSets (λ f. runSet d ws os f) e
 
 -- ---- leaves of numbers and conditions
 
@@ -151,20 +173,23 @@ arithmetic Op.Greater a b = fits (cond (leZ a b) b a)
 unfoldable pub entryOf : (model : List ℕ) (table i j : ℕ) → ℤ
 entryOf bytes w i j = entryIn bytes (atOf w) (columnsOf w) (cellsOf w) i j
 
-unfoldable pub entryNumber : (model state tables : List ℕ) → List ℕ → NumberValue
-entryNumber model ws tables [] = noNumber
-entryNumber model ws tables (t ∷ e) =
+unfoldable pub entryNumber : (model state outline : List ℕ) → List ℕ → NumberValue
+entryNumber model ws os [] = noNumber
+entryNumber model ws os (t ∷ e) =
     let x = twoElements ws e in
-    numberAnswer (fits (entryOf model (getD tables t 0) (x .first) (x .second))) (1 + x .used)
+    numberAnswer (fits (entryOf model (tableIn os t) (x .first) (x .second))) (1 + x .used)
 
 unfoldable pub sizeNumber : SetValue → NumberValue
 sizeNumber v = numberAnswer (fits (pos (length (Sets.members (v .members))))) (v .used)
 
-unfoldable pub totalNumber : (model state tables : List ℕ) → (List ℕ → SetValue) → List ℕ → NumberValue
-totalNumber model ws tables rs [] = noNumber
-totalNumber model ws tables rs (t ∷ e) =
+unfoldable pub totalNumber : (model state outline : List ℕ) → (List ℕ → SetValue) → List ℕ → NumberValue
+totalNumber model ws os rs [] = noNumber
+totalNumber model ws os rs (t ∷ e) =
     let x = setThenElement ws rs e in
-    numberAnswer (fits (sumOver (λ i. entryOf model (getD tables t 0) i (x .second)) (Sets.members (x .first)))) (1 + x .used)
+    numberAnswer (fits (sumOver (λ i. entryOf model (tableIn os t) i (x .second)) (Sets.members (x .first)))) (1 + x .used)
+
+abbrev pub totalAt : (depth : ℕ) → Environment → List ℕ → NumberValue
+totalAt d p e = totalNumber (p .model) (p .state) (p .outline) (λ f. runSet d (p .state) (p .outline) f) e
 
 unfoldable pub compared : Relation → ℤ → ℤ → Bool
 compared Re.Equal a b = equalZ a b
@@ -240,9 +265,9 @@ module _ (p : Environment) (rs : List ℕ → SetValue) (rn : List ℕ → Numbe
   numberBehind NF.Literal e = literalNumber e
   numberBehind NF.Variable e = numberVariableAt (p .state) e
   numberBehind (NF.Arithmetic o) e = numberOfTwo (arithmetic o) (runPair rn e)
-  numberBehind NF.Entry e = entryNumber (p .model) (p .state) (p .tables) e
+  numberBehind NF.Entry e = entryNumber (p .model) (p .state) (p .outline) e
   numberBehind NF.Size e = sizeNumber (rs e)
-  numberBehind NF.Total e = totalNumber (p .model) (p .state) (p .tables) rs e
+  numberBehind NF.Total e = totalNumber (p .model) (p .state) (p .outline) rs e
   numberBehind NF.Choice e = runChoice rn rc e
   numberBehind NF.Other e = noNumber
 
@@ -261,17 +286,34 @@ unfoldable mutual
   runNumber zero p e = noNumber
   runNumber (suc d) p [] = noNumber
   runNumber (suc d) p (b ∷ e) =
-      numberPast 1 (numberBehind p (λ f. runSet d (p .state) (p .full) f) (λ f. runNumber d p f) (λ f. runCondition d p f) (numberForm b) e)
+      numberPast 1 (numberBehind p (λ f. runSet d (p .state) (p .outline) f) (λ f. runNumber d p f) (λ f. runCondition d p f) (numberForm b) e)
 
   pub runCondition : (depth : ℕ) → Environment → List ℕ → ConditionValue
   runCondition zero p e = noCondition
   runCondition (suc d) p [] = noCondition
   runCondition (suc d) p (b ∷ e) =
-      conditionPast 1 (conditionBehind p (λ f. runSet d (p .state) (p .full) f) (λ f. runNumber d p f) (λ f. runCondition d p f) (conditionForm b) e)
+      conditionPast 1 (conditionBehind p (λ f. runSet d (p .state) (p .outline) f) (λ f. runNumber d p f) (λ f. runCondition d p f) (conditionForm b) e)
 
 -- what stands behind the first byte, its parts run with this depth
 unfoldable pub numberAt : (depth : ℕ) → Environment → NumberForm → List ℕ → NumberValue
-numberAt d p form e = numberBehind p (λ f. runSet d (p .state) (p .full) f) (λ f. runNumber d p f) (λ f. runCondition d p f) form e
+numberAt d p form e = numberBehind p (λ f. runSet d (p .state) (p .outline) f) (λ f. runNumber d p f) (λ f. runCondition d p f) form e
 
 unfoldable pub conditionAt : (depth : ℕ) → Environment → ConditionForm → List ℕ → ConditionValue
-conditionAt d p form e = conditionBehind p (λ f. runSet d (p .state) (p .full) f) (λ f. runNumber d p f) (λ f. runCondition d p f) form e
+conditionAt d p form e = conditionBehind p (λ f. runSet d (p .state) (p .outline) f) (λ f. runNumber d p f) (λ f. runCondition d p f) form e
+
+-- forms of two or three parts, run with this depth
+abbrev pub pairAt : (depth : ℕ) → Environment → List ℕ → PairValue
+pairAt d p e = runPair (λ f. runNumber d p f) e
+
+abbrev pub choiceAt : (depth : ℕ) → Environment → List ℕ → NumberValue
+choiceAt d p e = runChoice (λ f. runNumber d p f) (λ f. runCondition d p f) e
+
+abbrev pub connectiveAt : (decides : Bool) (depth : ℕ) → Environment → List ℕ → ConditionValue
+connectiveAt a d p e = runConnective a (λ f. runCondition d p f) e
+
+-- the number behind n bytes, a part behind it or before it passed over
+abbrev pub numberBeforeAt : (n depth : ℕ) → Environment → List ℕ → NumberValue
+numberBeforeAt n d p e = numberBefore n (runNumber d p (drop n e)) (skipAt e)
+
+abbrev pub numberBeyondAt : (n depth : ℕ) → Environment → List ℕ → NumberValue
+numberBeyondAt n d p e = chosen false n (λ k. runNumber d p (drop k e)) (skipAt e)

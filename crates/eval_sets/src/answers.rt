@@ -35,18 +35,18 @@ pub struct ElementValue {
     pub used: usize,
 }
 
-// A set: its members, those of the full set of its objects, and the bytes.
+// A set: its members, how many objects it may have, and the bytes.
 pub struct SetValue {
     pub members: u64,
-    pub full: u64,
+    pub objects: u64,
     pub used: usize,
 }
 
-// Two parts that are elements or sets, with the full set of the last set among them.
+// Two parts that are elements or sets, with the object count of the first set among them.
 pub struct Parts {
     pub first: u64,
     pub second: u64,
-    pub full: u64,
+    pub objects: u64,
     pub used: usize,
 }
 

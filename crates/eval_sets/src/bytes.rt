@@ -1,6 +1,7 @@
 // A name, what stands behind a part, and the bytes of an expression that is passed over.
 
 ghost use mathlib.Core.Path.{_≡_};
+ghost use Prim.Native.Nat.{_<_};
 ghost use lib.ListN.{getD, drop};
 ghost use Rattle.eval_sets.specs.Forms.{shapeOf, span};
 use laws::byte_at;
@@ -17,7 +18,7 @@ pub fn after(e: &[u8], n: usize) -> &[u8]
 
 // The first byte as a name's number, 0 where there is none.
 pub fn name(e: &[u8]) -> usize
-    ensures { λ r. ⌜ r ≡ getD (now (e .entry)) 0 0 ⌝ }
+    ensures { λ r. ⌜ (r ≡ getD (now (e .entry)) 0 0) × (r < 256) ⌝ }
 {
     byte_at(e, 0) as usize
 }

@@ -27,6 +27,7 @@ use crate::sets::set_near;
 use crate::sets::set_then_element;
 use crate::sets::two_elements;
 use crate::sets::two_sets;
+use outline::layout::TABLES;
 use outline::word_at;
 use words::arithmetic::difference;
 use words::arithmetic::floor_quotient;
@@ -121,14 +122,22 @@ pub fn arithmetic(o: Operation, p: PairValue) -> NumberValue
     }
 }
 
+// The word of table t.
+fn table_in(outline: &[u64], t: usize) -> u64
+    requires { ⌜ t < 256 ⌝ }
+    ensures { λ r. ⌜ r ≡ runs.tableIn (now (outline .entry)) t ⌝ }
+{
+    word_at(outline, TABLES + t)
+}
+
 // 28, behind its byte: an entry of a table.
-pub fn entry_number(e: &[u8], model: &[u8], state: &[u64], tables: &[u64]) -> NumberValue
-    ensures { λ r. ⌜ r ≡ runs.entryNumber (now (model .entry)) (now (state .entry)) (now (tables .entry)) (now (e .entry)) ⌝ }
+pub fn entry_number(e: &[u8], model: &[u8], state: &[u64], outline: &[u64]) -> NumberValue
+    ensures { λ r. ⌜ r ≡ runs.entryNumber (now (model .entry)) (now (state .entry)) (now (outline .entry)) (now (e .entry)) ⌝ }
 {
     if e.len() == 0 {
         return NumberValue::Trouble(NOTHING);
     }
-    let table = word_at(tables, name(e));
+    let table = table_in(outline, name(e));
     let x = two_elements(after(e, 1), state);
     ranged(
         words::tables::entry(model, table, x.first, x.second),
@@ -137,10 +146,10 @@ pub fn entry_number(e: &[u8], model: &[u8], state: &[u64], tables: &[u64]) -> Nu
 }
 
 // 29, behind its byte: how many members a set has.
-pub fn size_number(e: &[u8], at: usize, state: &[u64], full: &[u64], depth: usize) -> NumberValue
-    ensures { λ r. ⌜ r ≡ runs.sizeNumber (runs.runSet depth (now (state .entry)) (now (full .entry)) (drop at (now (e .entry)))) ⌝ }
+pub fn size_number(e: &[u8], at: usize, state: &[u64], outline: &[u64], depth: usize) -> NumberValue
+    ensures { λ r. ⌜ r ≡ runs.sizeNumber (runs.runSet depth (now (state .entry)) (now (outline .entry)) (drop at (now (e .entry)))) ⌝ }
 {
-    let x = set_near(e, at, state, full, depth);
+    let x = set_near(e, at, state, outline, depth);
     ranged(words::sets::count(x.members) as i64, x.used)
 }
 
@@ -150,17 +159,16 @@ pub fn total_number(
     at: usize,
     model: &[u8],
     state: &[u64],
-    full: &[u64],
-    tables: &[u64],
+    outline: &[u64],
     depth: usize,
 ) -> NumberValue
-    ensures { λ r. ⌜ r ≡ runs.totalNumber (now (model .entry)) (now (state .entry)) (now (tables .entry)) (λ f. runs.runSet depth (now (state .entry)) (now (full .entry)) f) (drop at (now (e .entry))) ⌝ }
+    ensures { λ r. ⌜ r ≡ runs.totalAt depth (runs.environment (now (model .entry)) (now (state .entry)) (now (outline .entry))) (drop at (now (e .entry))) ⌝ }
 {
     if e.len() <= at {
         return NumberValue::Trouble(NOTHING);
     }
-    let table = word_at(tables, name(after(e, at)));
-    let x = set_then_element(e, at + 1, state, full, depth);
+    let table = table_in(outline, name(after(e, at)));
+    let x = set_then_element(e, at + 1, state, outline, depth);
     ranged(
         words::tables::total(model, table, x.first, x.second),
         1 + x.used,
@@ -202,27 +210,45 @@ pub fn same_elements(e: &[u8], state: &[u64]) -> ConditionValue
 }
 
 // 54, behind its byte: an element is in a set.
-pub fn member_of(e: &[u8], at: usize, state: &[u64], full: &[u64], depth: usize) -> ConditionValue
-    ensures { λ r. ⌜ r ≡ runs.memberOf (runs.elementThenSet (now (state .entry)) (λ f. runs.runSet depth (now (state .entry)) (now (full .entry)) f) (drop at (now (e .entry)))) ⌝ }
+pub fn member_of(
+    e: &[u8],
+    at: usize,
+    state: &[u64],
+    outline: &[u64],
+    depth: usize,
+) -> ConditionValue
+    ensures { λ r. ⌜ r ≡ runs.memberOf (runs.elementThenSetAt depth (now (state .entry)) (now (outline .entry)) (drop at (now (e .entry)))) ⌝ }
 {
     let x = element(after(e, at), state);
-    let y = set_near(e, at + x.used, state, full, depth);
+    let y = set_near(e, at + x.used, state, outline, depth);
     ConditionValue::Holds(words::sets::is_member(x.object, y.members), x.used + y.used)
 }
 
 // 55, behind its byte: a set is empty.
-pub fn empty_set(e: &[u8], at: usize, state: &[u64], full: &[u64], depth: usize) -> ConditionValue
-    ensures { λ r. ⌜ r ≡ runs.emptySet (runs.runSet depth (now (state .entry)) (now (full .entry)) (drop at (now (e .entry)))) ⌝ }
+pub fn empty_set(
+    e: &[u8],
+    at: usize,
+    state: &[u64],
+    outline: &[u64],
+    depth: usize,
+) -> ConditionValue
+    ensures { λ r. ⌜ r ≡ runs.emptySet (runs.runSet depth (now (state .entry)) (now (outline .entry)) (drop at (now (e .entry)))) ⌝ }
 {
-    let x = set_near(e, at, state, full, depth);
+    let x = set_near(e, at, state, outline, depth);
     ConditionValue::Holds(x.members == 0, x.used)
 }
 
 // 56, behind its byte: every member of a set is in another.
-pub fn subset_of(e: &[u8], at: usize, state: &[u64], full: &[u64], depth: usize) -> ConditionValue
-    ensures { λ r. ⌜ r ≡ runs.subsetOf (runs.twoSets (λ f. runs.runSet depth (now (state .entry)) (now (full .entry)) f) (drop at (now (e .entry)))) ⌝ }
+pub fn subset_of(
+    e: &[u8],
+    at: usize,
+    state: &[u64],
+    outline: &[u64],
+    depth: usize,
+) -> ConditionValue
+    ensures { λ r. ⌜ r ≡ runs.subsetOf (runs.twoSetsAt depth (now (state .entry)) (now (outline .entry)) (drop at (now (e .entry)))) ⌝ }
 {
-    let x = two_sets(e, at, state, full, depth);
+    let x = two_sets(e, at, state, outline, depth);
     ConditionValue::Holds(words::sets::is_subset(x.first, x.second), x.used)
 }
 

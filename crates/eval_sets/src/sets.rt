@@ -3,6 +3,7 @@
 ghost use mathlib.Core.Path.{_≡_};
 ghost use Prim.Native.Nat.{_+_, _<_, _^_};
 ghost use lib.ListN.{drop};
+ghost use Rattle.model.specs.Numbers.{mostObjects};
 ghost use Rattle.eval_sets.specs.Answers.{setPast, noSet};
 ghost use Rattle.eval_sets.specs.Runs as runs;
 ghost use Rattle.eval_sets.specs.Promise.{ElementPromise, SetPromise};
@@ -16,13 +17,15 @@ use crate::first_bytes::Combination;
 use crate::first_bytes::SetForm;
 use crate::first_bytes::set_form;
 use laws::wide;
+use outline::layout::KINDS;
 use outline::word_at;
 use words::literals::long;
-use words::sets::complement_in;
 use words::sets::difference;
+use words::sets::full;
 use words::sets::intersection;
 use words::sets::single;
 use words::sets::union;
+use words::sizes::MOST_OBJECTS;
 
 // The object of the element at the front.
 pub fn element(e: &[u8], state: &[u64]) -> ElementValue
@@ -35,11 +38,11 @@ pub fn element(e: &[u8], state: &[u64]) -> ElementValue
     let k = e[1] as usize;
     match e[0] {
         0x30 => ElementValue {
-            object: (k as u64) % 64,
+            object: (k as u64) % MOST_OBJECTS,
             used: 2,
         },
         0x31 => ElementValue {
-            object: word_at(state, k) % 64,
+            object: word_at(state, k) % MOST_OBJECTS,
             used: 2,
         },
         _ => ElementValue { object: 0, used: 0 },
@@ -55,7 +58,7 @@ pub fn two_elements(e: &[u8], state: &[u64]) -> Parts
     Parts {
         first: x.object,
         second: y.object,
-        full: 0,
+        objects: 0,
         used: x.used + y.used,
     }
 }
@@ -65,7 +68,7 @@ fn no_set() -> SetValue
 {
     SetValue {
         members: 0,
-        full: 0,
+        objects: 0,
         used: 0,
     }
 }
@@ -77,20 +80,28 @@ fn literal_set(e: &[u8]) -> SetValue
     if e.len() < 9 {
         return no_set();
     }
-    let n = wide(e[0]);
-    if 64 < n {
-        return no_set();
-    }
     SetValue {
         members: long(&e[1..]),
-        full: words::sets::full(n),
+        objects: wide(e[0]),
         used: 9,
     }
 }
 
-// A set variable: its word, and the full set of its objects.
-fn set_variable(e: &[u8], state: &[u64], full: &[u64]) -> SetValue
-    ensures { λ r. ⌜ r ≡ runs.setVariableAt (now (state .entry)) (now (full .entry)) (now (e .entry)) ⌝ }
+// The objects of the set variable v, by its kind word.
+fn objects_in(outline: &[u64], v: usize) -> u64
+    requires { ⌜ v < 256 ⌝ }
+    ensures { λ r. ⌜ r ≡ runs.objectsIn (now (outline .entry)) v ⌝ }
+{
+    let kind = word_at(outline, KINDS + v);
+    if kind < MOST_OBJECTS {
+        return 0;
+    }
+    kind - MOST_OBJECTS
+}
+
+// A set variable: its word, and its objects.
+fn set_variable(e: &[u8], state: &[u64], outline: &[u64]) -> SetValue
+    ensures { λ r. ⌜ r ≡ runs.setVariableAt (now (state .entry)) (now (outline .entry)) (now (e .entry)) ⌝ }
 {
     if e.len() == 0 {
         return no_set();
@@ -98,25 +109,25 @@ fn set_variable(e: &[u8], state: &[u64], full: &[u64]) -> SetValue
     let v = name(e);
     SetValue {
         members: word_at(state, v),
-        full: word_at(full, v),
+        objects: objects_in(outline, v),
         used: 1,
     }
 }
 
 // 42 and 43: an element, then a set.
 fn changed(h: Change, p: Parts) -> SetValue
-    requires { ⌜ p .first < 64 ⌝ }
+    requires { ⌜ p .first < mostObjects ⌝ }
     ensures { λ r. ⌜ r ≡ runs.changed h p ⌝ }
 {
     match h {
         Change::Add => SetValue {
             members: union(single(p.first), p.second),
-            full: p.full,
+            objects: p.objects,
             used: p.used,
         },
         Change::Remove => SetValue {
             members: difference(p.second, single(p.first)),
-            full: p.full,
+            objects: p.objects,
             used: p.used,
         },
     }
@@ -129,28 +140,29 @@ fn combined(c: Combination, p: Parts) -> SetValue
     match c {
         Combination::Union => SetValue {
             members: union(p.first, p.second),
-            full: p.full,
+            objects: p.objects,
             used: p.used,
         },
         Combination::Intersection => SetValue {
             members: intersection(p.first, p.second),
-            full: p.full,
+            objects: p.objects,
             used: p.used,
         },
         Combination::Difference => SetValue {
             members: difference(p.first, p.second),
-            full: p.full,
+            objects: p.objects,
             used: p.used,
         },
     }
 }
 
+// 47: a set's complement.
 fn complemented(v: SetValue) -> SetValue
     ensures { λ r. ⌜ r ≡ runs.complemented v ⌝ }
 {
     SetValue {
-        members: complement_in(v.full, v.members),
-        full: v.full,
+        members: difference(full(v.objects), v.members),
+        objects: v.objects,
         used: v.used,
     }
 }
@@ -162,35 +174,35 @@ fn set_past(v: SetValue) -> SetValue
 {
     SetValue {
         members: v.members,
-        full: v.full,
+        objects: v.objects,
         used: 1 + v.used,
     }
 }
 
 // An element and a set behind it.
-fn element_then_set(e: &[u8], at: usize, state: &[u64], full: &[u64], depth: usize) -> Parts
-    ensures { λ r. ⌜ r ≡ runs.elementThenSet (now (state .entry)) (λ f. runs.runSet depth (now (state .entry)) (now (full .entry)) f) (drop at (now (e .entry))) ⌝ }
+fn element_then_set(e: &[u8], at: usize, state: &[u64], outline: &[u64], depth: usize) -> Parts
+    ensures { λ r. ⌜ r ≡ runs.elementThenSetAt depth (now (state .entry)) (now (outline .entry)) (drop at (now (e .entry))) ⌝ }
 {
     let x = element(after(e, at), state);
-    let y = set_from(e, at + x.used, state, full, depth);
+    let y = set_from(e, at + x.used, state, outline, depth);
     Parts {
         first: x.object,
         second: y.members,
-        full: y.full,
+        objects: y.objects,
         used: x.used + y.used,
     }
 }
 
 // Two sets, one behind the other.
-pub fn two_sets(e: &[u8], at: usize, state: &[u64], full: &[u64], depth: usize) -> Parts
-    ensures { λ r. ⌜ r ≡ runs.twoSets (λ f. runs.runSet depth (now (state .entry)) (now (full .entry)) f) (drop at (now (e .entry))) ⌝ }
+pub fn two_sets(e: &[u8], at: usize, state: &[u64], outline: &[u64], depth: usize) -> Parts
+    ensures { λ r. ⌜ r ≡ runs.twoSetsAt depth (now (state .entry)) (now (outline .entry)) (drop at (now (e .entry))) ⌝ }
 {
-    let x = set_from(e, at, state, full, depth);
-    let y = set_from(e, at + x.used, state, full, depth);
+    let x = set_from(e, at, state, outline, depth);
+    let y = set_from(e, at + x.used, state, outline, depth);
     Parts {
         first: x.members,
         second: y.members,
-        full: x.full,
+        objects: x.objects,
         used: x.used + y.used,
     }
 }
@@ -201,24 +213,24 @@ fn set_behind(
     e: &[u8],
     at: usize,
     state: &[u64],
-    full: &[u64],
+    outline: &[u64],
     depth: usize,
 ) -> SetValue
-    ensures { λ r. ⌜ r ≡ runs.setBehind (now (state .entry)) (now (full .entry)) (λ f. runs.runSet depth (now (state .entry)) (now (full .entry)) f) form (drop at (now (e .entry))) ⌝ }
+    ensures { λ r. ⌜ r ≡ runs.setAt depth (now (state .entry)) (now (outline .entry)) form (drop at (now (e .entry))) ⌝ }
 {
     match form {
         SetForm::Literal => literal_set(after(e, at)),
-        SetForm::Variable => set_variable(after(e, at), state, full),
-        SetForm::Changed(h) => changed(h, element_then_set(e, at, state, full, depth)),
-        SetForm::Combined(c) => combined(c, two_sets(e, at, state, full, depth)),
-        SetForm::Complement => complemented(set_from(e, at, state, full, depth)),
+        SetForm::Variable => set_variable(after(e, at), state, outline),
+        SetForm::Changed(h) => changed(h, element_then_set(e, at, state, outline, depth)),
+        SetForm::Combined(c) => combined(c, two_sets(e, at, state, outline, depth)),
+        SetForm::Complement => complemented(set_from(e, at, state, outline, depth)),
         SetForm::Other => no_set(),
     }
 }
 
 // The members of the set that begins at a position.
-pub fn set_from(e: &[u8], at: usize, state: &[u64], full: &[u64], depth: usize) -> SetValue
-    ensures { λ r. ⌜ r ≡ runs.runSet depth (now (state .entry)) (now (full .entry)) (drop at (now (e .entry))) ⌝ }
+pub fn set_from(e: &[u8], at: usize, state: &[u64], outline: &[u64], depth: usize) -> SetValue
+    ensures { λ r. ⌜ r ≡ runs.runSet depth (now (state .entry)) (now (outline .entry)) (drop at (now (e .entry))) ⌝ }
 {
     if depth == 0 {
         return no_set();
@@ -226,12 +238,12 @@ pub fn set_from(e: &[u8], at: usize, state: &[u64], full: &[u64], depth: usize) 
     if e.len() <= at {
         return no_set();
     }
-    set_past(set_behind(set_form(e[at]), e, at + 1, state, full, depth - 1))
+    set_past(set_behind(set_form(e[at]), e, at + 1, state, outline, depth - 1))
 }
 
 // The same; a variable is read at once, without a call.
-pub fn set_near(e: &[u8], at: usize, state: &[u64], full: &[u64], depth: usize) -> SetValue
-    ensures { λ r. ⌜ r ≡ runs.runSet depth (now (state .entry)) (now (full .entry)) (drop at (now (e .entry))) ⌝ }
+pub fn set_near(e: &[u8], at: usize, state: &[u64], outline: &[u64], depth: usize) -> SetValue
+    ensures { λ r. ⌜ r ≡ runs.runSet depth (now (state .entry)) (now (outline .entry)) (drop at (now (e .entry))) ⌝ }
 {
     if depth == 0 {
         return no_set();
@@ -240,29 +252,29 @@ pub fn set_near(e: &[u8], at: usize, state: &[u64], full: &[u64], depth: usize) 
         return no_set();
     }
     if e[at] == 0x41 {
-        return set_past(set_variable(after(e, at + 1), state, full));
+        return set_past(set_variable(after(e, at + 1), state, outline));
     }
-    set_from(e, at, state, full, depth)
+    set_from(e, at, state, outline, depth)
 }
 
 // The members of the set at the front.
-pub fn set(e: &[u8], state: &[u64], full: &[u64], depth: usize) -> SetValue
-    ensures run { λ r. ⌜ r ≡ runs.runSet depth (now (state .entry)) (now (full .entry)) (now (e .entry)) ⌝ }
-    ensures promise { λ r. ⌜ SetPromise depth (now (state .entry)) (now (full .entry)) (now (e .entry)) r ⌝ }
+pub fn set(e: &[u8], state: &[u64], outline: &[u64], depth: usize) -> SetValue
+    ensures run { λ r. ⌜ r ≡ runs.runSet depth (now (state .entry)) (now (outline .entry)) (now (e .entry)) ⌝ }
+    ensures promise { λ r. ⌜ SetPromise depth (now (state .entry)) (now (outline .entry)) (now (e .entry)) r ⌝ }
 {
-    set_from(e, 0, state, full, depth)
+    set_from(e, 0, state, outline, depth)
 }
 
 // A set and an element behind it.
-pub fn set_then_element(e: &[u8], at: usize, state: &[u64], full: &[u64], depth: usize) -> Parts
-    ensures { λ r. ⌜ r ≡ runs.setThenElement (now (state .entry)) (λ f. runs.runSet depth (now (state .entry)) (now (full .entry)) f) (drop at (now (e .entry))) ⌝ }
+pub fn set_then_element(e: &[u8], at: usize, state: &[u64], outline: &[u64], depth: usize) -> Parts
+    ensures { λ r. ⌜ r ≡ runs.setThenElementAt depth (now (state .entry)) (now (outline .entry)) (drop at (now (e .entry))) ⌝ }
 {
-    let x = set_from(e, at, state, full, depth);
+    let x = set_from(e, at, state, outline, depth);
     let y = element(after(e, at + x.used), state);
     Parts {
         first: x.members,
         second: y.object,
-        full: x.full,
+        objects: x.objects,
         used: x.used + y.used,
     }
 }

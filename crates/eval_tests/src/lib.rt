@@ -5,7 +5,7 @@ ghost use mathlib.Core.Bool.{false};
 ghost use lib.ListN.{drop};
 ghost use Rattle.eval_sets.specs.Answers.{conditionPast};
 ghost use Rattle.eval_sets.specs.Bounds.{ConditionRoom};
-ghost use Rattle.eval_sets.specs.Runs.{environment, runCondition, runConnective};
+ghost use Rattle.eval_sets.specs.Runs.{environment, runCondition, connectiveAt};
 ghost use Rattle.eval_tests.specs.Stopped.{stopped, TestPromise};
 use eval_numbers::condition_from;
 use eval_sets::answers::ConditionValue;
@@ -50,16 +50,15 @@ fn both(
     at: usize,
     model: &[u8],
     state: &[u64],
-    full: &[u64],
-    tables: &[u64],
+    outline: &[u64],
     depth: usize,
 ) -> ConditionValue
-    ensures { λ r. ⌜ r ≡ stopped (runConnective false (λ f. runCondition depth (environment (now (model .entry)) (now (state .entry)) (now (full .entry)) (now (tables .entry))) f) (drop at (now (e .entry)))) ⌝ }
+    ensures { λ r. ⌜ r ≡ stopped (connectiveAt false depth (environment (now (model .entry)) (now (state .entry)) (now (outline .entry))) (drop at (now (e .entry)))) ⌝ }
 {
-    match test_from(e, at, model, state, full, tables, depth) {
+    match test_from(e, at, model, state, outline, depth) {
         ConditionValue::Holds(holds, n) => {
             if holds {
-                past(n, test_from(e, at + n, model, state, full, tables, depth))
+                past(n, test_from(e, at + n, model, state, outline, depth))
             } else {
                 ConditionValue::Holds(false, 0)
             }
@@ -74,11 +73,10 @@ fn test_from(
     at: usize,
     model: &[u8],
     state: &[u64],
-    full: &[u64],
-    tables: &[u64],
+    outline: &[u64],
     depth: usize,
 ) -> ConditionValue
-    ensures { λ r. ⌜ r ≡ stopped (runCondition depth (environment (now (model .entry)) (now (state .entry)) (now (full .entry)) (now (tables .entry))) (drop at (now (e .entry)))) ⌝ }
+    ensures { λ r. ⌜ r ≡ stopped (runCondition depth (environment (now (model .entry)) (now (state .entry)) (now (outline .entry))) (drop at (now (e .entry)))) ⌝ }
 {
     if depth == 0 {
         return ConditionValue::Trouble(NOTHING);
@@ -87,27 +85,20 @@ fn test_from(
         return ConditionValue::Trouble(NOTHING);
     }
     if e[at] == 0x58 {
-        return past(1, both(e, at + 1, model, state, full, tables, depth - 1));
+        return past(1, both(e, at + 1, model, state, outline, depth - 1));
     }
-    stop(condition_from(e, at, model, state, full, tables, depth))
+    stop(condition_from(e, at, model, state, outline, depth))
 }
 
 // Whether the condition at the front holds, tested no further than it must; one that is no conjunction costs one call.
-pub fn test(
-    e: &[u8],
-    model: &[u8],
-    state: &[u64],
-    full: &[u64],
-    tables: &[u64],
-    depth: usize,
-) -> ConditionValue
-    ensures run { λ r. ⌜ r ≡ stopped (runCondition depth (environment (now (model .entry)) (now (state .entry)) (now (full .entry)) (now (tables .entry))) (now (e .entry))) ⌝ }
-    ensures promise { λ r. ⌜ TestPromise depth (environment (now (model .entry)) (now (state .entry)) (now (full .entry)) (now (tables .entry))) (now (e .entry)) r ⌝ }
+pub fn test(e: &[u8], model: &[u8], state: &[u64], outline: &[u64], depth: usize) -> ConditionValue
+    ensures run { λ r. ⌜ r ≡ stopped (runCondition depth (environment (now (model .entry)) (now (state .entry)) (now (outline .entry))) (now (e .entry))) ⌝ }
+    ensures promise { λ r. ⌜ TestPromise depth (environment (now (model .entry)) (now (state .entry)) (now (outline .entry))) (now (e .entry)) r ⌝ }
 {
     if 0 < e.len() {
         if e[0] == 0x58 {
-            return test_from(e, 0, model, state, full, tables, depth);
+            return test_from(e, 0, model, state, outline, depth);
         }
     }
-    stop(condition_from(e, 0, model, state, full, tables, depth))
+    stop(condition_from(e, 0, model, state, outline, depth))
 }

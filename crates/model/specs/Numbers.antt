@@ -91,3 +91,7 @@ mostSteps = 256
 -- "Every value of a number expression lies in −2^31..2^31 − 1": the range's end
 abbrev pub rangeEnd : ℕ
 rangeEnd = 2 ^ 31
+
+-- how many numbers lie in it: twice the end
+abbrev pub rangeSize : ℕ
+rangeSize = 2 ^ 32

@@ -1,6 +1,6 @@
 -- Readers: from bytes to what they say and how many they are, or to the number of a refusal. No position appears in them.
 -- docs/FORMAT.md, "Refusals by the input".
-use Prim.Native.Nat.{ℕ, zero, suc, _+_, _*_}
+use Prim.Native.Nat.{ℕ, zero, suc, _+_, _*_, _^_}
 use mathlib.Core.Bool.{Bool, true, false, cond}
 use mathlib.Core.List.{List, [], _∷_, reverse}
 use lib.ListN.{drop}
@@ -60,9 +60,16 @@ word (suc k) = do
   w ← word k
   give (b + 256 * w)
 
+-- the end of the numbers of 32 bits, and the first of them that stands for a negative one
+abbrev pub wordEnd : ℕ
+wordEnd = 2 ^ 32
+
+abbrev pub negativeFrom : ℕ
+negativeFrom = 2 ^ 31
+
 -- 32 bits, two's complement
 unfoldable pub signed : ℕ → ℤ
-signed w = cond (ltb w 0x8000_0000) (pos w) (pos w -ℤ pos 0x1_0000_0000)
+signed w = cond (ltb w negativeFrom) (pos w) (pos w -ℤ pos wordEnd)
 
 -- one, two or three parts, one behind the other
 unfoldable pub one : {A B : Type 0} → Reader A → (A → B) → Reader B

@@ -21,7 +21,7 @@ difference s t = s - bitAnd s t
 
 -- those of the first n objects that are not in s
 unfoldable pub complement : (n s : ℕ) → ℕ
-complement n s = (2 ^ n - 1) - s
+complement n s = difference (2 ^ n - 1) s
 
 unfoldable pub isSubset : ℕ → ℕ → Bool
 isSubset s t = eqb (bitAnd s t) s

@@ -1,12 +1,12 @@
 -- The outline of a model: words that say where its parts stand in the bytes. The reader of commands writes it, steps read it.
-use Prim.Native.Nat.{ℕ, _+_, _-_, _^_, _≤_, _<_}
+use Prim.Native.Nat.{ℕ, _+_, _≤_, _<_}
 use mathlib.Core.Path.{_≡_}
 use mathlib.Core.List.{List, []}
 use mathlib.Core.Option.{some}
 use lib.ListN.{length, getD, getElem?, drop}
 use Rattle.model.specs.Numbers.{mostNesting, mostVariables, mostTables, mostTransitions, mostBaseCases, mostConstraints, mostBounds}
 use Rattle.model.specs.Readers.{Read, read, refused, Reader}
-use Rattle.model.specs.Syntax.{aSet, Preference, none, less, more, Rule, sum, largest, Variable, Model, tableAt}
+use Rattle.model.specs.Syntax.{Preference, none, less, more, Rule, sum, largest, Variable, Model, tableAt}
 use Rattle.model.specs.Expressions.{number, condition}
 use Rattle.model.specs.Commands.{conditions, transition, model}
 use Rattle.words.specs.States.{valueOf}
@@ -40,7 +40,7 @@ constraintCountAt = 5
 abbrev pub boundCountAt : ℕ
 boundCountAt = 6
 
--- a word for each variable: its kind and objects, its preference, its start, its full set
+-- a word for each variable: its kind and objects, its preference, its start; words 64 to 79 are free
 abbrev pub kindsFrom : ℕ
 kindsFrom = 16
 
@@ -49,9 +49,6 @@ preferencesFrom = 32
 
 abbrev pub startsFrom : ℕ
 startsFrom = 48
-
-abbrev pub fullFrom : ℕ
-fullFrom = 64
 
 -- a word for each table
 abbrev pub tablesFrom : ℕ
@@ -100,7 +97,6 @@ pub record VariableAt (words : List ℕ) (v : ℕ) (x : Variable) : Type 0 where
   pub kind : getD words (kindsFrom + v) 0 ≡ kindByte x
   pub preference : getD words (preferencesFrom + v) 0 ≡ preferenceNumber (x .preference)
   pub start : valueOf (x .kind) (getD words (startsFrom + v) 0) ≡ x .start
-  pub full : x .kind ≡ aSet → getD words (fullFrom + v) 0 ≡ 2 ^ x .objects - 1
   pub well-formed : WellFormed x
 
 module _ {A : Type 0} (r : Reader A) (bytes words : List ℕ) (from : ℕ) where

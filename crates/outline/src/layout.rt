@@ -26,8 +26,7 @@ pub const PREFERENCES: usize = 32;
 
 pub const STARTS: usize = 48;
 
-pub const FULL_SETS: usize = 64;
-
+// Words 64 to 79 are free.
 pub const TABLES: usize = 80;
 
 pub const TRANSITIONS: usize = 112;

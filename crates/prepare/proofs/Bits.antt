@@ -7,7 +7,7 @@ use native.Mathlib.Nat.{pow-suc}
 use lib.Pow.{pow-pos}
 use lib.Arith.{bin-ind}
 use lib.Dec.{eqb}
-use lib.Bits.{bitAnd, bitOr, and-step, or-step, and-zero-l, or-zero-l, and-comm, or-comm, and-le-l, and-le-r, or-add-and, and-self, and-high}
+use lib.Bits.{bitAnd, bitOr, and-step, or-step, and-zero-l, or-zero-l, and-comm, or-comm, and-le-l, and-le-r, or-add-and, and-high}
 use borrow.Author.Tests.{eqb-true, eqb-false}
 use Rattle.model.specs.Sets.{isMember, intersection, union}
 

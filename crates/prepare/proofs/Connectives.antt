@@ -3,16 +3,15 @@ use Prim.Native.Nat.{ℕ, _+_, _<_}
 use mathlib.Core.Path.{_≡_, refl, sym, ap, _∙_}
 use mathlib.Core.List.{List, _∷_}
 use native.Mathlib.Omega.{arith}
-use native.Mathlib.Numerals.{add-one}
 use lib.ListN.{getD, drop}
-use lib.Seq.{drop-drop, drop-cons}
+use lib.Seq.{drop-drop}
 use Rattle.model.specs.Numbers.{mostNesting}
 use Rattle.model.specs.Readers.{read, after, continue, _>>=_, byte, one, two}
 use Rattle.model.specs.Syntax.{Condition, negation, both, either, Variable, Table}
 use Rattle.model.specs.Expressions.{formOf, condition}
-use Rattle.laws.proofs.Lists.{byte-inside}
 use Rattle.model.proofs.Chains.{after-read, chain, given}
 use Rattle.prepare.proofs.Deeper.{with-all-depth}
+use Rattle.prepare.proofs.Starts.{starts-with}
 
 module _ (vs : List Variable) (ts : List Table) (bytes : List ℕ) where
   abbrev pub ReadsAt : (at : ℕ) → Condition → (used : ℕ) → Type 0
@@ -52,7 +51,7 @@ module _ (vs : List Variable) (ts : List Table) (bytes : List ℕ) where
       → ((e : List ℕ) → condition vs ts mostNesting (b ∷ e) ≡ after 1 (two (condition vs ts 31) (condition vs ts 31) make e))
       → (at : ℕ) (x : Condition) (n : ℕ) → getD bytes at 0 ≡ b → ReadsAt at x n → TwoParts make at x n
   connective-parts b make some opens at x n here h =
-      let starts : drop at bytes ≡ b ∷ drop (at + 1) bytes = rw (← here, add-one at) (drop-cons bytes at 0 (byte-inside bytes at b some here)) in
+      let starts : drop at bytes ≡ b ∷ drop (at + 1) bytes = starts-with bytes at b some here in
       let r = after-read 1 (two (condition vs ts 31) (condition vs ts 31) make (drop (at + 1) bytes)) (sym (opens (drop (at + 1) bytes)) ∙ ap (condition vs ts mostNesting) (sym starts) ∙ h) in
       two-parts make at x n (r .0) (r .2) (r .1)
 
@@ -75,7 +74,7 @@ module _ (vs : List Variable) (ts : List Table) (bytes : List ℕ) where
   pub negation-part : (at : ℕ) (x : Condition) (n : ℕ) → getD bytes at 0 ≡ 0x57 → ReadsAt at x n → OnePart at x n
   unfolding condition formOf byte one _>>=_ continue
   negation-part at x n here h =
-      let starts : drop at bytes ≡ 0x57 ∷ drop (at + 1) bytes = rw (← here, add-one at) (drop-cons bytes at 0 (byte-inside bytes at 0x57 (omega arith) here)) in
+      let starts : drop at bytes ≡ 0x57 ∷ drop (at + 1) bytes = starts-with bytes at 0x57 (omega arith) here in
       let e = drop (at + 1) bytes in
       let r = after-read 1 (one (condition vs ts 31) negation e) (ap (condition vs ts mostNesting) (sym starts) ∙ h) in
       let c = chain (condition vs ts 31 e) _ e x (r .0) (r .1) in

@@ -1,13 +1,13 @@
 -- With more depth left a reader reads what it reads with less.
 use Prim.Native.Nat.{ℕ, zero, suc, _+_, _≤_, _-_}
-use mathlib.Core.Path.{_≡_, refl, sym, ap, subst, _∙_}
+use mathlib.Core.Path.{_≡_}
 use mathlib.Core.Bool.{Bool, true, false, cond}
 use mathlib.Core.List.{List, [], _∷_}
 use native.Mathlib.Omega.{arith}
 use lib.ListN.{drop}
 use lib.Dec.{eqb}
-use Rattle.model.specs.Numbers.{tooDeep, mostNesting}
-use Rattle.model.specs.Readers.{Read, read, refused, Reader, after, continue, _>>=_, _>>_, give, refuse, byte, one, two, three}
+use Rattle.model.specs.Numbers.{mostNesting}
+use Rattle.model.specs.Readers.{Read, read, refused, Reader, after, continue, _>>=_, _>>_, refuse, byte, one, two, three}
 use Rattle.model.specs.Syntax.{Element, Set, Condition, Variable, Table}
 use Rattle.model.specs.Expressions.{Form, _⇒_, formOf, noDepth, elementAndSet, twoSets, inTable, element, set, number, condition}
 

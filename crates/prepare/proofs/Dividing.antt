@@ -1,12 +1,11 @@
 -- The constraints taken apart, one condition after the other: those that are put, those that stand in a row, those behind them.
-use Prim.Native.Nat.{ℕ, zero, suc, _+_, _*_, _-_, _≤_, _<_}
+use Prim.Native.Nat.{ℕ, _+_, _*_, _-_, _≤_, _<_}
 use mathlib.Core.Path.{_≡_, refl, sym, ap, _∙_}
 use mathlib.Core.Bool.{Bool, true, false, cond}
 use mathlib.Core.List.{List, [], _∷_, _++_, append-assoc, append-nil}
-use mathlib.Core.Option.{some}
 use native.Mathlib.Omega.{arith}
 use native.Mathlib.Nat.{add-zero}
-use lib.ListN.{length, getD, getElem?, drop, length-append, length-drop, drop-of-length-le}
+use lib.ListN.{length, getD, drop, length-append, length-drop, drop-of-length-le}
 use Rattle.laws.proofs.Lists.{found-below}
 use Rattle.model.specs.Numbers.{rangeEnd, mostNesting}
 use Rattle.model.specs.Values.{Value, value, trouble, _>>=_}
@@ -19,7 +18,6 @@ use Rattle.read_declarations.proofs.Lists.{each-none, each-more}
 use Rattle.eval_sets.specs.Forms.{span}
 use Rattle.eval_sets.proofs.Reading.{of-read}
 use Rattle.eval_sets.proofs.Spans.{condition-ends, ends-span}
-use Rattle.prepare.specs.Guards.{guardIn, GuardedCondition}
 use Rattle.prepare.specs.Layout.{conjunctsFrom, conjunctCountAt, mostConjuncts}
 use Rattle.prepare.specs.Prepared.{ConjunctAt}
 use Rattle.prepare.specs.Steps.{Kept, Room, Parted, Parting, PartedMore, ConjunctPut, ConjunctsPut, Put}

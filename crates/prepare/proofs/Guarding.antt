@@ -5,13 +5,10 @@ use mathlib.Core.Logic.{_⊎_, inl, inr}
 use mathlib.Core.Bool.{Bool, true, false, cond, _&&_}
 use mathlib.Core.List.{List, [], _∷_}
 use native.Mathlib.Omega.{arith}
-use native.Mathlib.Numerals.{add-one}
 use lib.ListN.{length, getD, drop, drop-of-length-le}
-use lib.Seq.{drop-cons}
 use lib.Dec.{eqb, leb}
 use borrow.Author.Tests.{leb-true, leb-false}
 use lib.Bits.{and-zero-r, or-zero-l}
-use Rattle.laws.proofs.Lists.{byte-inside}
 use Rattle.model.specs.Numbers.{rangeEnd, mostNesting, mostConditions}
 use Rattle.model.specs.Values.{Value, value, _>>=_}
 use Rattle.model.specs.Readers.{Read, read, refused, continue, give, byte, upTo}
@@ -24,12 +21,13 @@ use Rattle.model.specs.Meaning.{conditionValue, allHold}
 use Rattle.model.proofs.Chains.{chain}
 use Rattle.model.proofs.Loops.{many-early, many-body-refused}
 use Rattle.words.specs.States.{stateOf}
-use Rattle.outline.specs.Outline.{modelOf, Outlines}
+use Rattle.outline.specs.Outline.{modelOf}
 use Rattle.prepare.specs.declared.guards.Guard.{Guard}
 use Rattle.prepare.specs.declared.tests.Test.{Test}
-use Rattle.prepare.specs.Guards.{passes, GuardedTransition}
+use Rattle.prepare.specs.Guards.{passes}
 use Rattle.prepare.specs.Steps.{TestSays, TestWithin, Joins, GuardSays}
-use Rattle.prepare.proofs.Bits.{Apart, joined-tests, joined-within}
+use Rattle.prepare.proofs.Bits.{joined-tests, joined-within}
+use Rattle.prepare.proofs.Starts.{starts-with, clash}
 use Rattle.prepare.proofs.Tails.{transition-behind}
 
 -- ---- guards as numbers
@@ -74,9 +72,6 @@ module _ (variable mask need behind : ℕ) (t : Test) (within : intersection nee
 
 -- ---- what is read at a place stands inside
 
-clash : {X Y : Type 0} {y : Y} {n t : ℕ} {x : Read Y} → x ≡ refused t → x ≡ read y n → X
-clash e f = let z : _≡_ {A = ℕ} 0 1 = cc in absurd (omega arith)
-
 module _ (bytes : List ℕ) (m : Model) where
   abbrev condition-reads : (at : ℕ) → Condition → (used : ℕ) → Type 0
   condition-reads at x n = condition (m .variables) (m .tables) mostNesting (drop at bytes) ≡ read x n
@@ -118,14 +113,11 @@ module _ (bytes : List ℕ) (m : Model) where
   unfolding conditions upTo give
   first-condition at x n here h = go (condition (m .variables) (m .tables) mostNesting (drop (at + 1) bytes)) refl
     where
-      starts : drop at bytes ≡ 0x08 ∷ drop (at + 1) bytes
-      starts = rw (← here, add-one at) (drop-cons bytes at 0 (byte-inside bytes at 0x08 (omega arith) here))
-
       go : (r : Read Condition) → condition (m .variables) (m .tables) mostNesting (drop (at + 1) bytes) ≡ r → FirstCondition at
       go (read c k) e = record { item = c; used = k; reads = e }
       go (refused t) e =
           let c = conditions-first at x n h in
-          clash (ap (conditions (m .variables) (m .tables)) starts ∙ many-body-refused _ _ _ 15 [] 0x08 (drop (at + 1) bytes) (tt {0}) 0 t refl refl e) (c .2)
+          clash (ap (conditions (m .variables) (m .tables)) (starts-with bytes at 0x08 (omega arith) here) ∙ many-body-refused _ _ _ 15 [] 0x08 (drop (at + 1) bytes) (tt {0}) 0 t refl refl e) (c .2)
 
 -- ---- the guard, one test after the other
 

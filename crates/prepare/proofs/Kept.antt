@@ -1,17 +1,16 @@
 -- Words that stay: what is said of words before a place still holds when only words from there on are written.
-use Prim.Native.Nat.{ℕ, _+_, _-_, _*_, _≤_, _<_}
+use Prim.Native.Nat.{ℕ, _+_, _-_, _≤_, _<_}
 use mathlib.Core.Path.{_≡_, refl, sym, ap, _∙_}
 use mathlib.Core.List.{List, [], _∷_, _++_}
-use mathlib.Core.Option.{some}
 use native.Mathlib.Omega.{arith}
 use native.Mathlib.Nat.{add-zero}
-use lib.ListN.{length, getD, getElem?, take, drop, length-append, length-drop, List·getD-append}
+use lib.ListN.{length, getD, take, drop, length-append, length-drop, List·getD-append}
 use lib.Seq.{length-take-le, getD-take, getD-append-add}
 use Rattle.model.specs.Numbers.{mostTransitions, mostBaseCases, mostConstraints, mostBounds}
 use Rattle.model.specs.Readers.{Reader}
 use Rattle.model.specs.Syntax.{Model}
 use Rattle.laws.proofs.Lists.{found-below}
-use Rattle.outline.specs.Outline.{outlineWords, ruleAt, variableCountAt, tableCountAt, transitionCountAt, baseCaseCountAt, constraintCountAt, boundCountAt, kindsFrom, preferencesFrom, startsFrom, fullFrom, tablesFrom, transitionsFrom, baseCasesFrom, constraintsFrom, boundsFrom, VariableAt, Items, Outlines}
+use Rattle.outline.specs.Outline.{outlineWords, ruleAt, variableCountAt, tableCountAt, transitionCountAt, baseCaseCountAt, constraintCountAt, boundCountAt, kindsFrom, preferencesFrom, startsFrom, tablesFrom, transitionsFrom, baseCasesFrom, constraintsFrom, boundsFrom, VariableAt, Items, Outlines}
 use Rattle.prepare.specs.declared.guards.Guard.{Guard}
 use Rattle.prepare.specs.Guards.{guardIn}
 use Rattle.prepare.specs.Steps.{Kept, Room, Put}
@@ -66,7 +65,6 @@ outlines-kept {bytes} {before} {after} {m} k o = record {
       kind = k .words (kindsFrom + v) (omega (arith, o .few-variables)) ∙ x .kind;
       preference = k .words (preferencesFrom + v) (omega (arith, o .few-variables)) ∙ x .preference;
       start = rw (k .words (startsFrom + v) (omega (arith, o .few-variables))) (x .start);
-      full = λ e. k .words (fullFrom + v) (omega (arith, o .few-variables)) ∙ x .full e;
       well-formed = x .well-formed;
     }
 

@@ -1,3 +1,4 @@
+pub mod Starts
 pub mod Deeper
 pub mod Connectives
 pub mod Bits

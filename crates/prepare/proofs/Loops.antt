@@ -10,8 +10,8 @@ use lib.ListN.{length, getD, getElem?}
 use lib.Dec.{ltb}
 use borrow.Author.Tests.{ltb-true, ltb-false}
 use Rattle.laws.proofs.Lists.{found-below}
-use Rattle.model.specs.Numbers.{mostVariables, mostTables}
-use Rattle.model.specs.Syntax.{Table, Transition, Model, tableAt}
+use Rattle.model.specs.Numbers.{mostVariables}
+use Rattle.model.specs.Syntax.{Table, Transition, tableAt}
 use Rattle.words.specs.Tables.{Tabled, columnsOf, cellsOf, atOf}
 use Rattle.outline.specs.Outline.{kindsFrom, preferencesFrom, tablesFrom, transitionsFrom, modelOf}
 use Rattle.eval_sets.proofs.Parts.{unpacked}

@@ -1,23 +1,20 @@
 -- The constraints taken apart: the guard of a conjunct, and conjunctions in their place.
-use Prim.Native.Nat.{ℕ, _+_, _*_, _-_, _≤_, _<_}
-use mathlib.Core.Path.{_≡_, refl, sym, ap, _∙_}
-use mathlib.Core.Bool.{Bool, true, false, cond, not}
-use mathlib.Core.List.{List, [], _∷_, _++_}
-use mathlib.Core.Option.{some}
+use Prim.Native.Nat.{ℕ, _+_, _-_}
+use mathlib.Core.Path.{_≡_, ap, _∙_}
+use mathlib.Core.Bool.{Bool, true, false, cond}
+use mathlib.Core.List.{List}
 use native.Mathlib.Omega.{arith}
-use lib.ListN.{length, getD, getElem?, drop}
-use Rattle.model.specs.Numbers.{rangeEnd, mostNesting}
-use Rattle.model.specs.Values.{Value, value, trouble, _>>=_}
-use Rattle.model.specs.Readers.{read}
-use Rattle.model.specs.Syntax.{Condition, negation, both, either, Table, Model}
-use Rattle.model.specs.Expressions.{condition}
-use Rattle.model.specs.Meaning.{State, conditionValue, allHold}
+use lib.ListN.{getD}
+use Rattle.model.specs.Numbers.{rangeEnd}
+use Rattle.model.specs.Values.{value, _>>=_}
+use Rattle.model.specs.Syntax.{Condition, negation, either, Table, Model}
+use Rattle.model.specs.Meaning.{State, conditionValue}
 use Rattle.words.specs.States.{stateOf}
-use Rattle.outline.specs.Outline.{modelOf, Outlines}
+use Rattle.outline.specs.Outline.{modelOf}
 use Rattle.prepare.specs.declared.tests.Test.{Test}
-use Rattle.prepare.specs.Guards.{passes, GuardedCondition}
+use Rattle.prepare.specs.Guards.{passes}
 use Rattle.prepare.specs.Steps.{TestSays, ConjunctSays}
-use Rattle.prepare.proofs.Connectives.{both-parts, either-parts, negation-part}
+use Rattle.prepare.proofs.Connectives.{either-parts, negation-part}
 use Rattle.prepare.proofs.Guarding.{guard, passes-all, condition-inside}
 
 -- ---- the guard of a conjunct

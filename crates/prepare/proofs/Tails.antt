@@ -4,27 +4,23 @@ use mathlib.Core.Path.{_≡_, refl, sym, ap, _∙_}
 use mathlib.Core.Bool.{Bool, true, false}
 use mathlib.Core.List.{List, [], _∷_, _++_, reverse, reverse-append}
 use native.Mathlib.Omega.{arith}
-use native.Mathlib.Numerals.{add-one}
 use lib.ListN.{getD, drop}
-use lib.Seq.{drop-drop, drop-cons}
+use lib.Seq.{drop-drop}
 use lib.Dec.{eqb}
-use Rattle.laws.proofs.Lists.{byte-inside}
-use Rattle.model.specs.Numbers.{mostNesting, mostConditions, mostVariables}
+use Rattle.model.specs.Numbers.{mostNesting, mostVariables}
 use Rattle.model.specs.Readers.{Read, read, refused, Reader, after, continue, _>>=_, _>>_, give, command, many, upTo}
 use Rattle.model.specs.Syntax.{Condition, Variable, Table, Transition}
 use Rattle.model.specs.Expressions.{number, condition}
 use Rattle.model.specs.Commands.{conditions, effectTarget, effectOn, transition}
 use Rattle.model.proofs.Chains.{after-read, chain, given}
 use Rattle.model.proofs.Loops.{many-more, many-end, many-full, many-early, many-body-refused}
+use Rattle.prepare.proofs.Starts.{starts-with, clash}
 
 -- ---- commands without operands of their own: with those before taken away there is room for one more
 
 module _ {A : Type 0} (c : ℕ) (r : Reader A) where
   abbrev loop : (room : ℕ) (done : List A) → Reader (List A)
   loop = many (λ b. eqb b c) (λ b done. give (tt {0})) (λ _. r)
-
-  clash : {X Y : Type 0} {l : Y} {u t : ℕ} {x : Read Y} → x ≡ refused t → x ≡ read l u → X
-  clash e f = let z : _≡_ {A = ℕ} 0 1 = cc in absurd (omega arith)
 
   pub record Shorter (room : ℕ) (done base : List A) (e : List ℕ) (l : List A) (u : ℕ) : Type 0 where
     pub items : List A
@@ -84,7 +80,7 @@ module _ (vs : List Variable) (ts : List Table) (bytes : List ℕ) where
       → conditions vs ts (drop at bytes) ≡ read l u → (p : ConditionsBehind (at + 1 + n) x l u) × (u ≡ 1 + n + p .used)
   unfolding conditions upTo give
   conditions-behind at x n l u here first h =
-      let starts : drop at bytes ≡ 0x08 ∷ drop (at + 1) bytes = rw (← here, add-one at) (drop-cons bytes at 0 (byte-inside bytes at 0x08 (omega arith) here)) in
+      let starts : drop at bytes ≡ 0x08 ∷ drop (at + 1) bytes = starts-with bytes at 0x08 (omega arith) here in
       let r = condition vs ts mostNesting in
       let left = after-read (1 + (0 + n)) (loop 0x08 r 15 (x ∷ []) (drop n (drop (at + 1) bytes)))
       (sym (many-more _ _ _ 15 [] 0x08 (drop (at + 1) bytes) (tt {0}) 0 x n refl refl first) ∙ ap (conditions vs ts) (sym starts) ∙ h) in

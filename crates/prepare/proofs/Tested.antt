@@ -1,6 +1,6 @@
 -- The two conditions that test one word: what the evaluators make of their bytes, and so their values.
-use Prim.Native.Nat.{ℕ, _+_, _-_, _%_, _^_, _≤_, _<_}
-use mathlib.Core.Path.{_≡_, refl, sym, ap, ap₂, _∙_}
+use Prim.Native.Nat.{ℕ, _+_, _%_, _^_, _≤_}
+use mathlib.Core.Path.{_≡_, refl, sym, ap, _∙_}
 use mathlib.Core.Bool.{Bool}
 use mathlib.Core.List.{List, []}
 use native.Mathlib.Omega.{arith}
@@ -12,17 +12,17 @@ use Rattle.model.specs.Numbers.{rangeEnd, mostNesting, mostObjects}
 use Rattle.model.specs.Values.{Value, value, trouble}
 use Rattle.model.specs.Readers.{read, word}
 use Rattle.model.specs.Sets as Sets
-use Rattle.model.specs.Syntax.{Condition, Model}
-use Rattle.model.specs.Expressions.{condition}
+use Rattle.model.specs.Syntax.{Kind, aSet, Model}
 use Rattle.model.specs.Meaning.{conditionValue}
 use Rattle.words.specs.States.{stateOf}
-use Rattle.outline.specs.Outline.{fullFrom, tablesFrom, modelOf, Outlines}
+use Rattle.words.specs.Signature.{kindByteOf, kindByte, Objects}
+use Rattle.outline.specs.Outline.{modelOf, Outlines}
 use Rattle.eval_sets.specs.declared.answers.ConditionValue.the-variants as C
 use Rattle.eval_sets.specs.Answers.{conditionAnswer, conditionPast, elementAnswer, setAnswer, setPast}
 use Rattle.eval_sets.specs.Forms.{setForm, conditionForm}
-use Rattle.eval_sets.specs.Runs.{Environment, environment, elementOf, runElement, elementThenSet, twoSets, setBehind, combined, runSet, memberOf, emptySet, conditionBehind, conditionAt, runCondition}
+use Rattle.eval_sets.specs.Runs.{Environment, environment, objectsIn, elementOf, runElement, setBehind, combined, runSet, memberOf, emptySet, conditionBehind, conditionAt, runCondition}
 use Rattle.eval_sets.specs.Promise.{Describes}
-use Rattle.eval_sets.proofs.Opening.{variable-some, literal-few, set-opens, condition-opens}
+use Rattle.eval_sets.proofs.Opening.{variable-some, literal-is, set-opens, condition-opens}
 use Rattle.eval_sets.proofs.Parts.{element-set-is, sets-are}
 use Rattle.eval_sets.proofs.Promises.{run-condition}
 use Rattle.eval_sets.proofs.Slices.{first-at}
@@ -37,50 +37,50 @@ element-literal : (ws e : List ℕ) → 2 ≤ length e → getD e 0 0 ≡ 0x30 �
 unfolding runElement elementOf
 element-literal ws e l b = simp (b, le-ltb (length e) 2 l)
 
-module _ (ws fs bytes : List ℕ) where
+module _ (ws os bytes : List ℕ) where
   some-behind : (at n : ℕ) → at + 1 + n ≤ length bytes → n ≤ length (drop (at + 1) bytes)
   some-behind at n l = rw (length-drop (at + 1) bytes) (omega arith)
 
   -- 41 v
-  variable-run : (d at v : ℕ) → (d ≡ 0 → ⊥) → at + 2 ≤ length bytes → getD bytes at 0 ≡ 0x41 → getD bytes (at + 1) 0 ≡ v → runSet d ws fs (drop at bytes) ≡ setAnswer (getD ws v 0) (getD fs v 0) 2
+  variable-run : (d at v : ℕ) → (d ≡ 0 → ⊥) → at + 2 ≤ length bytes → getD bytes at 0 ≡ 0x41 → getD bytes (at + 1) 0 ≡ v → runSet d ws os (drop at bytes) ≡ setAnswer (getD ws v 0) (objectsIn os v) 2
   unfolding setForm setBehind
   variable-run d at v some l b e =
       let there = some-behind at 1 (omega arith) in
       let is : getD (drop (at + 1) bytes) 0 0 ≡ v = sym (first-at (at + 1) bytes) ∙ e in
-      set-opens ws fs .opened d at bytes some (omega arith) b
-      ∙ ap (setPast 1) (variable-some ws fs (drop (at + 1) bytes) (λ z. absurd (omega arith)) ∙ ap (λ (u : ℕ). setAnswer (getD ws u 0) (getD fs u 0) 1) is)
+      set-opens ws os .opened d at bytes some (omega arith) b
+      ∙ ap (setPast 1) (variable-some ws os (drop (at + 1) bytes) (λ z. absurd (omega arith)) ∙ ap (λ (u : ℕ). setAnswer (getD ws u 0) (objectsIn os u) 1) is)
 
   -- 40 n and the members s
-  literal-run : (d at s : ℕ) → (d ≡ 0 → ⊥) → at + 10 ≤ length bytes → getD bytes at 0 ≡ 0x40 → getD bytes (at + 1) 0 ≤ mostObjects → word 8 (drop (at + 2) bytes) ≡ read s 8
-      → runSet d ws fs (drop at bytes) ≡ setAnswer s (2 ^ getD bytes (at + 1) 0 - 1) 10
+  literal-run : (d at s : ℕ) → (d ≡ 0 → ⊥) → at + 10 ≤ length bytes → getD bytes at 0 ≡ 0x40 → word 8 (drop (at + 2) bytes) ≡ read s 8
+      → runSet d ws os (drop at bytes) ≡ setAnswer s (getD (drop (at + 1) bytes) 0 0) 10
   unfolding setForm setBehind
-  literal-run d at s some l b few h =
-      let is : getD (drop (at + 1) bytes) 0 0 ≡ getD bytes (at + 1) 0 = sym (first-at (at + 1) bytes) in
+  literal-run d at s some l b h =
       let two-on : at + 1 + 1 ≡ at + 2 = omega arith in
       let members : word 8 (drop 1 (drop (at + 1) bytes)) ≡ read s 8 = rw (drop-drop 1 (at + 1) bytes, two-on) h in
-      set-opens ws fs .opened d at bytes some (omega arith) b
-      ∙ ap (setPast 1) (literal-few (drop (at + 1) bytes) s (some-behind at 9 (omega arith)) (rw is few) members ∙ ap (λ (u : ℕ). setAnswer s (2 ^ u - 1) 9) is)
+      set-opens ws os .opened d at bytes some (omega arith) b ∙ ap (setPast 1) (literal-is (drop (at + 1) bytes) s (some-behind at 9 (omega arith)) members)
 
 module _ (p : Environment) (bytes : List ℕ) (at : ℕ) where
   -- 54 30 k 41 v
   member-run : (v : ℕ) → MemberForm bytes at → getD bytes (at + 4) 0 ≡ v → runCondition mostNesting p (drop at bytes) ≡ C.Holds (Sets.isMember (getD bytes (at + 2) 0 % mostObjects) (getD (p .state) v 0)) 5
   unfolding conditionForm conditionAt conditionBehind memberOf conditionPast
   member-run v f e =
-      let object : runElement (p .state) (drop (at + 1) bytes) ≡ elementAnswer (getD (drop (at + 1) bytes) 1 0 % mostObjects) 2 =
-      element-literal (p .state) (drop (at + 1) bytes) (some-behind (p .state) (p .full) bytes at 2 (omega (arith, f .inside))) (sym (first-at (at + 1) bytes) ∙ f .object) in
-      let k : getD (drop (at + 1) bytes) 1 0 ≡ getD bytes (at + 2) 0 = getD-drop (at + 1) bytes 1 0 ∙ ap (λ (i : ℕ). getD bytes i 0) (place 1) in
-      let third : drop 2 (drop (at + 1) bytes) ≡ drop (at + 3) bytes = drop-drop 2 (at + 1) bytes ∙ ap (λ (i : ℕ). drop i bytes) (place 2) in
-      let set : runSet 31 (p .state) (p .full) (drop 2 (drop (at + 1) bytes)) ≡ setAnswer (getD (p .state) v 0) (getD (p .full) v 0) 2 =
-      ap (runSet 31 (p .state) (p .full)) third ∙ variable-run (p .state) (p .full) bytes 31 (at + 3) v (λ z. absurd (omega arith)) (omega (arith, f .inside)) (f .variable) (ap (λ (i : ℕ). getD bytes i 0) (after-three 1) ∙ e) in
+      let ws = p .state in
+      let os = p .outline in
+      let object : runElement ws (drop (at + 1) bytes) ≡ elementAnswer (getD (drop (at + 1) bytes) 1 0 % mostObjects) 2 =
+      element-literal ws (drop (at + 1) bytes) (some-behind ws os bytes at 2 (omega (arith, f .inside))) (sym (first-at (at + 1) bytes) ∙ f .object) in
+      let k : getD (drop (at + 1) bytes) 1 0 ≡ getD bytes (at + 2) 0 = getD-drop (at + 1) bytes 1 0 ∙ ap (λ (i : ℕ). getD bytes i 0) (behind-one 1) in
+      let third : drop 2 (drop (at + 1) bytes) ≡ drop (at + 3) bytes = drop-drop 2 (at + 1) bytes ∙ ap (λ (i : ℕ). drop i bytes) (behind-one 2) in
+      let set : runSet 31 ws os (drop 2 (drop (at + 1) bytes)) ≡ setAnswer (getD ws v 0) (objectsIn os v) 2 =
+      ap (runSet 31 ws os) third ∙ variable-run ws os bytes 31 (at + 3) v (λ z. absurd (omega arith)) (omega (arith, f .inside)) (f .variable) (ap (λ (i : ℕ). getD bytes i 0) (behind-three 1) ∙ e) in
       condition-opens p .opened mostNesting at bytes (λ z. absurd (omega arith)) (omega (arith, f .inside)) (f .member)
-      ∙ ap (λ (i : _). conditionPast 1 (memberOf i)) (element-set-is (p .state) _ (drop (at + 1) bytes) _ _ _ _ _ object set)
-      ∙ ap (λ (i : ℕ). C.Holds (Sets.isMember (i % mostObjects) (getD (p .state) v 0)) 5) k
+      ∙ ap (λ (i : _). conditionPast 1 (memberOf i)) (element-set-is ws _ (drop (at + 1) bytes) _ _ _ _ _ object set)
+      ∙ ap (λ (i : ℕ). C.Holds (Sets.isMember (i % mostObjects) (getD ws v 0)) 5) k
     where
-      place : (i : ℕ) → at + 1 + i ≡ at + (1 + i)
-      place i = omega arith
+      behind-one : (i : ℕ) → at + 1 + i ≡ at + (1 + i)
+      behind-one i = omega arith
 
-      after-three : (i : ℕ) → at + 3 + i ≡ at + (3 + i)
-      after-three i = omega arith
+      behind-three : (i : ℕ) → at + 3 + i ≡ at + (3 + i)
+      behind-three i = omega arith
 
   -- 55 45 40 n members 41 v
   missing-run : (v s : ℕ) → MissingForm bytes at → word 8 (drop (at + 4) bytes) ≡ read s 8 → getD bytes (at + 13) 0 ≡ v
@@ -88,27 +88,26 @@ module _ (p : Environment) (bytes : List ℕ) (at : ℕ) where
   unfolding conditionForm conditionAt conditionBehind emptySet conditionPast setForm setBehind combined
   missing-run v s f h e =
       let ws = p .state in
-      let fs = p .full in
-      let first : runSet 30 ws fs (drop (at + 2) bytes) ≡ setAnswer s (2 ^ getD bytes (at + 2 + 1) 0 - 1) 10 =
-      literal-run ws fs bytes 30 (at + 2) s (λ z. absurd (omega arith)) (omega (arith, f .inside)) (f .members)
-      (rw (from-two 1) (f .few)) (ap (λ (i : ℕ). word 8 (drop i bytes)) (from-two 2) ∙ h) in
-      let behind : drop 10 (drop (at + 2) bytes) ≡ drop (at + 12) bytes = drop-drop 10 (at + 2) bytes ∙ ap (λ (i : ℕ). drop i bytes) (from-two 10) in
-      let second : runSet 30 ws fs (drop 10 (drop (at + 2) bytes)) ≡ setAnswer (getD ws v 0) (getD fs v 0) 2 =
-      ap (runSet 30 ws fs) behind ∙ variable-run ws fs bytes 30 (at + 12) v (λ z. absurd (omega arith)) (omega (arith, f .inside)) (f .variable) (ap (λ (i : ℕ). getD bytes i 0) (omega-last at) ∙ e) in
-      let both : runSet 31 ws fs (drop (at + 1) bytes) ≡ setAnswer (Sets.intersection s (getD ws v 0)) (2 ^ getD bytes (at + 2 + 1) 0 - 1) 13 =
-      set-opens ws fs .opened 31 (at + 1) bytes (λ z. absurd (omega arith)) (omega (arith, f .inside)) (f .intersection)
-      ∙ rw (from-one 1) (ap (λ (i : _). setPast 1 (setAnswer (Sets.intersection (i .first) (i .second)) (i .full) (i .used))) (sets-are ws (λ g. runSet 30 ws fs g) (drop (at + 2) bytes) _ _ _ _ _ _ first second)) in
-      condition-opens p .opened mostNesting at bytes (λ z. absurd (omega arith)) (omega (arith, f .inside)) (f .empty)
-      ∙ ap (λ (i : _). conditionPast 1 (emptySet i)) both
+      let os = p .outline in
+      let objects = getD (drop (at + 2 + 1) bytes) 0 0 in
+      let first : runSet 30 ws os (drop (at + 2) bytes) ≡ setAnswer s objects 10 =
+      literal-run ws os bytes 30 (at + 2) s (λ z. absurd (omega arith)) (omega (arith, f .inside)) (f .members) (ap (λ (i : ℕ). word 8 (drop i bytes)) (behind-two 2) ∙ h) in
+      let behind : drop 10 (drop (at + 2) bytes) ≡ drop (at + 12) bytes = drop-drop 10 (at + 2) bytes ∙ ap (λ (i : ℕ). drop i bytes) (behind-two 10) in
+      let second : runSet 30 ws os (drop 10 (drop (at + 2) bytes)) ≡ setAnswer (getD ws v 0) (objectsIn os v) 2 =
+      ap (runSet 30 ws os) behind ∙ variable-run ws os bytes 30 (at + 12) v (λ z. absurd (omega arith)) (omega (arith, f .inside)) (f .variable) (ap (λ (i : ℕ). getD bytes i 0) (last-byte at) ∙ e) in
+      let both : runSet 31 ws os (drop (at + 1) bytes) ≡ setAnswer (Sets.intersection s (getD ws v 0)) objects 13 =
+      set-opens ws os .opened 31 (at + 1) bytes (λ z. absurd (omega arith)) (omega (arith, f .inside)) (f .intersection)
+      ∙ rw (behind-one 1) (ap (λ (i : _). setPast 1 (setAnswer (Sets.intersection (i .first) (i .second)) (i .objects) (i .used))) (sets-are ws (λ g. runSet 30 ws os g) (drop (at + 2) bytes) _ _ _ _ _ _ first second)) in
+      condition-opens p .opened mostNesting at bytes (λ z. absurd (omega arith)) (omega (arith, f .inside)) (f .empty) ∙ ap (λ (i : _). conditionPast 1 (emptySet i)) both
     where
-      from-one : (i : ℕ) → at + 1 + i ≡ at + (1 + i)
-      from-one i = omega arith
+      behind-one : (i : ℕ) → at + 1 + i ≡ at + (1 + i)
+      behind-one i = omega arith
 
-      from-two : (i : ℕ) → at + 2 + i ≡ at + (2 + i)
-      from-two i = omega arith
+      behind-two : (i : ℕ) → at + 2 + i ≡ at + (2 + i)
+      behind-two i = omega arith
 
-      omega-last : (at : ℕ) → at + 12 + 1 ≡ at + 13
-      omega-last at = omega arith
+      last-byte : (at : ℕ) → at + 12 + 1 ≡ at + 13
+      last-byte at = omega arith
 
 -- ---- values
 
@@ -117,11 +116,17 @@ unfolding conditionAnswer
 holds-value (value b) n e = (cc, cc)
 holds-value (trouble t) n e = let z : _≡_ {A = ℕ} 0 1 = cc in absurd (omega arith)
 
--- an outline's full sets and tables are what the evaluators are to be handed
-pub outline-describes : {bytes words : List ℕ} {m : Model} (state : List ℕ) → Outlines bytes words m → Describes (m .variables) (m .tables) (environment bytes state (drop fullFrom words) (drop tablesFrom words))
-outline-describes {bytes} {words} state o = record {
-  sets = λ v x e k. getD-drop fullFrom words v 0 ∙ o .variables v x e .full k;
-  tabled = λ t h. rw (getD-drop tablesFrom words t 0) (o .tables t h);
+set-kind : (k : Kind) (n : ℕ) → k ≡ aSet → (kindByteOf k n ≡ mostObjects + n) × (Objects k n → n ≤ mostObjects)
+unfolding kindByteOf
+set-kind k n e = rw e (refl, λ h. h .1)
+
+-- an outline's words are what the evaluators are to be handed
+pub outline-describes : {bytes words : List ℕ} {m : Model} (state : List ℕ) → Outlines bytes words m → Describes (m .variables) (m .tables) (environment bytes state words)
+unfolding kindByte
+outline-describes state o = record {
+  sets = λ v x e k. let a = o .variables v x e in
+      let b = set-kind (x .kind) (x .objects) k in (a .kind ∙ b .0, b .1 (a .well-formed));
+  tabled = o .tables;
 }
 
 module _ (bytes : List ℕ) (at : ℕ) where
@@ -135,7 +140,7 @@ module _ (bytes : List ℕ) (at : ℕ) where
       answer : (state : List ℕ) → conditionAnswer (conditionValue rangeEnd (modelOf bytes .tables) x (stateOf (modelOf bytes .variables) state)) n
           ≡ C.Holds (eqb (Sets.intersection (getD state (r .variable) 0) (r .mask)) (r .need)) (r .used)
       answer state =
-          let p = environment bytes state (drop fullFrom words) (drop tablesFrom words) in
+          let p = environment bytes state words in
           sym (run-condition mostNesting p (drop at bytes) _ _ x n (outline-describes state o) h) ∙ runs p
 
   pub member-says : (v bit : ℕ) → MemberForm bytes at → getD bytes (at + 4) 0 ≡ v → bit ≡ 2 ^ (getD bytes (at + 2) 0 % mostObjects) → TestSays bytes at (record { variable = v; mask = bit; need = bit; used = 5 })

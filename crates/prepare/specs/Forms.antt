@@ -3,7 +3,6 @@ use Prim.Native.Nat.{ℕ, _+_, _≤_}
 use mathlib.Core.Path.{_≡_}
 use mathlib.Core.List.{List}
 use lib.ListN.{length, getD}
-use Rattle.model.specs.Numbers.{mostObjects}
 
 module _ (bytes : List ℕ) (at : ℕ) where
   -- 54 30 k 41 v: object k is a member of variable v
@@ -19,5 +18,4 @@ module _ (bytes : List ℕ) (at : ℕ) where
     pub empty : getD bytes at 0 ≡ 0x55
     pub intersection : getD bytes (at + 1) 0 ≡ 0x45
     pub members : getD bytes (at + 2) 0 ≡ 0x40
-    pub few : getD bytes (at + 3) 0 ≤ mostObjects
     pub variable : getD bytes (at + 12) 0 ≡ 0x41

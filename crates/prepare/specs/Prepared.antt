@@ -7,7 +7,7 @@ use mathlib.Core.Option.{some}
 use lib.ListN.{length, getD, getElem?}
 use lib.Dec.{eqb, leb}
 use lib.IntN.{pos}
-use Rattle.model.specs.Numbers.{rangeEnd, mostVariables, mostObjects}
+use Rattle.model.specs.Numbers.{rangeEnd, rangeSize, mostVariables, mostObjects}
 use Rattle.model.specs.Syntax.{Condition, Transition, Table, Model, tableAt}
 use Rattle.model.specs.Meaning.{State, allHold}
 use Rattle.words.specs.Tables.{cellAt}
@@ -19,7 +19,7 @@ use Rattle.prepare.specs.Guards.{guardIn, GuardedTransition, GuardedCond
 
 -- the bits of a word that are compared, by the byte of its variable's kind: a number's and an element's lowest, a set's all
 unfoldable pub comparedMask : (kind : ℕ) → ℕ
-comparedMask k = cond (eqb k 0) (2 ^ 32 - 1) (cond (leb k mostObjects) (mostObjects - 1) (2 ^ 64 - 1))
+comparedMask k = cond (eqb k 0) (rangeSize - 1) (cond (leb k mostObjects) (mostObjects - 1) (2 ^ 64 - 1))
 
 -- the bits that are hashed: none of a variable with a preference
 unfoldable pub hashedMask : (kind preference : ℕ) → ℕ

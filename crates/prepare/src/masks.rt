@@ -11,17 +11,20 @@ use crate::layout::MASKS;
 use crate::writing::put;
 use outline::layout::KINDS;
 use outline::layout::PREFERENCES;
+use outline::layout::STATE_WORDS;
 use outline::word_at;
+use words::sizes::MOST_OBJECTS;
+use words::sizes::RANGE_SIZE;
 
 // The bits of a word that are compared, by the byte of its variable's kind.
 fn compared_mask(kind: u64) -> u64
     ensures { λ r. ⌜ r ≡ comparedMask kind ⌝ }
 {
     if kind == 0 {
-        return 4294967295;
+        return RANGE_SIZE - 1;
     }
-    if kind <= 64 {
-        return 63;
+    if kind <= MOST_OBJECTS {
+        return MOST_OBJECTS - 1;
     }
     18446744073709551615
 }
@@ -55,7 +58,7 @@ pub fn masks(model: &[u8], outline: &mut [u64])
     ensures { λ r. ⌜ MasksPut (now (outline .entry)) (now (outline .exit)) ⌝ }
 {
     let mut v: usize = 0;
-    while v < 16 {
+    while v < STATE_WORDS {
         put_masks(outline, v);
         v += 1;
     }

@@ -9,6 +9,7 @@ use laws::byte_at;
 use laws::wide;
 use words::literals::long;
 use words::sets::single;
+use words::sizes::MOST_OBJECTS;
 
 // A test of one word: under the mask it is as needed. It takes so many bytes, none where there is no test.
 pub struct Test {
@@ -49,9 +50,7 @@ fn is_missing(model: &[u8], at: usize) -> bool
     if model[at] == 0x55 {
         if model[at + 1] == 0x45 {
             if model[at + 2] == 0x40 {
-                if model[at + 3] <= 64 {
-                    return model[at + 12] == 0x41;
-                }
+                return model[at + 12] == 0x41;
             }
         }
     }
@@ -64,7 +63,7 @@ pub fn test_at(model: &[u8], at: usize) -> Test
     ensures within { λ r. ⌜ TestWithin r ⌝ }
 {
     if is_member(model, at) {
-        let bit = single(wide(byte_at(model, at + 2)) % 64);
+        let bit = single(wide(byte_at(model, at + 2)) % MOST_OBJECTS);
         return Test {
             variable: byte_at(model, at + 4) as usize,
             mask: bit,

@@ -32,7 +32,7 @@ use Rattle.read_declarations.proofs.Lists.{each-none, each-more, length
 
 -- ---- variables
 
--- the words with a variable's kind; then its preference; then its start; then its full set
+-- the words with a variable's kind; then its preference; then its start
 abbrev withKind : List ℕ → (v k : ℕ) → List ℕ
 withKind words v k = set words (16 + v) k
 
@@ -42,54 +42,45 @@ withPreference words v k p = set (withKind words v k) (32 + v) p
 abbrev withStart : List ℕ → (v k p s : ℕ) → List ℕ
 withStart words v k p s = set (withPreference words v k p) (48 + v) s
 
-abbrev withFull : List ℕ → (v k p s f : ℕ) → List ℕ
-withFull words v k p s f = set (withStart words v k p s) (64 + v) f
-
-module _ (words : List ℕ) (v k p s f : ℕ) where
-  stored-other : (i : ℕ) → (i ≡ 16 + v → ⊥) → (i ≡ 32 + v → ⊥) → (i ≡ 48 + v → ⊥) → (i ≡ 64 + v → ⊥) → getD (withFull words v k p s f) i 0 ≡ getD words i 0
-  stored-other i a b c e =
-      getD-set-other (withStart words v k p s) (64 + v) i f 0 e ∙ (getD-set-other (withPreference words v k p) (48 + v) i s 0 c
-      ∙ (getD-set-other (withKind words v k) (32 + v) i p 0 b ∙ getD-set-other words (16 + v) i k 0 a))
+module _ (words : List ℕ) (v k p s : ℕ) where
+  stored-other : (i : ℕ) → (i ≡ 16 + v → ⊥) → (i ≡ 32 + v → ⊥) → (i ≡ 48 + v → ⊥) → getD (withStart words v k p s) i 0 ≡ getD words i 0
+  stored-other i a b c =
+      getD-set-other (withPreference words v k p) (48 + v) i s 0 c ∙ (getD-set-other (withKind words v k) (32 + v) i p 0 b ∙ getD-set-other words (16 + v) i k 0 a)
 
   module _ (whole : length words ≡ 80) (few : v < 16) where
-    at-kind : getD (withFull words v k p s f) (16 + v) 0 ≡ k
+    at-kind : getD (withStart words v k p s) (16 + v) 0 ≡ k
     at-kind =
-        getD-set-other (withStart words v k p s) (64 + v) (16 + v) f 0 (λ q. omega arith) ∙ (getD-set-other (withPreference words v k p) (48 + v) (16 + v) s 0 (λ q. omega arith)
-        ∙ (getD-set-other (withKind words v k) (32 + v) (16 + v) p 0 (λ q. omega arith) ∙ getD-set-same words (16 + v) k 0 (omega arith)))
+        getD-set-other (withPreference words v k p) (48 + v) (16 + v) s 0 (λ q. omega arith)
+        ∙ (getD-set-other (withKind words v k) (32 + v) (16 + v) p 0 (λ q. omega arith) ∙ getD-set-same words (16 + v) k 0 (omega arith))
 
-    at-preference : getD (withFull words v k p s f) (32 + v) 0 ≡ p
+    at-preference : getD (withStart words v k p s) (32 + v) 0 ≡ p
     at-preference =
-        getD-set-other (withStart words v k p s) (64 + v) (32 + v) f 0 (λ q. omega arith) ∙ (getD-set-other (withPreference words v k p) (48 + v) (32 + v) s 0 (λ q. omega arith)
-        ∙ getD-set-same (withKind words v k) (32 + v) p 0 (simp length-set (omega arith)))
+        getD-set-other (withPreference words v k p) (48 + v) (32 + v) s 0 (λ q. omega arith)
+        ∙ getD-set-same (withKind words v k) (32 + v) p 0 (simp length-set (omega arith))
 
-    at-start : getD (withFull words v k p s f) (48 + v) 0 ≡ s
-    at-start = getD-set-other (withStart words v k p s) (64 + v) (48 + v) f 0 (λ q. omega arith) ∙ getD-set-same (withPreference words v k p) (48 + v) s 0 (simp length-set (omega arith))
-
-    at-full : getD (withFull words v k p s f) (64 + v) 0 ≡ f
-    at-full = getD-set-same (withStart words v k p s) (64 + v) f 0 (simp length-set (omega arith))
+    at-start : getD (withStart words v k p s) (48 + v) 0 ≡ s
+    at-start = getD-set-same (withPreference words v k p) (48 + v) s 0 (simp length-set (omega arith))
 
 abbrev pub stored : List ℕ → (v : ℕ) → Declaration → List ℕ
-stored words v d = withFull words v (d .kind) (d .preference) (d .start) (d .full)
+stored words v d = withStart words v (d .kind) (d .preference) (d .start)
 
 module _ (words : List ℕ) (v : ℕ) (d : Declaration) where
-  kept : (i : ℕ) → (i ≡ 16 + v → ⊥) → (i ≡ 32 + v → ⊥) → (i ≡ 48 + v → ⊥) → (i ≡ 64 + v → ⊥) → getD (stored words v d) i 0 ≡ getD words i 0
-  kept = stored-other words v (d .kind) (d .preference) (d .start) (d .full)
+  kept : (i : ℕ) → (i ≡ 16 + v → ⊥) → (i ≡ 32 + v → ⊥) → (i ≡ 48 + v → ⊥) → getD (stored words v d) i 0 ≡ getD words i 0
+  kept = stored-other words v (d .kind) (d .preference) (d .start)
 
   stored-before : (k : ℕ) (x : Variable) → k < v → v < 16 → VariableAt words k x → VariableAt (stored words v d) k x
   stored-before k x less few h = record {
-    kind = kept (16 + k) (λ q. omega arith) (λ q. omega arith) (λ q. omega arith) (λ q. omega arith) ∙ h .kind;
-    preference = kept (32 + k) (λ q. omega arith) (λ q. omega arith) (λ q. omega arith) (λ q. omega arith) ∙ h .preference;
-    start = rw (kept (48 + k) (λ q. omega arith) (λ q. omega arith) (λ q. omega arith) (λ q. omega arith)) (h .start);
-    full = λ s. kept (64 + k) (λ q. omega arith) (λ q. omega arith) (λ q. omega arith) (λ q. omega arith) ∙ h .full s;
+    kind = kept (16 + k) (λ q. omega arith) (λ q. omega arith) (λ q. omega arith) ∙ h .kind;
+    preference = kept (32 + k) (λ q. omega arith) (λ q. omega arith) (λ q. omega arith) ∙ h .preference;
+    start = rw (kept (48 + k) (λ q. omega arith) (λ q. omega arith) (λ q. omega arith)) (h .start);
     well-formed = h .well-formed;
   }
 
   stored-here : length words ≡ 80 → v < 16 → {x : Read Variable} (h : Declares x d) → VariableAt (stored words v d) v (h .variable)
   stored-here whole few h = record {
-    kind = at-kind words v (d .kind) (d .preference) (d .start) (d .full) whole few ∙ h .kind;
-    preference = at-preference words v (d .kind) (d .preference) (d .start) (d .full) whole few ∙ h .preference;
-    start = rw (at-start words v (d .kind) (d .preference) (d .start) (d .full) whole few) (h .start);
-    full = λ s. at-full words v (d .kind) (d .preference) (d .start) (d .full) whole few ∙ h .full s;
+    kind = at-kind words v (d .kind) (d .preference) (d .start) whole few ∙ h .kind;
+    preference = at-preference words v (d .kind) (d .preference) (d .start) whole few ∙ h .preference;
+    start = rw (at-start words v (d .kind) (d .preference) (d .start) whole few) (h .start);
     well-formed = h .well-formed;
   }
 

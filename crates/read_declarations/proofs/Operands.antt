@@ -1,5 +1,5 @@
 -- Laws of fixed operands: the cost rule, a variable's operands, a table's sides and entries, each by the tests that its reader makes.
-use Prim.Native.Nat.{ℕ, zero, suc, _+_, _-_, _*_, _^_, _<_, _≤_}
+use Prim.Native.Nat.{ℕ, zero, suc, _+_, _*_, _^_, _<_, _≤_}
 use mathlib.Core.Path.{_≡_, refl, sym, ap, _∙_}
 use mathlib.Core.Bool.{Bool, true, false, _&&_}
 use mathlib.Core.List.{List, [], _∷_}
@@ -108,16 +108,15 @@ module _ (e : List ℕ) where
       go (n ∷ f) l = rw (word-one n f, word-short 8 f (omega arith))
 
 pub set-declares : (x : Read Variable) (n s : ℕ) (d : Declaration) → x ≡ read (setOf n s) 9 → isCount n ≡ true
-    → d .used ≡ 9 → d .kind ≡ 64 + n → d .preference ≡ 0 → d .start ≡ s → d .full ≡ 2 ^ n - 1 → Declares x d
+    → d .used ≡ 9 → d .kind ≡ 64 + n → d .preference ≡ 0 → d .start ≡ s → Declares x d
 unfolding kindByte kindByteOf preferenceNumber valueOf
-set-declares x n s d h c u k p b f = record {
+set-declares x n s d h c u k p b = record {
   variable = setOf n s;
   reads = h ∙ ap (read (setOf n s)) (sym u);
   short = omega (arith, u);
   kind = k;
   preference = p;
   start = ap pos b;
-  full = λ _. f;
   well-formed = count-bounds n c;
 }
 
@@ -169,7 +168,6 @@ element-declares x n p k d h c u j q b =
       kind = j;
       preference = q ∙ preference-number p (ltb-true p 3 (o .1));
       start = ap pos (omega arith);
-      full = λ f. let z : _≡_ {A = ℕ} 0 1 = cc in absurd (omega arith);
       well-formed = w;
     }
 
@@ -198,7 +196,6 @@ number-declares x p z d h c u j q b s = record {
   kind = j;
   preference = q ∙ preference-number p c;
   start = word-back (d .start) z b s;
-  full = λ f. let z : _≡_ {A = ℕ} 0 1 = cc in absurd (omega arith);
   well-formed = refl;
 }
 

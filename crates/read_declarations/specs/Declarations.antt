@@ -1,12 +1,12 @@
 -- What the readers of variables and tables answer, and what they put into bytes and words.
-use Prim.Native.Nat.{ℕ, _-_, _^_, _≤_}
+use Prim.Native.Nat.{ℕ, _≤_}
 use mathlib.Core.Path.{_≡_}
 use mathlib.Core.List.{List, map}
 use lib.ListN.{length, getD, take}
 use Rattle.model.specs.Numbers.{mostVariables, mostTables}
 use lib.IntN.{ℤ}
 use Rattle.model.specs.Readers.{Read, read, refused, Reader, _>>_, integer, command}
-use Rattle.model.specs.Syntax.{aSet, Variable, Table}
+use Rattle.model.specs.Syntax.{Variable, Table}
 use Rattle.model.specs.Commands.{variables, tables}
 use Rattle.words.specs.States.{valueOf}
 use Rattle.words.specs.Signature.{kindByte, WellFormed}
@@ -30,14 +30,13 @@ pub record Declares (x : Read Variable) (d : Declaration) : Type 0 where
   pub kind : d .kind ≡ kindByte variable
   pub preference : d .preference ≡ preferenceNumber (variable .preference)
   pub start : valueOf (variable .kind) (d .start) ≡ variable .start
-  pub full : variable .kind ≡ aSet → d .full ≡ 2 ^ variable .objects - 1
   pub well-formed : WellFormed variable
 
 abbrev pub DeclaredAs : Read Variable → Declared → Type 0
 DeclaredAs x (D.Variable d) = Declares x d
 DeclaredAs x (D.Refused t) = x ≡ refused t
 
--- the variables that are read, a byte and four words for each
+-- the variables that are read, a byte and three words for each
 pub record VariablesRead (x : Read (List Variable)) (kinds words : List ℕ) (end n : ℕ) : Type 0 where
   pub variables : List Variable
   pub reads : x ≡ read variables end

@@ -21,13 +21,12 @@ pub enum Listed {
     Refused(u8),
 }
 
-// A variable: the bytes of its operands, its kind and objects as a byte, its preference, the words of its start and its full set.
+// A variable: the bytes of its operands, its kind and objects as a byte, its preference, the word of its start.
 pub struct Declaration {
     pub used: usize,
     pub kind: u8,
     pub preference: u8,
     pub start: u64,
-    pub full: u64,
 }
 
 pub enum Declared {

@@ -7,7 +7,7 @@ ghost use lib.ListN.{length, set};
 ghost use lib.Dec.{ltb};
 ghost use Rattle.model.specs.Expressions.{among, isCount};
 ghost use Rattle.model.specs.Commands as commands;
-ghost use Rattle.outline.specs.Outline.{kindsFrom, preferencesFrom, startsFrom, fullFrom};
+ghost use Rattle.outline.specs.Outline.{kindsFrom, preferencesFrom, startsFrom};
 ghost use Rattle.read_declarations.specs.Declarations.{DeclaredAs, VariablesAs};
 use crate::Declaration;
 use crate::Declared;
@@ -15,7 +15,6 @@ use crate::Listed;
 use crate::MOST_VARIABLES;
 use laws::byte_at;
 use laws::wide;
-use outline::layout::FULL_SETS;
 use outline::layout::KINDS;
 use outline::layout::PREFERENCES;
 use outline::layout::STARTS;
@@ -25,7 +24,6 @@ use read_forms::bytes::members_fit;
 use words::arithmetic::biased;
 use words::literals::integer;
 use words::literals::long;
-use words::sets::full;
 
 // Whether n is an object count, or a side of a table.
 pub fn is_count(n: u8) -> bool
@@ -50,7 +48,6 @@ fn set_variable(e: &[u8]) -> Declared
                 kind: 64 + n,
                 preference: 0,
                 start: members,
-                full: full(wide(n)),
             });
         }
         Declared::Refused(OFF_LIMITS)
@@ -86,7 +83,6 @@ fn element_variable(e: &[u8]) -> Declared
                 kind: n,
                 preference: p,
                 start: wide(k),
-                full: 0,
             });
         }
         Declared::Refused(OFF_LIMITS)
@@ -107,7 +103,6 @@ fn number_variable(e: &[u8]) -> Declared
                 kind: 0,
                 preference: p,
                 start: biased(integer(&e[1..])),
-                full: 0,
             });
         }
         Declared::Refused(OFF_LIMITS)
@@ -136,15 +131,14 @@ fn declares_variable(b: u8) -> bool
     if 2 <= b { b < 5 } else { false }
 }
 
-// Puts variable v into its four words.
+// Puts variable v into its three words.
 fn store(words: &mut [u64], v: usize, d: Declaration)
     requires { ⌜ (length (now words) ≡ 80) × (v < 16) ⌝ }
-    ensures { λ r. ⌜ now (words .exit) ≡ set (set (set (set (now (words .entry)) (kindsFrom + v) (d .kind)) (preferencesFrom + v) (d .preference)) (startsFrom + v) (d .start)) (fullFrom + v) (d .full) ⌝ }
+    ensures { λ r. ⌜ now (words .exit) ≡ set (set (set (now (words .entry)) (kindsFrom + v) (d .kind)) (preferencesFrom + v) (d .preference)) (startsFrom + v) (d .start) ⌝ }
 {
     words[KINDS + v] = wide(d.kind);
     words[PREFERENCES + v] = wide(d.preference);
     words[STARTS + v] = d.start;
-    words[FULL_SETS + v] = d.full;
 }
 
 // The variables from a position on, with their kinds as bytes and their words.

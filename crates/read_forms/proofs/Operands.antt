@@ -1,18 +1,20 @@
 -- Fixed operands: what their readers answer, by the length of the bytes and the tests.
-use Prim.Native.Nat.{ℕ, suc, _+_, _*_, _%_, _^_, _≤_, _<_}
+use Prim.Native.Nat.{ℕ, suc, _+_, _-_, _^_, _≤_, _<_}
 use mathlib.Core.Path.{_≡_, refl, sym, ap, _∙_}
 use mathlib.Core.Bool.{Bool, true, false, cond, _&&_}
 use mathlib.Core.List.{List, [], _∷_}
 use native.Mathlib.Omega.{arith}
-use native.Mathlib.Nat.{add-zero, mod-eq-of-lt, one-mul}
+use native.Mathlib.Nat.{add-zero}
 use lib.ListN.{length, getD, drop}
 use lib.Dec.{leb, ltb, eqb}
-use lib.Pow.{pow-lt}
-use borrow.Author.Tests.{lt-ltb, le-ltb, le-leb, eqb-true, eqb-false}
-use Rattle.model.specs.Numbers.{endsEarly, mismatch, offLimits}
+use lib.Pow.{pow-pos}
+use borrow.Author.Tests.{lt-ltb, le-ltb, le-leb, lt-leb, ltb-true, ltb-false}
+use Rattle.model.specs.Numbers.{endsEarly, mismatch, offLimits, mostObjects}
 use Rattle.model.specs.Readers.{Read, read, refused, Reader, after, continue, _>>=_, _>>_, give, require, word, integer, one}
 use Rattle.model.specs.Expressions.{among, isCount, objectsAndMembers, objectNumber, kindNumber}
 use Rattle.words.specs.Signature.{variableOf}
+use Rattle.words.specs.FullSets.{fullOf}
+use Rattle.words.proofs.FullSets.{full-of}
 use Rattle.words.proofs.Literal.{word-is, word-short, word-one}
 use Rattle.read_forms.specs.Parts.{noCount, partOf}
 use Rattle.read_forms.specs.Forms.{dueNumber, variableAt}
@@ -65,17 +67,22 @@ pub no-count : (n m : ℕ) → n ≡ 0 → false ≡ (isCount n && ltb m (2 ^ n)
 unfolding isCount among
 no-count n m h = rw h
 
-pub below-64 : (n m : ℕ) → (n ≡ 0 → ⊥) → n < 64 → ltb m ((1 * 2 ^ n) % 18446744073709551616) ≡ (isCount n && ltb m (2 ^ n))
+pub full-fits : (n m : ℕ) → (n ≡ 0 → ⊥) → n ≤ mostObjects → leb m (fullOf n) ≡ (isCount n && ltb m (2 ^ n))
 unfolding isCount among
-below-64 n m h l = let p : 1 * 2 ^ n ≡ 2 ^ n = one-mul (2 ^ n) in rw (p, mod-eq-of-lt (pow-lt l), le-leb 1 n (omega (arith, h)), lt-ltb n 65 (omega arith))
-
-pub at-64 : (n m : ℕ) → 64 ≤ n → m < 2 ^ 64 → eqb n 64 ≡ (isCount n && ltb m (2 ^ n))
-unfolding isCount among
-at-64 n m h f = go (eqb n 64) refl
+full-fits n m h l =
+    let p : 0 < 2 ^ n = pow-pos n in
+    rw (full-of n l, le-leb 1 n (omega (arith, h)), lt-ltb n 65 (omega arith)) (at-end (2 ^ n) p)
   where
-    go : (t : Bool) → eqb n 64 ≡ t → t ≡ ((leb 1 n && ltb n 65) && ltb m (2 ^ n))
-    go true q = let x : n ≡ 64 = eqb-true n 64 q in rw (x, lt-ltb m (2 ^ 64) f)
-    go false q = let x : 65 ≤ n = omega (arith, eqb-false n 64 q) in rw (le-leb 1 n (omega arith), le-ltb n 65 x)
+    at-end : (k : ℕ) → 0 < k → leb m (k - 1) ≡ ltb m k
+    at-end k p = go (ltb m k) refl
+      where
+        go : (t : Bool) → ltb m k ≡ t → leb m (k - 1) ≡ t
+        go true q = le-leb m (k - 1) (omega (arith, ltb-true m k q))
+        go false q = lt-leb m (k - 1) (omega (arith, ltb-false m k q))
+
+pub beyond-64 : (n m : ℕ) → mostObjects < n → false ≡ (isCount n && ltb m (2 ^ n))
+unfolding isCount among
+beyond-64 n m h = rw (le-leb 1 n (omega arith), le-ltb n 65 (omega arith))
 
 -- ---- a variable
 

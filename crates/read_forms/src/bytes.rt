@@ -16,6 +16,7 @@ use crate::MOST_OBJECTS;
 use crate::OFF_LIMITS;
 use crate::Part;
 use words::literals::long;
+use words::sets::full;
 
 // A number's four bytes.
 pub fn integer(e: &[u8]) -> Part
@@ -51,10 +52,10 @@ pub fn members_fit(n: u8, members: u64) -> bool
     if n == 0 {
         return false;
     }
-    if n < MOST_OBJECTS {
-        return members < 1u64 << n;
+    if n <= MOST_OBJECTS {
+        return members <= full(n as u64);
     }
-    n == MOST_OBJECTS
+    false
 }
 
 // An object count and the members, as bits.

@@ -137,7 +137,6 @@ module _ (bytes : List ℕ) (start : ℕ) (before kinds part : List ℕ) (long :
             kind = word (16 + k) (omega arith) (omega arith) ∙ h .kind;
             preference = word (32 + k) (omega arith) (omega arith) ∙ h .preference;
             start = rw (word (48 + k) (omega arith) (omega arith)) (h .start);
-            full = λ s. word (64 + k) (omega arith) (omega arith) ∙ h .full s;
             well-formed = h .well-formed;
           }) in
           record {
@@ -244,7 +243,6 @@ module _ (bytes : List ℕ) where
                     kind = other (16 + k) (λ z. omega arith) ∙ j .kind;
                     preference = other (32 + k) (λ z. omega arith) ∙ j .preference;
                     start = rw (other (48 + k) (λ z. omega arith)) (j .start);
-                    full = λ s. other (64 + k) (λ z. omega arith) ∙ j .full s;
                     well-formed = j .well-formed;
                   };
               tables = λ k l. rw (other (80 + k) (λ z. omega arith)) (told .tables .tables k l);

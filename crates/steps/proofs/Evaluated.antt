@@ -1,9 +1,8 @@
 -- The evaluators on a model's own bytes: what their answers are of expressions that stand there, by the outline's words.
 use Prim.Native.Nat.{ℕ, _-_, _≤_, _<_}
-use mathlib.Core.Path.{_≡_, ap, _∙_}
+use mathlib.Core.Path.{_≡_, ap}
 use mathlib.Core.List.{List}
 use lib.ListN.{length, take, drop, length-drop}
-use lib.Seq.{getD-drop}
 use Rattle.model.specs.Numbers.{mostNesting, mostObjects}
 use Rattle.words.proofs.Literal.{suffix}
 use Rattle.outline.specs.Outline.{modelOf}
@@ -18,6 +17,7 @@ use Rattle.eval_sets.proofs.Promises.{run-number, run-condition, run-set, run-e
 use Rattle.eval_sets.proofs.Within.{number-within, condition-within, set-within, element-within, element-small}
 use Rattle.eval_tests.specs.Stopped.{stopped}
 use Rattle.eval_tests.proofs.Stopping.{stopped-within}
+use Rattle.prepare.proofs.Tested.{outline-describes}
 use Rattle.steps.specs.InBytes.{Outlined}
 use Rattle.steps.specs.Says.{ConditionSays, NumberSays, ElementSays, SetSays}
 
@@ -27,31 +27,28 @@ lent n l = take (length l - n) (drop n l)
 
 module _ (bytes words : List ℕ) (o : Outlined bytes words) (at : ℕ) (state : List ℕ) where
   abbrev here : Environment
-  here = environment bytes state (drop 64 words) (drop 80 words)
+  here = environment bytes state words
 
   described : Describes (modelOf bytes .variables) (modelOf bytes .tables) here
-  described = record {
-    sets = λ v x e k. getD-drop 64 words v 0 ∙ o .outlines .variables v x e .full k;
-    tabled = λ t h. rw (getD-drop 80 words t 0) (o .outlines .tables t h);
-  }
+  described = outline-describes state (o .outlines)
 
-  pub condition-promised : (r : ConditionValue) → r ≡ stopped (runCondition mostNesting (environment bytes state (lent 64 words) (lent 80 words)) (lent at bytes))
+  pub condition-promised : (r : ConditionValue) → r ≡ stopped (runCondition mostNesting here (lent at bytes))
       → ConditionSays bytes at state r × ConditionWithin (length bytes - at) r
   condition-promised r e =
-      let f : r ≡ stopped (runCondition mostNesting here (drop at bytes)) = rw (suffix 64 words, suffix 80 words, suffix at bytes) at e in
+      let f : r ≡ stopped (runCondition mostNesting here (drop at bytes)) = rw (suffix at bytes) at e in
       rw (f, ← length-drop at bytes)
       (λ x n h. ap stopped (run-condition mostNesting here (drop at bytes) _ _ x n described h), stopped-within _ _ (condition-within mostNesting here (drop at bytes)))
 
-  pub number-promised : (r : NumberValue) → r ≡ runNumber mostNesting (environment bytes state (lent 64 words) (lent 80 words)) (lent at bytes)
+  pub number-promised : (r : NumberValue) → r ≡ runNumber mostNesting here (lent at bytes)
       → NumberSays bytes at state r × NumberWithin (length bytes - at) r
   number-promised r e =
-      let f : r ≡ runNumber mostNesting here (drop at bytes) = rw (suffix 64 words, suffix 80 words, suffix at bytes) at e in
+      let f : r ≡ runNumber mostNesting here (drop at bytes) = rw (suffix at bytes) at e in
       rw (f, ← length-drop at bytes) (λ x n h. run-number mostNesting here (drop at bytes) _ _ x n described h, number-within mostNesting here (drop at bytes))
 
-  pub set-promised : (r : SetValue) → r ≡ runSet mostNesting state (lent 64 words) (lent at bytes) → SetSays bytes at state r × (r .used ≤ length bytes - at)
+  pub set-promised : (r : SetValue) → r ≡ runSet mostNesting state words (lent at bytes) → SetSays bytes at state r × (r .used ≤ length bytes - at)
   set-promised r e =
-      let f : r ≡ runSet mostNesting state (drop 64 words) (drop at bytes) = rw (suffix 64 words, suffix at bytes) at e in
-      rw (f, ← length-drop at bytes) (λ x n h. set-is (run-set mostNesting state (drop 64 words) (drop at bytes) _ _ x n (described .sets) h), set-within mostNesting state (drop 64 words) (drop at bytes))
+      let f : r ≡ runSet mostNesting state words (drop at bytes) = rw (suffix at bytes) at e in
+      rw (f, ← length-drop at bytes) (λ x n h. set-is (run-set mostNesting state words (drop at bytes) _ _ x n (described .sets) h), set-within mostNesting state words (drop at bytes))
     where
       set-is : {s t : SetValue} → s ≡ t → (s .members ≡ t .members) × (s .used ≡ t .used)
       set-is q = (ap (λ (i : SetValue). i .members) q, ap (λ (i : SetValue). i .used) q)

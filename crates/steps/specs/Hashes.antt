@@ -1,22 +1,23 @@
 -- The hash of a state: a number made of the words of the variables without preference, as they are compared.
 -- A state that dominates another has the same ones, so any such function would do.
-use Prim.Native.Nat.{ℕ, zero, suc, _+_, _*_, _/_, _%_, _^_}
+use Prim.Native.Nat.{ℕ, zero, suc, _+_, _*_, _/_, _%_}
 use mathlib.Core.Bool.{cond}
 use mathlib.Core.List.{List}
 use lib.Dec.{eqb}
 use lib.ListN.{getD}
+use Rattle.model.specs.Readers.{wordEnd}
 use Rattle.outline.specs.Outline.{variableCountAt, kindsFrom, preferencesFrom}
 use Rattle.steps.specs.Order.{comparedWord}
 
 -- 32 bits of x mixed into m
 unfoldable pub mix : (m x : ℕ) → ℕ
 mix m x =
-    let p = (m % 2 ^ 32 + x % 2 ^ 32) % 2 ^ 32 * 2654435761 in
-    p / 2 ^ 32 + p % 2 ^ 32
+    let p = (m % wordEnd + x % wordEnd) % wordEnd * 2654435761 in
+    p / wordEnd + p % wordEnd
 
 -- 64 bits
 unfoldable pub mixWord : (m x : ℕ) → ℕ
-mixWord m x = mix (mix m x) (x / 2 ^ 32)
+mixWord m x = mix (mix m x) (x / wordEnd)
 
 -- what is hashed of a word: what is compared of it, and nothing where there is a preference
 unfoldable pub hashedWord : (kind preference word : ℕ) → ℕ

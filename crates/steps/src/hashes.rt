@@ -9,20 +9,21 @@ ghost use Rattle.steps.specs.Hashes.{mix as Hashes·mix, mixWord, mixAt,
 use outline::layout::VARIABLE_COUNT;
 use outline::word_at;
 use prepare::layout::MASKS;
+use words::sizes::WORD_END;
 
 // 32 bits of x mixed into m.
 fn mix(m: u64, x: u64) -> u64
     ensures { λ r. ⌜ r ≡ Hashes·mix m x ⌝ }
 {
-    let p = (m % 4294967296 + x % 4294967296) % 4294967296 * 2654435761;
-    p / 4294967296 + p % 4294967296
+    let p = (m % WORD_END + x % WORD_END) % WORD_END * 2654435761;
+    p / WORD_END + p % WORD_END
 }
 
 // 64 bits of x mixed into m.
 fn mix_word(m: u64, x: u64) -> u64
     ensures { λ r. ⌜ r ≡ mixWord m x ⌝ }
 {
-    mix(mix(m, x), x / 4294967296)
+    mix(mix(m, x), x / WORD_END)
 }
 
 // The word of variable v mixed into m.

@@ -3,7 +3,7 @@
 ghost use mathlib.Core.Path.{_≡_};
 ghost use Prim.Native.Nat.{_≤_, _<_, _-_};
 ghost use lib.ListN.{length};
-ghost use Rattle.model.specs.Numbers.{rangeEnd};
+ghost use Rattle.model.specs.Numbers.{rangeEnd, mostVariables};
 ghost use Rattle.model.specs.Steps as steps;
 ghost use Rattle.outline.specs.Outline.{modelOf};
 ghost use Rattle.steps.specs.InBytes.{Outlined, StateRoom, stateIn, systemIn};
@@ -30,6 +30,7 @@ use outline::word_at;
 use prepare::guards::passes;
 use prepare::layout::GUARDS;
 use words::arithmetic::biased;
+use words::sizes::MOST_OBJECTS;
 
 // The cost at a place; a negative one is trouble.
 fn cost_at(model: &[u8], at: usize, outline: &[u64], state: &[u64]) -> CostAnswer
@@ -60,14 +61,14 @@ fn number_word(model: &[u8], at: usize, outline: &[u64], state: &[u64]) -> WordA
 
 // The word for variable v, by its kind.
 fn word_for(model: &[u8], at: usize, outline: &[u64], state: &[u64], v: usize) -> WordAnswer
-    requires { ⌜ Outlined (now model) (now outline) × (at ≤ length (now model)) × (v < 16) ⌝ }
+    requires { ⌜ Outlined (now model) (now outline) × (at ≤ length (now model)) × (v < mostVariables) ⌝ }
     ensures { λ r. ⌜ WordSays (now (model .entry)) at (now (state .entry)) v r × WordWithin (length (now (model .entry)) - at) r ⌝ }
 {
     let kind = word_at(outline, KINDS + v);
     if kind == 0 {
         return number_word(model, at, outline, state);
     }
-    if kind <= 64 {
+    if kind <= MOST_OBJECTS {
         let e = element_at(model, at, outline, state);
         return WordAnswer::Word(e.object, e.used);
     }

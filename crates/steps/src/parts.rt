@@ -2,6 +2,7 @@
 
 ghost use Prim.Native.Nat.{_≤_, _<_, _-_};
 ghost use lib.ListN.{length};
+ghost use Rattle.model.specs.Numbers.{mostObjects};
 ghost use Rattle.eval_sets.specs.Bounds.{NumberWithin, ConditionWithin};
 ghost use Rattle.steps.specs.InBytes.{Outlined};
 ghost use Rattle.steps.specs.Says.{ConditionSays, NumberSays, ElementSays, SetSays};
@@ -13,22 +14,13 @@ use eval_sets::answers::SetValue;
 use eval_sets::sets::element;
 use eval_sets::sets::set;
 use eval_tests::test;
-use outline::layout::FULL_SETS;
-use outline::layout::TABLES;
 
 // Whether the condition at a place holds, and its bytes where it does.
 pub fn condition_at(model: &[u8], at: usize, outline: &[u64], state: &[u64]) -> ConditionValue
     requires { ⌜ Outlined (now model) (now outline) × (at ≤ length (now model)) ⌝ }
     ensures { λ r. ⌜ ConditionSays (now (model .entry)) at (now (state .entry)) r × ConditionWithin (length (now (model .entry)) - at) r ⌝ }
 {
-    test(
-        &model[at..],
-        model,
-        state,
-        &outline[FULL_SETS..],
-        &outline[TABLES..],
-        32,
-    )
+    test(&model[at..], model, state, outline, 32)
 }
 
 // The value of the number at a place.
@@ -36,20 +28,13 @@ pub fn number_at(model: &[u8], at: usize, outline: &[u64], state: &[u64]) -> Num
     requires { ⌜ Outlined (now model) (now outline) × (at ≤ length (now model)) ⌝ }
     ensures { λ r. ⌜ NumberSays (now (model .entry)) at (now (state .entry)) r × NumberWithin (length (now (model .entry)) - at) r ⌝ }
 {
-    number(
-        &model[at..],
-        model,
-        state,
-        &outline[FULL_SETS..],
-        &outline[TABLES..],
-        32,
-    )
+    number(&model[at..], model, state, outline, 32)
 }
 
 // The object of the element at a place.
 pub fn element_at(model: &[u8], at: usize, outline: &[u64], state: &[u64]) -> ElementValue
     requires { ⌜ Outlined (now model) (now outline) × (at ≤ length (now model)) ⌝ }
-    ensures { λ r. ⌜ ElementSays (now (model .entry)) at (now (state .entry)) r × ((r .object < 64) × (r .used ≤ length (now (model .entry)) - at)) ⌝ }
+    ensures { λ r. ⌜ ElementSays (now (model .entry)) at (now (state .entry)) r × ((r .object < mostObjects) × (r .used ≤ length (now (model .entry)) - at)) ⌝ }
 {
     element(&model[at..], state)
 }
@@ -59,5 +44,5 @@ pub fn set_at(model: &[u8], at: usize, outline: &[u64], state: &[u64]) -> SetVal
     requires { ⌜ Outlined (now model) (now outline) × (at ≤ length (now model)) ⌝ }
     ensures { λ r. ⌜ SetSays (now (model .entry)) at (now (state .entry)) r × (r .used ≤ length (now (model .entry)) - at) ⌝ }
 {
-    set(&model[at..], state, &outline[FULL_SETS..], 32)
+    set(&model[at..], state, outline, 32)
 }

@@ -5,6 +5,7 @@ ghost use mathlib.Core.List.{_++_};
 ghost use Prim.Native.Nat.{_<_};
 ghost use lib.ListN.{take, drop};
 ghost use Rattle.prepare.specs.Prepared.{MasksAt};
+ghost use Rattle.model.specs.Numbers.{mostVariables};
 ghost use Rattle.steps.specs.InBytes.{Outlined, StateRoom, stateIn, systemIn, targetIn};
 ghost use Rattle.steps.specs.Order.{noWorseBy, noWorseAt};
 use laws::copy_words;
@@ -18,7 +19,7 @@ use prepare::layout::MASKS;
 // Copies the words of a state.
 pub fn copy_state(from: &[u64], to: &mut [u64])
     requires { ⌜ StateRoom (now from) × StateRoom (now to) ⌝ }
-    ensures { λ r. ⌜ now (to .exit) ≡ take 16 (now (from .entry)) ++ drop 16 (now (to .entry)) ⌝ }
+    ensures { λ r. ⌜ now (to .exit) ≡ take mostVariables (now (from .entry)) ++ drop mostVariables (now (to .entry)) ⌝ }
 {
     copy_words(&from[..STATE_WORDS], &mut to[..STATE_WORDS]);
 }
@@ -46,7 +47,7 @@ fn no_worse_by(preference: u64, t: u64, s: u64) -> bool
 
 // Whether variable v of t is no worse than that of s.
 fn no_worse_at(outline: &[u64], v: usize, t: &[u64], s: &[u64]) -> bool
-    requires { ⌜ (v < 16) × MasksAt (now outline) v ⌝ }
+    requires { ⌜ (v < mostVariables) × MasksAt (now outline) v ⌝ }
     ensures { λ r. ⌜ r ≡ noWorseAt (now (outline .entry)) v (now (t .entry)) (now (s .entry)) ⌝ }
 {
     let mask = word_at(outline, MASKS + 2 * v);

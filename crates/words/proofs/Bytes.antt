@@ -1,10 +1,10 @@
--- A rule of bytes, proved at all of them by one computation.
+-- A rule of a table, and one of bytes, proved at all places by one computation.
 use Prim.Native.Nat.{ℕ, zero, suc, _+_, _<_}
 use mathlib.Core.Path.{_≡_, refl, sym, ap, _∙_}
 use mathlib.Core.Bool.{Bool, true, false, cond}
 use mathlib.Core.List.{List, [], _∷_}
 use native.Mathlib.Omega.{arith}
-use lib.ListN.{getD}
+use lib.ListN.{length, getD}
 use lib.Dec.{eqb}
 use borrow.Author.Tests.{ne-eqb}
 
@@ -17,6 +17,12 @@ tab-at : {A : Type 0} (f : ℕ → A) (x : A) (i n k : ℕ) → k < n → getD (
 tab-at f x i zero k h = absurd (omega arith)
 tab-at f x i (suc n) zero h = let q : i ≡ i + 0 = omega arith in ap f q
 tab-at f x i (suc n) (suc k) h = let q : suc i + k ≡ i + suc k = omega arith in tab-at f x (suc i) n k (omega arith) ∙ ap f q
+
+-- a table that is computed to hold f at 0, 1, 2 and so on holds f k at each of its places k
+pub table-rule : {A : Type 0} (f : ℕ → A) (x : A) (table : List A) → table ≡ tab f 0 (length table) → (k : ℕ) → k < length table → getD table k x ≡ f k
+table-rule f x table computed k h =
+    let q : 0 + k ≡ k = omega arith in
+    ap (λ l. getD l k x) computed ∙ tab-at f x 0 (length table) k h ∙ ap f q
 
 -- the values at all bytes
 abbrev pub atBytes : {A : Type 0} → (ℕ → A) → List A

@@ -6,3 +6,4 @@ pub mod Entries
 pub mod Parts
 pub mod Sums
 pub mod Bytes
+pub mod FullSets

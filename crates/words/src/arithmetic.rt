@@ -1,28 +1,25 @@
 // Whole numbers: the range, the four operations on numbers in it, and a number variable's word.
 
 ghost use mathlib.Core.Path.{_≡_};
-ghost use Prim.Native.Nat.{_≤_, _<_, _%_, _^_};
+ghost use Prim.Native.Nat.{_≤_, _<_, _%_};
 ghost use lib.Dec.{ltb};
 ghost use lib.IntN.{pos, natAbs, _+ℤ_, _-ℤ_, _*ℤ_};
 ghost use lib.Signed.{mag};
-ghost use Rattle.model.specs.Numbers.{rangeEnd};
+ghost use Rattle.model.specs.Numbers.{rangeEnd, rangeSize};
 ghost use Rattle.model.specs.Values.{value, floorBy, floorQuotient};
 ghost use Rattle.words.specs.Signs.{Positive, NotZero, mirrored};
-
-// The least number in range.
-const LEAST: i64 = -2147483648;
-
-// The end of the range: one more than the greatest number in it.
-const END: i64 = 2147483648;
+use crate::sizes::RANGE_END;
+use crate::sizes::RANGE_SIZE;
+use crate::sizes::RANGE_START;
 
 // Whether z is a number that an expression may have.
 pub fn in_range(z: i64) -> bool
     ensures { λ r. ⌜ r ≡ ltb (mag z) rangeEnd ⌝ }
 {
-    if z < LEAST {
+    if z < RANGE_START {
         return false;
     }
-    z < END
+    z < RANGE_END
 }
 
 // The sum of two numbers in range.
@@ -80,15 +77,15 @@ pub fn floor_quotient(a: i64, b: i64) -> i64
 
 // The number in a number variable's word.
 pub fn signed_word(w: u64) -> i64
-    ensures { λ r. ⌜ (r ≡ pos (w % 2 ^ 32) -ℤ pos rangeEnd) × (mag r < rangeEnd) ⌝ }
+    ensures { λ r. ⌜ (r ≡ pos (w % rangeSize) -ℤ pos rangeEnd) × (mag r < rangeEnd) ⌝ }
 {
-    ((w % 4294967296) as i64) - END
+    ((w % RANGE_SIZE) as i64) - RANGE_END
 }
 
 // A number variable's word for a number in range.
 pub fn biased(z: i64) -> u64
     requires { ⌜ mag z < rangeEnd ⌝ }
-    ensures { λ r. ⌜ (pos r ≡ z +ℤ pos rangeEnd) × (r < 2 ^ 32) ⌝ }
+    ensures { λ r. ⌜ (pos r ≡ z +ℤ pos rangeEnd) × (r < rangeSize) ⌝ }
 {
-    (z + END) as u64
+    (z + RANGE_END) as u64
 }

@@ -3,4 +3,5 @@
 pub mod arithmetic;
 pub mod literals;
 pub mod sets;
+pub mod sizes;
 pub mod tables;

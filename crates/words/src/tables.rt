@@ -3,11 +3,13 @@
 ghost use mathlib.Core.Path.{_≡_};
 ghost use Prim.Native.Nat.{_+_, _*_, _^_, _≤_, _<_};
 ghost use lib.Signed.{mag};
-ghost use Rattle.model.specs.Numbers.{rangeEnd};
+ghost use Rattle.model.specs.Numbers.{mostObjects, rangeEnd};
 ghost use Rattle.model.specs.Sets.{members};
 ghost use Rattle.model.specs.Meaning.{sumOver};
-ghost use Rattle.words.specs.Tables.{cellAt, entryIn, columnsOf, cellsOf, atOf};
+ghost use Rattle.words.specs.Tables.{cellAt, entryIn, columnsOf, cellsOf, atOf, half};
 use crate::literals::integer;
+use crate::sizes::HALF;
+use crate::sizes::HALF_SETS;
 
 // The entry in cell k of the table whose entries begin at `at`.
 fn cell(model: &[u8], at: usize, k: usize) -> i64
@@ -23,7 +25,7 @@ fn cell(model: &[u8], at: usize, k: usize) -> i64
 
 // The entry of a table at row i, column j.
 pub fn entry(model: &[u8], table: u64, i: u64, j: u64) -> i64
-    requires { ⌜ (i < 64) × (j < 64) ⌝ }
+    requires { ⌜ (i < mostObjects) × (j < mostObjects) ⌝ }
     ensures { λ r. ⌜ (r ≡ entryIn (now (model .entry)) (atOf table) (columnsOf table) (cellsOf table) i j) × (mag r < rangeEnd) ⌝ }
 {
     let k = i * (table % 128) + j;
@@ -35,8 +37,8 @@ pub fn entry(model: &[u8], table: u64, i: u64, j: u64) -> i64
 
 // The sum of the entries in column j at the rows from + i, for the members i of s. It may leave the range.
 fn walked(model: &[u8], table: u64, s: u64, from: u64, j: u64) -> i64
-    requires { ⌜ (s < 2 ^ 32) × (from ≤ 32) × (j < 64) ⌝ }
-    ensures { λ r. ⌜ (r ≡ sumOver (λ i. entryIn (now (model .entry)) (atOf table) (columnsOf table) (cellsOf table) (from + i) j) (members s)) × (mag r ≤ 32 * rangeEnd) ⌝ }
+    requires { ⌜ (s < 2 ^ half) × (from ≤ half) × (j < mostObjects) ⌝ }
+    ensures { λ r. ⌜ (r ≡ sumOver (λ i. entryIn (now (model .entry)) (atOf table) (columnsOf table) (cellsOf table) (from + i) j) (members s)) × (mag r ≤ half * rangeEnd) ⌝ }
 {
     let mut left = s;
     let mut sum: i64 = 0;
@@ -51,10 +53,10 @@ fn walked(model: &[u8], table: u64, s: u64, from: u64, j: u64) -> i64
 // The sum of the entries in column j at the rows that are members of s: over objects 0 to 31, over 32 to 63, and both added.
 // The range is not asked here: a half may leave it where the total does not.
 pub fn total(model: &[u8], table: u64, s: u64, j: u64) -> i64
-    requires { ⌜ j < 64 ⌝ }
+    requires { ⌜ j < mostObjects ⌝ }
     ensures { λ r. ⌜ r ≡ sumOver (λ i. entryIn (now (model .entry)) (atOf table) (columnsOf table) (cellsOf table) i j) (members s) ⌝ }
 {
-    let lower = walked(model, table, s % 4294967296, 0, j);
-    let upper = walked(model, table, s / 4294967296, 32, j);
+    let lower = walked(model, table, s % HALF_SETS, 0, j);
+    let upper = walked(model, table, s / HALF_SETS, HALF, j);
     lower + upper
 }

@@ -68,86 +68,86 @@ use Rattle.eval_sets.proofs.leaves.total_number.Reads as total-number-reads
 use Rattle.eval_numbers.proofs.+choice+condition_behind+condition_from+connective+number_before+number_behind+number_beyond+number_from+pair.{statement}
 use Rattle.eval_numbers.proofs.+choice+condition_behind+condition_from+connective+number_before+number_behind+number_beyond+number_from+pair.Tie.{close}
 
-abbrev μ-choice : Measures 5 choice-kinds.ps ℕ
-μ-choice κs a = 4 * a .1 .1 .1 .1 .1 .1 .0 + 2
+abbrev μ-choice : Measures 4 choice-kinds.ps ℕ
+μ-choice κs a = 4 * a .1 .1 .1 .1 .1 .0 + 2
 
-abbrev μ-condition-behind : Measures 5 condition-behind-kinds.ps ℕ
-μ-condition-behind κs a = 4 * a .1 .1 .1 .1 .1 .1 .1 .0 + 3
+abbrev μ-condition-behind : Measures 4 condition-behind-kinds.ps ℕ
+μ-condition-behind κs a = 4 * a .1 .1 .1 .1 .1 .1 .0 + 3
 
-abbrev μ-condition-from : Measures 5 condition-from-kinds.ps ℕ
-μ-condition-from κs a = 4 * a .1 .1 .1 .1 .1 .1 .0
+abbrev μ-condition-from : Measures 4 condition-from-kinds.ps ℕ
+μ-condition-from κs a = 4 * a .1 .1 .1 .1 .1 .0
 
-abbrev μ-connective : Measures 5 connective-kinds.ps ℕ
-μ-connective κs a = 4 * a .1 .1 .1 .1 .1 .1 .1 .0 + 2
+abbrev μ-connective : Measures 4 connective-kinds.ps ℕ
+μ-connective κs a = 4 * a .1 .1 .1 .1 .1 .1 .0 + 2
 
-abbrev μ-number-before : Measures 5 number-before-kinds.ps ℕ
-μ-number-before κs a = 4 * a .1 .1 .1 .1 .1 .1 .1 .0 + 1
+abbrev μ-number-before : Measures 4 number-before-kinds.ps ℕ
+μ-number-before κs a = 4 * a .1 .1 .1 .1 .1 .1 .0 + 1
 
-abbrev μ-number-behind : Measures 5 number-behind-kinds.ps ℕ
-μ-number-behind κs a = 4 * a .1 .1 .1 .1 .1 .1 .1 .0 + 3
+abbrev μ-number-behind : Measures 4 number-behind-kinds.ps ℕ
+μ-number-behind κs a = 4 * a .1 .1 .1 .1 .1 .1 .0 + 3
 
-abbrev μ-number-beyond : Measures 5 number-beyond-kinds.ps ℕ
-μ-number-beyond κs a = 4 * a .1 .1 .1 .1 .1 .1 .1 .0 + 1
+abbrev μ-number-beyond : Measures 4 number-beyond-kinds.ps ℕ
+μ-number-beyond κs a = 4 * a .1 .1 .1 .1 .1 .1 .0 + 1
 
-abbrev μ-number-from : Measures 5 number-from-kinds.ps ℕ
-μ-number-from κs a = 4 * a .1 .1 .1 .1 .1 .1 .0
+abbrev μ-number-from : Measures 4 number-from-kinds.ps ℕ
+μ-number-from κs a = 4 * a .1 .1 .1 .1 .1 .0
 
-abbrev μ-pair : Measures 5 pair-kinds.ps ℕ
-μ-pair κs a = 4 * a .1 .1 .1 .1 .1 .1 .0 + 1
+abbrev μ-pair : Measures 4 pair-kinds.ps ℕ
+μ-pair κs a = 4 * a .1 .1 .1 .1 .1 .0 + 1
 
-abbrev choice-at : ℕ → In 5 choice-kinds.ps
-choice-at t = and 5 choice-kinds.ps (is 5 choice-kinds.ps μ-choice t) choice.Pre
+abbrev choice-at : ℕ → In 4 choice-kinds.ps
+choice-at t = and 4 choice-kinds.ps (is 4 choice-kinds.ps μ-choice t) choice.Pre
 
-abbrev choice-below : ℕ → In 5 choice-kinds.ps
-choice-below t = and 5 choice-kinds.ps (falls 5 choice-kinds.ps _<_ μ-choice t) choice.Pre
+abbrev choice-below : ℕ → In 4 choice-kinds.ps
+choice-below t = and 4 choice-kinds.ps (falls 4 choice-kinds.ps _<_ μ-choice t) choice.Pre
 
-abbrev condition-behind-at : ℕ → In 5 condition-behind-kinds.ps
-condition-behind-at t = and 5 condition-behind-kinds.ps (is 5 condition-behind-kinds.ps μ-condition-behind t) condition-behind.Pre
+abbrev condition-behind-at : ℕ → In 4 condition-behind-kinds.ps
+condition-behind-at t = and 4 condition-behind-kinds.ps (is 4 condition-behind-kinds.ps μ-condition-behind t) condition-behind.Pre
 
-abbrev condition-behind-below : ℕ → In 5 condition-behind-kinds.ps
-condition-behind-below t = and 5 condition-behind-kinds.ps (falls 5 condition-behind-kinds.ps _<_ μ-condition-behind t) condition-behind.Pre
+abbrev condition-behind-below : ℕ → In 4 condition-behind-kinds.ps
+condition-behind-below t = and 4 condition-behind-kinds.ps (falls 4 condition-behind-kinds.ps _<_ μ-condition-behind t) condition-behind.Pre
 
-abbrev condition-from-at : ℕ → In 5 condition-from-kinds.ps
-condition-from-at t = and 5 condition-from-kinds.ps (is 5 condition-from-kinds.ps μ-condition-from t) condition-from.Pre
+abbrev condition-from-at : ℕ → In 4 condition-from-kinds.ps
+condition-from-at t = and 4 condition-from-kinds.ps (is 4 condition-from-kinds.ps μ-condition-from t) condition-from.Pre
 
-abbrev condition-from-below : ℕ → In 5 condition-from-kinds.ps
-condition-from-below t = and 5 condition-from-kinds.ps (falls 5 condition-from-kinds.ps _<_ μ-condition-from t) condition-from.Pre
+abbrev condition-from-below : ℕ → In 4 condition-from-kinds.ps
+condition-from-below t = and 4 condition-from-kinds.ps (falls 4 condition-from-kinds.ps _<_ μ-condition-from t) condition-from.Pre
 
-abbrev connective-at : ℕ → In 5 connective-kinds.ps
-connective-at t = and 5 connective-kinds.ps (is 5 connective-kinds.ps μ-connective t) connective.Pre
+abbrev connective-at : ℕ → In 4 connective-kinds.ps
+connective-at t = and 4 connective-kinds.ps (is 4 connective-kinds.ps μ-connective t) connective.Pre
 
-abbrev connective-below : ℕ → In 5 connective-kinds.ps
-connective-below t = and 5 connective-kinds.ps (falls 5 connective-kinds.ps _<_ μ-connective t) connective.Pre
+abbrev connective-below : ℕ → In 4 connective-kinds.ps
+connective-below t = and 4 connective-kinds.ps (falls 4 connective-kinds.ps _<_ μ-connective t) connective.Pre
 
-abbrev number-before-at : ℕ → In 5 number-before-kinds.ps
-number-before-at t = and 5 number-before-kinds.ps (is 5 number-before-kinds.ps μ-number-before t) number-before.Pre
+abbrev number-before-at : ℕ → In 4 number-before-kinds.ps
+number-before-at t = and 4 number-before-kinds.ps (is 4 number-before-kinds.ps μ-number-before t) number-before.Pre
 
-abbrev number-before-below : ℕ → In 5 number-before-kinds.ps
-number-before-below t = and 5 number-before-kinds.ps (falls 5 number-before-kinds.ps _<_ μ-number-before t) number-before.Pre
+abbrev number-before-below : ℕ → In 4 number-before-kinds.ps
+number-before-below t = and 4 number-before-kinds.ps (falls 4 number-before-kinds.ps _<_ μ-number-before t) number-before.Pre
 
-abbrev number-behind-at : ℕ → In 5 number-behind-kinds.ps
-number-behind-at t = and 5 number-behind-kinds.ps (is 5 number-behind-kinds.ps μ-number-behind t) number-behind.Pre
+abbrev number-behind-at : ℕ → In 4 number-behind-kinds.ps
+number-behind-at t = and 4 number-behind-kinds.ps (is 4 number-behind-kinds.ps μ-number-behind t) number-behind.Pre
 
-abbrev number-behind-below : ℕ → In 5 number-behind-kinds.ps
-number-behind-below t = and 5 number-behind-kinds.ps (falls 5 number-behind-kinds.ps _<_ μ-number-behind t) number-behind.Pre
+abbrev number-behind-below : ℕ → In 4 number-behind-kinds.ps
+number-behind-below t = and 4 number-behind-kinds.ps (falls 4 number-behind-kinds.ps _<_ μ-number-behind t) number-behind.Pre
 
-abbrev number-beyond-at : ℕ → In 5 number-beyond-kinds.ps
-number-beyond-at t = and 5 number-beyond-kinds.ps (is 5 number-beyond-kinds.ps μ-number-beyond t) number-beyond.Pre
+abbrev number-beyond-at : ℕ → In 4 number-beyond-kinds.ps
+number-beyond-at t = and 4 number-beyond-kinds.ps (is 4 number-beyond-kinds.ps μ-number-beyond t) number-beyond.Pre
 
-abbrev number-beyond-below : ℕ → In 5 number-beyond-kinds.ps
-number-beyond-below t = and 5 number-beyond-kinds.ps (falls 5 number-beyond-kinds.ps _<_ μ-number-beyond t) number-beyond.Pre
+abbrev number-beyond-below : ℕ → In 4 number-beyond-kinds.ps
+number-beyond-below t = and 4 number-beyond-kinds.ps (falls 4 number-beyond-kinds.ps _<_ μ-number-beyond t) number-beyond.Pre
 
-abbrev number-from-at : ℕ → In 5 number-from-kinds.ps
-number-from-at t = and 5 number-from-kinds.ps (is 5 number-from-kinds.ps μ-number-from t) number-from.Pre
+abbrev number-from-at : ℕ → In 4 number-from-kinds.ps
+number-from-at t = and 4 number-from-kinds.ps (is 4 number-from-kinds.ps μ-number-from t) number-from.Pre
 
-abbrev number-from-below : ℕ → In 5 number-from-kinds.ps
-number-from-below t = and 5 number-from-kinds.ps (falls 5 number-from-kinds.ps _<_ μ-number-from t) number-from.Pre
+abbrev number-from-below : ℕ → In 4 number-from-kinds.ps
+number-from-below t = and 4 number-from-kinds.ps (falls 4 number-from-kinds.ps _<_ μ-number-from t) number-from.Pre
 
-abbrev pair-at : ℕ → In 5 pair-kinds.ps
-pair-at t = and 5 pair-kinds.ps (is 5 pair-kinds.ps μ-pair t) pair.Pre
+abbrev pair-at : ℕ → In 4 pair-kinds.ps
+pair-at t = and 4 pair-kinds.ps (is 4 pair-kinds.ps μ-pair t) pair.Pre
 
-abbrev pair-below : ℕ → In 5 pair-kinds.ps
-pair-below t = and 5 pair-kinds.ps (falls 5 pair-kinds.ps _<_ μ-pair t) pair.Pre
+abbrev pair-below : ℕ → In 4 pair-kinds.ps
+pair-below t = and 4 pair-kinds.ps (falls 4 pair-kinds.ps _<_ μ-pair t) pair.Pre
 
 abbrev choice-calls : ℕ → choice-lts.Claims
 choice-calls t = (condition-from-below t, condition-from.Post, number-before-below t, number-before.Post, number-beyond-below t, number-beyond.Post)
@@ -186,7 +186,7 @@ module _ (t : ℕ) where
   choice-measure s = s .pre .0
 
   abbrev choice-environment : Choice → Environment
-  choice-environment s = environment (s .args .model .now) (s .args .state .now) (s .args .full .now) (s .args .tables .now)
+  choice-environment s = environment (s .args .model .now) (s .args .state .now) (s .args .outline .now)
 
   -- the condition at a position
   abbrev choice-value : Choice → ℕ → ConditionValue
@@ -195,7 +195,7 @@ module _ (t : ℕ) where
   -- the condition is read
   module _ (c : choice-lts.After-b (choice-calls t) (choice-at t) choice.Post) where
     abbrev choice-start : Choice
-    choice-start = c .before .before .before .before .before .before .before .before
+    choice-start = c .before .before .before .before .before .before .before
 
     choice-b : choice-value choice-start (choice-start .args .at) ≡ C.Holds (c .b .given .0 .0) (c .b .given .0 .1 .0)
     choice-b = sym (c .before .before .condition-from .ensures) ∙ c .b .given .1
@@ -237,7 +237,7 @@ module _ (t : ℕ) where
   condition-measure s = s .pre .0
 
   abbrev condition-environment : Condition → Environment
-  condition-environment s = environment (s .args .model .now) (s .args .state .now) (s .args .full .now) (s .args .tables .now)
+  condition-environment s = environment (s .args .model .now) (s .args .state .now) (s .args .outline .now)
 
   -- what is left behind the first byte
   condition-left : (s : Condition) → 1 + length (drop (s .args .at + 1) (s .args .e .now)) < 2 ^ 64
@@ -291,7 +291,7 @@ module _ (t : ℕ) where
   connective-measure s = s .pre .0
 
   abbrev connective-environment : Connective → Environment
-  connective-environment s = environment (s .args .model .now) (s .args .state .now) (s .args .full .now) (s .args .tables .now)
+  connective-environment s = environment (s .args .model .now) (s .args .state .now) (s .args .outline .now)
 
   -- the condition at a position
   abbrev connective-value : Connective → ℕ → ConditionValue
@@ -300,7 +300,7 @@ module _ (t : ℕ) where
   -- the first part is read
   module _ (c : Connective-b) where
     abbrev connective-start : Connective
-    connective-start = c .before .before .before .before .before .before .before .before
+    connective-start = c .before .before .before .before .before .before .before
 
     connective-b : connective-value connective-start (connective-start .args .at) ≡ C.Holds (c .b .given .0 .0) (c .b .given .0 .1 .0)
     connective-b = sym (c .before .before .condition-from .ensures) ∙ c .b .given .1
@@ -372,7 +372,7 @@ module _ (t : ℕ) where
   before-measure s = s .pre .0
 
   abbrev before-environment : Before → Environment
-  before-environment s = environment (s .args .model .now) (s .args .state .now) (s .args .full .now) (s .args .tables .now)
+  before-environment s = environment (s .args .model .now) (s .args .state .now) (s .args .outline .now)
 
   -- the number at a position
   abbrev before-value : Before → ℕ → NumberValue
@@ -384,7 +384,7 @@ module _ (t : ℕ) where
   -- the number is read
   module _ (c : Before-z) where
     abbrev before-start : Before
-    before-start = c .before .before .before .before .before .before .before .before
+    before-start = c .before .before .before .before .before .before .before
 
     before-z : before-value before-start (before-start .args .at + before-start .args .n) ≡ N.Value (c .z .given .0 .0) (c .z .given .0 .1 .0)
     before-z = sym (c .before .before .number-from .ensures) ∙ c .z .given .1
@@ -439,7 +439,7 @@ module _ (t : ℕ) where
   number-behind-arithmetic-requires : number-behind-lts.Need-arithmetic-requires (number-behind-calls t) (number-behind-at t) number-behind.Post
   number-behind-arithmetic-requires c κs =
       let s : number-behind-lts.Start (number-behind-calls t) (number-behind-at t) number-behind.Post = search in
-      let p = environment (s .args .model .now) (s .args .state .now) (s .args .full .now) (s .args .tables .now) in
+      let p = environment (s .args .model .now) (s .args .state .now) (s .args .outline .now) in
       let e = drop (s .args .at) (s .args .e .now) in
       rw (c .pair .ensures) (pair-in-range (length e) (runPair (λ f. runNumber (s .args .depth) p f) e) (pair-run-within (s .args .depth) p e))
 
@@ -458,7 +458,7 @@ module _ (t : ℕ) where
   -- the part in between is passed over
   module _ (c : number-beyond-lts.After-skip (number-beyond-calls t) (number-beyond-at t) number-beyond.Post) where
     abbrev beyond-start : Beyond
-    beyond-start = c .before .before .before .before .before .before .before
+    beyond-start = c .before .before .before .before .before .before
 
     beyond-ends : beyond-start .args .n + c .skip .result ≤ length (beyond-start .args .e .now) - beyond-start .args .at
     beyond-ends =
@@ -483,7 +483,7 @@ module _ (t : ℕ) where
   number-beyond-number-past-requires : number-beyond-lts.Need-number-past-requires (number-beyond-calls t) (number-beyond-at t) number-beyond.Post
   number-beyond-number-past-requires c κs =
       let s : Beyond = search in
-      let p = environment (s .args .model .now) (s .args .state .now) (s .args .full .now) (s .args .tables .now) in
+      let p = environment (s .args .model .now) (s .args .state .now) (s .args .outline .now) in
       let k = s .args .n + c .before .skip .result in
       let f = drop (s .args .at + k) (s .args .e .now) in
       rw (c .number-from .ensures)
@@ -510,7 +510,7 @@ module _ (t : ℕ) where
   number-measure s = s .pre .0
 
   abbrev number-environment : Number → Environment
-  number-environment s = environment (s .args .model .now) (s .args .state .now) (s .args .full .now) (s .args .tables .now)
+  number-environment s = environment (s .args .model .now) (s .args .state .now) (s .args .outline .now)
 
   -- what is left behind the first byte
   number-left : (s : Number) → 1 + length (drop (s .args .at + 1) (s .args .e .now)) < 2 ^ 64
@@ -577,7 +577,7 @@ module _ (t : ℕ) where
   pair-measure s = s .pre .0
 
   abbrev pair-environment : Pair → Environment
-  pair-environment s = environment (s .args .model .now) (s .args .state .now) (s .args .full .now) (s .args .tables .now)
+  pair-environment s = environment (s .args .model .now) (s .args .state .now) (s .args .outline .now)
 
   -- the number at a position
   abbrev pair-value : Pair → ℕ → NumberValue
@@ -586,7 +586,7 @@ module _ (t : ℕ) where
   -- the first number is read
   module _ (c : Pair-x) where
     abbrev pair-start : Pair
-    pair-start = c .before .before .before .before .before .before .before .before
+    pair-start = c .before .before .before .before .before .before .before
 
     pair-x : pair-value pair-start (pair-start .args .at) ≡ N.Value (c .x .given .0 .0) (c .x .given .0 .1 .0)
     pair-x = sym (c .before .before .number-from .ensures) ∙ c .x .given .1

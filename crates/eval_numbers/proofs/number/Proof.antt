@@ -10,8 +10,9 @@ number-from-requires c κs = search needs
 
 returns : tie.Need-returns
 returns c =
-    let a = c .before .before .before .before .before .before .args in
-    number-kept (a .depth) (environment (a .model .now) (a .state .now) (a .full .now) (a .tables .now)) (a .e .now) (c .number-from .ensures)
+    let s : tie.Start = search in
+    let a = s .args in
+    number-kept (a .depth) (environment (a .model .now) (a .state .now) (a .outline .now)) (a .e .now) (c .number-from .ensures)
 
 pub number-spec : {M : Type 1} → statement M
 number-spec = tie.close (tie.spec number-from-requires returns)

@@ -18,24 +18,24 @@ use Rattle.eval_numbers.proofs.condition_from.Reads as condition-from-reads
 use Rattle.eval_tests.proofs.+both+test_from.{statement}
 use Rattle.eval_tests.proofs.+both+test_from.Tie.{close}
 
-abbrev μ-both : Measures 5 both-kinds.ps ℕ
-μ-both κs a = 2 * a .1 .1 .1 .1 .1 .1 .0 + 1
+abbrev μ-both : Measures 4 both-kinds.ps ℕ
+μ-both κs a = 2 * a .1 .1 .1 .1 .1 .0 + 1
 
-abbrev μ-test-from : Measures 5 test-from-kinds.ps ℕ
-μ-test-from κs a = 2 * a .1 .1 .1 .1 .1 .1 .0
+abbrev μ-test-from : Measures 4 test-from-kinds.ps ℕ
+μ-test-from κs a = 2 * a .1 .1 .1 .1 .1 .0
 
-abbrev both-at : ℕ → In 5 both-kinds.ps
-both-at t = and 5 both-kinds.ps (is 5 both-kinds.ps μ-both t) both.Pre
+abbrev both-at : ℕ → In 4 both-kinds.ps
+both-at t = and 4 both-kinds.ps (is 4 both-kinds.ps μ-both t) both.Pre
 
-abbrev both-below : ℕ → In 5 both-kinds.ps
-both-below t = and 5 both-kinds.ps (falls 5 both-kinds.ps _<_ μ-both t) both.Pre
+abbrev both-below : ℕ → In 4 both-kinds.ps
+both-below t = and 4 both-kinds.ps (falls 4 both-kinds.ps _<_ μ-both t) both.Pre
 
-abbrev test-from-at : ℕ → In 5 test-from-kinds.ps
-test-from-at t = and 5 test-from-kinds.ps (is 5 test-from-kinds.ps μ-test-from t) test-from.Pre
+abbrev test-from-at : ℕ → In 4 test-from-kinds.ps
+test-from-at t = and 4 test-from-kinds.ps (is 4 test-from-kinds.ps μ-test-from t) test-from.Pre
 
-abbrev test-from-below : ℕ → In 5 test-from-kinds.ps
+abbrev test-from-below : ℕ → In 4 test-from-kinds.ps
 test-from-below t =
-    and 5 test-from-kinds.ps (falls 5 test-from-kinds.ps _<_ μ-test-from t) test-from.Pre
+    and 4 test-from-kinds.ps (falls 4 test-from-kinds.ps _<_ μ-test-from t) test-from.Pre
 
 abbrev both-calls : ℕ → both-lts.Claims
 both-calls t = (test-from-below t, test-from.Post, past-reads.Asked, past-reads.Learnt)

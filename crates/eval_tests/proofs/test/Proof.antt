@@ -9,13 +9,15 @@ use Rattle.eval_tests.proofs.test.Tie as tie
 
 returns : tie.Need-returns
 returns c =
-    let a = c .before .before .before .before .before .before .before .before .before .args in
-    test-kept (a .depth) (environment (a .model .now) (a .state .now) (a .full .now) (a .tables .now)) (a .e .now) (c .test-from .ensures)
+    let s : tie.Start = search in
+    let a = s .args in
+    test-kept (a .depth) (environment (a .model .now) (a .state .now) (a .outline .now)) (a .e .now) (c .test-from .ensures)
 
 returns-2 : tie.Need-returns-2
 returns-2 c =
-    let a = c .before .before .before .before .before .before .before .before .args in
-    test-kept (a .depth) (environment (a .model .now) (a .state .now) (a .full .now) (a .tables .now)) (a .e .now) (c .stop .ensures ∙ ap stopped (c .before .condition-from .ensures))
+    let s : tie.Start = search in
+    let a = s .args in
+    test-kept (a .depth) (environment (a .model .now) (a .state .now) (a .outline .now)) (a .e .now) (c .stop .ensures ∙ ap stopped (c .before .condition-from .ensures))
 
 pub test-spec : {M : Type 1} → statement M
 test-spec =

@@ -1,5 +1,4 @@
 -- `prepare::read_and_prepare` meets its contract.
-use native.Mathlib.Omega.{arith}
 use borrow.Author.Needs.{needs}
 use Rattle.prepare.proofs.read_and_prepare.Statement.{statement}
 use Rattle.prepare.proofs.read_and_prepare.Tie as tie

@@ -14,7 +14,7 @@ use Rattle.eval_sets.proofs.leaves.entry_number.Tie as tie
 returns : tie.Need-returns
 returns c =
     let start : tie.Start = search in
-    sym (entry-none (start .args .model .now) (start .args .state .now) (start .args .tables .now) (start .args .e .now) (c .if1 .taken))
+    sym (entry-none (start .args .model .now) (start .args .state .now) (start .args .outline .now) (start .args .e .now) (c .if1 .taken))
 
 entry-requires : tie.Need-entry-requires
 entry-requires c κs =
@@ -39,16 +39,16 @@ returns-2 c =
     let start : tie.Start = search in
     let else1 : tie.Else1 = search in
     let after-name : tie.After-name = search in
-    let after-word-at : tie.After-word-at = search in
+    let after-table-in : tie.After-table-in = search in
     let after-after : tie.After-after = search in
     let after-two-elements : tie.After-two-elements = search in
     let f : SFits w64 (c .before .before .entry .result) = record { sfits = omega (arith, c .before .before .entry .ensures .1) } in
-    rw (rw (back f, c .before .before .entry .ensures .0, after-two-elements .two-elements .ensures, after-after .after .ensures, after-word-at .word-at .ensures, after-name .name .ensures) at (c .ranged .ensures))
+    rw (rw (back f, c .before .before .entry .ensures .0, after-two-elements .two-elements .ensures, after-after .after .ensures, after-table-in .table-in .ensures, after-name .name .ensures .0) at (c .ranged .ensures))
     (
     sym (
     entry-some (start .args .model .now)
     (start .args .state .now)
-    (start .args .tables .now)
+    (start .args .outline .now)
     (start .args .e .now)
     (else1 .if1 .left)
     )

@@ -33,7 +33,7 @@ add-t9 c =
     omega (
       arith,
       element-past (a .state .now) (a .at) (a .e .now) (after .result .now) (element .result) (after .ensures) (element .ensures .0),
-      set-past (a .depth) (a .state .now) (a .full .now) (a .at + element .result .used) (a .e .now) (set-near .result) (set-near .ensures),
+      set-past (a .depth) (a .state .now) (a .outline .now) (a .at + element .result .used) (a .e .now) (set-near .result) (set-near .ensures),
       start .good .0 .1,
     )
 

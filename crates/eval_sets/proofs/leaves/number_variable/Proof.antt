@@ -20,7 +20,7 @@ returns-2 c =
     let else1 : tie.Else1 = search in
     let after-name : tie.After-name = search in
     let f : SFits w64 (c .before .signed-word .result) = record { sfits = omega (arith, c .before .signed-word .ensures .1) } in
-    rw (rw (back f, c .before .signed-word .ensures .0, c .before .before .word-at .ensures, after-name .name .ensures) at (c .ranged .ensures))
+    rw (rw (back f, c .before .signed-word .ensures .0, c .before .before .word-at .ensures, after-name .name .ensures .0) at (c .ranged .ensures))
     (
     sym (
     number-variable-some (start .args .state .now)

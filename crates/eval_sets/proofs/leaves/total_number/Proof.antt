@@ -18,7 +18,7 @@ returns : tie.Need-returns
 returns c =
     let start : tie.Start = search in
     let a = start .args in
-    sym (total-none (a .model .now) (a .state .now) (a .tables .now) _ (drop (a .at) (a .e .now)) (none-behind (a .at) (a .e .now) (c .if1 .taken)))
+    sym (total-none (a .model .now) (a .state .now) (a .outline .now) _ (drop (a .at) (a .e .now)) (none-behind (a .at) (a .e .now) (c .if1 .taken)))
 
 add-set-then-element : tie.Need-add-set-then-element
 add-set-then-element c =
@@ -35,7 +35,7 @@ add-ranged : tie.Need-add-ranged
 add-ranged c =
     let start : tie.Start = search in
     let a = start .args in
-    let h = set-element-within (a .state .now) (λ f. runSet (a .depth) (a .state .now) (a .full .now) f) (λ f. set-within (a .depth) (a .state .now) (a .full .now) f) (drop (a .at + 1) (a .e .now)) in
+    let h = set-element-within (a .state .now) (λ f. runSet (a .depth) (a .state .now) (a .outline .now) f) (λ f. set-within (a .depth) (a .state .now) (a .outline .now) f) (drop (a .at + 1) (a .e .now)) in
     omega (
       arith,
       rw (← (c .before .before .set-then-element .ensures)) at h,
@@ -50,14 +50,14 @@ returns-2 c =
     let else1 : tie.Else1 = search in
     let after-after : tie.After-after = search in
     let after-name : tie.After-name = search in
-    let after-word-at : tie.After-word-at = search in
+    let after-table-in : tie.After-table-in = search in
     let after-set-then-element : tie.After-set-then-element = search in
     let a = start .args in
     let f : SFits w64 (c .before .before .total .result) = search needs in
-    rw (rw (back f, c .before .before .total .ensures, after-set-then-element .set-then-element .ensures, behind (a .at) 1 (a .e .now), after-word-at .word-at .ensures, after-name .name .ensures, after-after .after .ensures) at (c .ranged .ensures))
+    rw (rw (back f, c .before .before .total .ensures, after-set-then-element .set-then-element .ensures, behind (a .at) 1 (a .e .now), after-table-in .table-in .ensures, after-name .name .ensures .0, after-after .after .ensures) at (c .ranged .ensures))
     (
     sym (
-    total-some (a .model .now) (a .state .now) (a .tables .now) _ (drop (a .at) (a .e .now))
+    total-some (a .model .now) (a .state .now) (a .outline .now) _ (drop (a .at) (a .e .now))
     (some-behind (a .at) (a .e .now) (else1 .if1 .left))
     )
     )

@@ -150,8 +150,8 @@ module _ (t : ℕ) where
       let s : Set = search in
       let d = s .args .depth - 1 in
       let ws = s .args .state .now in
-      let fs = s .args .full .now in
-      let h = set-behind-within ws (λ f. runSet d ws fs f) (λ f. set-within d ws fs f) fs (c .before .set-form .result) (drop (s .args .at + 1) (s .args .e .now)) in
+      let os = s .args .outline .now in
+      let h = set-behind-within ws (λ f. runSet d ws os f) (λ f. set-within d ws os f) os (c .before .set-form .result) (drop (s .args .at + 1) (s .args .e .now)) in
       omega (arith, rw (← (c .set-behind .ensures)) at h, length-drop (s .args .at + 1) (s .args .e .now), s .good .0 .1)
 
   set-from-returns-3 : set-from-lts.Need-returns-3 (set-from-calls t) (set-from-at t) set-from.Post

@@ -10,7 +10,7 @@ set-from-requires c κs = search needs
 returns : tie.Need-returns
 returns c =
     let a = c .before .before .before .before .args in
-    set-kept (a .depth) (a .state .now) (a .full .now) (a .e .now) (c .set-from .ensures)
+    set-kept (a .depth) (a .state .now) (a .outline .now) (a .e .now) (c .set-from .ensures)
 
 pub set-spec : {M : Type 1} → statement M
 set-spec = tie.close (tie.spec set-from-requires returns)

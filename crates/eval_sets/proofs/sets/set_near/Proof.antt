@@ -21,7 +21,7 @@ add-after c = let s : tie.Start = search in omega (arith, s .good .0 .1)
 set-past-requires : tie.Need-set-past-requires
 set-past-requires c κs =
     let s : tie.Start = search in
-    omega (arith, rw (← (c .set-variable .ensures)) at (set-variable-used (s .args .state .now) (s .args .full .now) (c .before .after .result .now)))
+    omega (arith, rw (← (c .set-variable .ensures)) at (set-variable-used (s .args .state .now) (s .args .outline .now) (c .before .after .result .now)))
 
 returns-3 : tie.Need-returns-3
 unfolding setBehind setForm

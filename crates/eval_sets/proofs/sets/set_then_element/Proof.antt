@@ -13,7 +13,7 @@ add-after c =
     let a = start .args in
     omega (
       arith,
-      set-past (a .depth) (a .state .now) (a .full .now) (a .at) (a .e .now) (c .before .set-from .result) (c .before .set-from .ensures),
+      set-past (a .depth) (a .state .now) (a .outline .now) (a .at) (a .e .now) (c .before .set-from .result) (c .before .set-from .ensures),
       start .good .0 .1,
     )
 
@@ -26,7 +26,7 @@ add-t9 c =
     let set-from = after-set-from .set-from in
     omega (
       arith,
-      set-past (a .depth) (a .state .now) (a .full .now) (a .at) (a .e .now) (set-from .result) (set-from .ensures),
+      set-past (a .depth) (a .state .now) (a .outline .now) (a .at) (a .e .now) (set-from .result) (set-from .ensures),
       rw (← (c .before .before .element .ensures .0)) at (element-used (a .state .now) (after-after .after .result .now)),
       start .good .0 .1,
     )

@@ -12,7 +12,7 @@ no-set-requires c κs = search needs
 returns : tie.Need-returns
 returns c =
     let start = c .before .before .before .before .before in
-    c .no-set .ensures ∙ sym (variable-none (start .args .state .now) (start .args .full .now) (start .args .e .now) (omega arith))
+    c .no-set .ensures ∙ sym (variable-none (start .args .state .now) (start .args .outline .now) (start .args .e .now) (omega arith))
 
 name-requires : tie.Need-name-requires
 name-requires c κs = search needs
@@ -20,16 +20,16 @@ name-requires c κs = search needs
 word-at-requires : tie.Need-word-at-requires
 word-at-requires c κs = search needs
 
-word-at-requires-2 : tie.Need-word-at-requires-2
-word-at-requires-2 c κs = search needs
+objects-in-requires : tie.Need-objects-in-requires
+objects-in-requires c κs = search needs
 
 returns-2 : tie.Need-returns-2
 returns-2 c =
     let start = c .before .before .before .before .before .before .before in
-    rw (c .before .word-at .ensures, c .word-at2 .ensures, c .before .before .name .ensures)
-    (sym (variable-some (start .args .state .now) (start .args .full .now) (start .args .e .now) (c .before .before .before .if1 .left)))
+    rw (c .before .word-at .ensures, c .objects-in .ensures, c .before .before .name .ensures .0)
+    (sym (variable-some (start .args .state .now) (start .args .outline .now) (start .args .e .now) (c .before .before .before .if1 .left)))
 
 pub set-variable-spec : {M : Type 1} → statement M
 set-variable-spec =
     tie.close
-    (tie.spec no-set-requires returns name-requires word-at-requires word-at-requires-2 returns-2)
+    (tie.spec no-set-requires returns name-requires word-at-requires objects-in-requires returns-2)

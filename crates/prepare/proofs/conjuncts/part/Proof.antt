@@ -1,7 +1,6 @@
 -- `prepare::conjuncts::part` meets its contract. The invariant: what is put, what stands in a row and what is left decide as the constraints do.
 use Prim.Native.Nat.{ℕ, _+_, _*_, _-_, _≤_, _<_}
 use mathlib.Core.Path.{_≡_, sym, ap, _∙_}
-use mathlib.Core.Bool.{true}
 use mathlib.Core.List.{List}
 use native.Mathlib.Omega.{arith}
 use borrow.Author.Needs.{needs}

@@ -9,7 +9,7 @@ use Rattle.prepare.proofs.tests.is_missing.Tie as tie
 
 returns-3 : tie.Need-returns-3
 returns-3 c e =
-    let third = c .before .before .before in
+    let third = c .before in
     let first = third .before .before .before .before in
     let long = first .before .before in
     record {
@@ -17,7 +17,6 @@ returns-3 c e =
       empty = first .if3 .taken;
       intersection = third .before .before .if4 .taken;
       members = third .if5 .taken;
-      few = c .before .if6 .taken;
       variable = eqb-true _ _ e;
     }
 
@@ -35,10 +34,7 @@ is-missing-spec =
     (λ c. search needs)
     (λ c. search needs)
     (λ c. search needs)
-    (λ c. search needs)
-    (λ c. search needs)
     returns-3
-    (λ c e. absurd (not-both e refl))
     (λ c e. absurd (not-both e refl))
     (λ c e. absurd (not-both e refl))
     (λ c e. absurd (not-both e refl)))

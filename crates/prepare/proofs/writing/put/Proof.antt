@@ -1,5 +1,4 @@
 -- `prepare::writing::put` meets its contract.
-use native.Mathlib.Omega.{arith}
 use borrow.Author.Needs.{needs}
 use Rattle.prepare.proofs.Kept.{lent-length, put-is}
 use Rattle.prepare.proofs.writing.put.Statement.{statement}

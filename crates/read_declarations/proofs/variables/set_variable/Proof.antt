@@ -1,6 +1,6 @@
 -- `read_declarations::variables::set_variable` meets its contract. 02: nine bytes of operands, and their test.
-use Prim.Native.Nat.{ℕ, _^_, _-_}
-use mathlib.Core.Path.{refl, sym, ap, _∙_}
+use Prim.Native.Nat.{_^_}
+use mathlib.Core.Path.{refl, sym, _∙_}
 use native.Mathlib.Omega.{arith}
 use lib.Dec.{ltb}
 use lib.ListN.{getD, length-drop}
@@ -22,12 +22,6 @@ add-t14 c =
     let start : tie.Start = search in
     let h = and-both (isCount (getD (start .args .e .now) 0 0)) (ltb (c .before .before .long .result) (2 ^ getD (start .args .e .now) 0 0)) (sym (c .before .members-fit .ensures) ∙ c .if2 .taken) in omega (arith, count-bounds (getD (start .args .e .now) 0 0) (h .0))
 
-full-requires : tie.Need-full-requires
-full-requires c κs =
-    let start : tie.Start = search in
-    let after-long : tie.After-long = search in
-    let h = and-both (isCount (getD (start .args .e .now) 0 0)) (ltb (after-long .long .result) (2 ^ getD (start .args .e .now) 0 0)) (sym (c .before .before .members-fit .ensures) ∙ c .before .if2 .taken) in omega (arith, c .wide .ensures .0, count-bounds (getD (start .args .e .now) 0 0) (h .0))
-
 returns : tie.Need-returns
 returns c =
     let start : tie.Start = search in
@@ -35,12 +29,11 @@ returns c =
     let after-long : tie.After-long = search in
     let after-members-fit : tie.After-members-fit = search in
     let e = start .args .e .now in
-    let t = sym (after-members-fit .members-fit .ensures) ∙ c .before .before .if2 .taken in
+    let t = sym (after-members-fit .members-fit .ensures) ∙ c .if2 .taken in
     let h = and-both (isCount (getD e 0 0)) (ltb (after-long .long .result) (2 ^ getD e 0 0)) t in
     let long = after-long .long in
     set-declares _ (getD e 0 0) (long .result) _
-    (set-good e (then1 .if1 .taken) (rw (suffix 1 e) at (long .ensures)) t) (h .0) refl refl refl
-    refl (c .full .ensures ∙ ap (λ (n : ℕ). 2 ^ n - 1) (c .before .wide .ensures .0))
+    (set-good e (then1 .if1 .taken) (rw (suffix 1 e) at (long .ensures)) t) (h .0) refl refl refl refl
 
 returns-2 : tie.Need-returns-2
 returns-2 c =
@@ -64,8 +57,6 @@ set-variable-spec =
     long-requires
     (λ c κs. search needs)
     add-t14
-    (λ c κs. search needs)
-    full-requires
     returns
     returns-2
     returns-3)

@@ -1,4 +1,4 @@
--- `read_declarations::variables::store` meets its contract. Four words, each inside.
+-- `read_declarations::variables::store` meets its contract. Three words, each inside.
 use native.Mathlib.Omega.{arith}
 use lib.ListN.{length-set}
 use borrow.Author.Needs.{needs}
@@ -10,9 +10,6 @@ slice-write-words-2 c = simp length-set (omega (arith, c .before .before .before
 
 slice-write-words-3 : tie.Need-slice-write-words-3
 slice-write-words-3 c = simp length-set (omega (arith, c .before .before .before .pre))
-
-slice-write-words-4 : tie.Need-slice-write-words-4
-slice-write-words-4 c = simp length-set (omega (arith, c .before .before .before .pre))
 
 returns : tie.Need-returns
 returns c = rw (c .before .wide .ensures .0, c .wide2 .ensures .0)
@@ -32,8 +29,5 @@ store-spec =
     (λ c. search needs)
     (λ c. search needs)
     slice-write-words-3
-    (λ c. search needs)
-    (λ c. search needs)
-    slice-write-words-4
     (λ c. search needs)
     returns)

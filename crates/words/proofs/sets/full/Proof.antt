@@ -1,22 +1,21 @@
--- `words::sets::full` meets its contract.
-use mathlib.Core.Path.{_≡_}
-use native.Mathlib.Omega.{arith}
-use lib.Pow.{pow-pos}
+-- `words::sets::full` meets its contract, by the table's rule.
+use mathlib.Core.Path.{sym, _∙_}
 use borrow.Author.Needs.{needs}
+use Rattle.words.proofs.FullSets.{full-sets, full-of, full-beyond}
 use Rattle.words.proofs.sets.full.Statement.{statement}
 use Rattle.words.proofs.sets.full.Tie as tie
 
-single-requires : tie.Need-single-requires
-single-requires c κs = search needs
-
-sub-result : tie.Need-sub-result
-sub-result c = omega (arith, c .single .ensures, pow-pos (c .before .before .args .n))
-
 returns : tie.Need-returns
-returns c = search needs
+returns c = sym (full-beyond (c .before .args .n) (c .if1 .taken))
 
 returns-2 : tie.Need-returns-2
-returns-2 c = let e : c .before .args .n ≡ 64 = omega (arith, c .before .pre, c .if1 .left) in rw e
+returns-2 c = full-sets (c .before .args .n) (c .if1 .left) ∙ sym (full-of (c .before .args .n) (c .if1 .left))
 
 pub full-spec : {M : Type 1} → statement M
-full-spec = tie.close (tie.spec single-requires sub-result returns returns-2)
+full-spec =
+    tie.close
+    (tie.spec
+    returns
+    (λ c. search needs)
+    (λ c. search needs)
+    returns-2)
