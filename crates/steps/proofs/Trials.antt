@@ -31,7 +31,8 @@ use Rattle.steps.specs.declared.answers.StatusAnswer.the-variants as S
 use Rattle.steps.specs.declared.answers.BoundAnswer.the-variants as B
 use Rattle.steps.specs.InBytes.{Outlined, stateIn, systemIn}
 use Rattle.steps.specs.Answers.{heldAnswer, statusAnswer, boundAnswer}
-use Rattle.steps.specs.Says.{ConditionSays, NumberSays, HeldSays, ConjunctSays}
+use Rattle.quick.specs.Quick.{QuickSays}
+use Rattle.steps.specs.Says.{ConditionSays, NumberSays, HeldSays, ConjunctSays, TestedSays}
 use Rattle.prepare.proofs.Items.{Nth, nth-of, Item, item-at}
 use Rattle.steps.proofs.Holding.{condition-holds, condition-troubles}
 
@@ -167,6 +168,31 @@ module _ (bytes state : List ℕ) (k : ℕ) (passed : Seeking bytes state k) whe
     unfolding systemOf status statusOf statusAnswer base-cases
     seeking-troubles e = rw (with-trouble (base-cases bytes state) (modelOf bytes .baseCases) k passed (i .rest) (one-troubles case (at + i .used) (case-said ∙ e)))
 
+-- ---- a condition, in place or by the evaluators
+
+module _ (bytes : List ℕ) (at : ℕ) (state : List ℕ) where
+  module _ {words : List ℕ} (o : Outlined bytes words) {r : ℕ} (says : QuickSays bytes at words state r) where
+    pub quick-holds : r ≡ 1 → TestedSays bytes at state (H.All 0)
+    unfolding heldAnswer
+    quick-holds e x n reads = rw (says x n (o .outlines) reads .holds e)
+
+    pub quick-fails : r ≡ 0 → TestedSays bytes at state H.Fails
+    unfolding heldAnswer
+    quick-fails e x n reads = rw (says x n (o .outlines) reads .fails e)
+
+  module _ (r : ConditionValue) (says : ConditionSays bytes at state r) where
+    pub tested-holds : {b : Bool} {n : ℕ} → r ≡ C.Holds b n → b ≡ true → TestedSays bytes at state (H.All 0)
+    unfolding heldAnswer
+    tested-holds f y x n reads = rw (condition-holds _ n (sym (says x n reads) ∙ f) .0, y)
+
+    pub tested-fails : {b : Bool} {n : ℕ} → r ≡ C.Holds b n → b ≡ false → TestedSays bytes at state H.Fails
+    unfolding heldAnswer
+    tested-fails f y x n reads = rw (condition-holds _ n (sym (says x n reads) ∙ f) .0, y)
+
+    pub tested-troubles : {t : ℕ} → r ≡ C.Trouble t → TestedSays bytes at state (H.Trouble t)
+    unfolding heldAnswer
+    tested-troubles f x n reads = rw (condition-troubles _ n (sym (says x n reads) ∙ f))
+
 -- ---- a conjunct of the constraints
 
 module _ (bytes words : List ℕ) (k : ℕ) (state : List ℕ) where
@@ -177,25 +203,12 @@ module _ (bytes words : List ℕ) (k : ℕ) (state : List ℕ) where
   unfolding heldAnswer
   conjunct-passed-over e x c = rw (c .decides state, ← e)
 
-  module _ (e : true ≡ guardPasses) {at : ℕ} (stands : at ≡ getD words (conjunctsFrom + 4 * k + 3) 0) (r : ConditionValue) (says : ConditionSays bytes at state r) where
-    -- the condition behind the guard has the conjunct's value
-    behind : (x : Condition) (c : ConjunctAt bytes words (modelOf bytes) k x) → stopped (conditionAnswer (conditionValue rangeEnd (modelOf bytes .tables) x (stateIn bytes state)) (c .used)) ≡ r
-    unfolding guardIn
-    behind x c =
-        let same : conditionValue rangeEnd (modelOf bytes .tables) x (stateIn bytes state) ≡ conditionValue rangeEnd (modelOf bytes .tables) (c .part) (stateIn bytes state) = c .decides state ∙ rw (← e) in
-        rw same (sym (says (c .part) (c .used) (rw stands (c .reads))))
-
-    pub conjunct-holds : {b : Bool} {n : ℕ} → r ≡ C.Holds b n → b ≡ true → ConjunctSays bytes words k state (H.All 0)
-    unfolding heldAnswer
-    conjunct-holds f y x c = rw (condition-holds _ (c .used) (behind x c ∙ f) .0, y)
-
-    pub conjunct-fails : {b : Bool} {n : ℕ} → r ≡ C.Holds b n → b ≡ false → ConjunctSays bytes words k state H.Fails
-    unfolding heldAnswer
-    conjunct-fails f y x c = rw (condition-holds _ (c .used) (behind x c ∙ f) .0, y)
-
-    pub conjunct-troubles : {t : ℕ} → r ≡ C.Trouble t → ConjunctSays bytes words k state (H.Trouble t)
-    unfolding heldAnswer
-    conjunct-troubles f x c = rw (condition-troubles _ (c .used) (behind x c ∙ f))
+  -- the condition behind the guard has the conjunct's value
+  pub conjunct-tried : true ≡ guardPasses → {at : ℕ} → at ≡ getD words (conjunctsFrom + 4 * k + 3) 0 → (r : HeldAnswer) → TestedSays bytes at state r → ConjunctSays bytes words k state r
+  unfolding guardIn
+  conjunct-tried e stands r says x c =
+      let same : conditionValue rangeEnd (modelOf bytes .tables) x (stateIn bytes state) ≡ conditionValue rangeEnd (modelOf bytes .tables) (c .part) (stateIn bytes state) = c .decides state ∙ rw (← e) in
+      rw same (says (c .part) (c .used) (rw stands (c .reads)))
 
 module _ {bytes words : List ℕ} (o : Outlined bytes words) {k : ℕ} (h : k < getD words conjunctCountAt 0) where
   -- what is read behind the guard stands in the bytes

@@ -135,6 +135,10 @@ module _ (bytes : List ℕ) where
     AttemptSays child r = (x : Transition) (n : ℕ) → transition variablesIn tablesIn (drop at bytes) ≡ read x n → AttemptSay child r (attempt rangeEnd (modelOf bytes) x (stateIn bytes state))
 
   -- conjunct k of the constraints, tried in a state
+  -- the condition at a place, without its bytes
+  abbrev pub TestedSays : (at : ℕ) (state : List ℕ) → HeldAnswer → Type 0
+  TestedSays at state r = (x : Condition) (n : ℕ) → reading.condition variablesIn tablesIn mostNesting (drop at bytes) ≡ read x n → r ≡ heldAnswer (conditionValue rangeEnd tablesIn x (stateIn bytes state)) 0
+
   abbrev pub ConjunctSays : (words : List ℕ) (k : ℕ) (state : List ℕ) → HeldAnswer → Type 0
   ConjunctSays words k state r = (x : Condition) → ConjunctAt bytes words (modelOf bytes) k x → r ≡ heldAnswer (conditionValue rangeEnd tablesIn x (stateIn bytes state)) 0
 

@@ -1,12 +1,12 @@
 // Conditions tried in order, the constraints of a state, and its status.
 
 ghost use mathlib.Core.Path.{_≡_};
-ghost use Prim.Native.Nat.{_<_};
-ghost use lib.ListN.{getD};
+ghost use Prim.Native.Nat.{_<_, _≤_};
+ghost use lib.ListN.{length, getD};
 ghost use Rattle.prepare.specs.Layout.{conjunctCountAt};
 ghost use Rattle.steps.specs.InBytes.{Outlined, stateIn, systemIn};
 ghost use Rattle.steps.specs.Answers.{heldAnswer, statusAnswer};
-ghost use Rattle.steps.specs.Says.{HeldSays, ConjunctSays};
+ghost use Rattle.steps.specs.Says.{HeldSays, TestedSays, ConjunctSays};
 use crate::answers::HeldAnswer;
 use crate::answers::StatusAnswer;
 use crate::parts::condition_at;
@@ -18,6 +18,7 @@ use outline::word_at;
 use prepare::guards::passes;
 use prepare::layout::CONJUNCT_COUNT;
 use prepare::layout::CONJUNCTS;
+use quick::condition;
 
 // Tries the conditions 08 from a place on.
 pub fn conditions_hold(model: &[u8], at: usize, outline: &[u64], state: &[u64]) -> HeldAnswer
@@ -40,6 +41,30 @@ pub fn conditions_hold(model: &[u8], at: usize, outline: &[u64], state: &[u64]) 
     HeldAnswer::All(next)
 }
 
+// Tries the condition at a place: in place where that decides it, else by the evaluators.
+fn condition_holds(model: &[u8], at: usize, outline: &[u64], state: &[u64]) -> HeldAnswer
+    requires { ⌜ Outlined (now model) (now outline) × (at ≤ length (now model)) ⌝ }
+    ensures { λ r. ⌜ TestedSays (now (model .entry)) at (now (state .entry)) r ⌝ }
+{
+    let code = condition(model, at, outline, state);
+    if code == 1 {
+        return HeldAnswer::All(0);
+    }
+    if code == 0 {
+        return HeldAnswer::Fails;
+    }
+    match condition_at(model, at, outline, state) {
+        ConditionValue::Holds(holds, _) => {
+            if holds {
+                HeldAnswer::All(0)
+            } else {
+                HeldAnswer::Fails
+            }
+        }
+        ConditionValue::Trouble(t) => HeldAnswer::Trouble(t),
+    }
+}
+
 // Tries conjunct k of the state constraints: where its guard does not pass, it holds.
 fn conjunct_holds(model: &[u8], outline: &[u64], k: usize, state: &[u64]) -> HeldAnswer
     requires { ⌜ Outlined (now model) (now outline) × (k < getD (now outline) conjunctCountAt 0) ⌝ }
@@ -47,16 +72,7 @@ fn conjunct_holds(model: &[u8], outline: &[u64], k: usize, state: &[u64]) -> Hel
 {
     if passes(outline, CONJUNCTS + 4 * k, state) {
         let at = word_at(outline, CONJUNCTS + 4 * k + 3) as usize;
-        return match condition_at(model, at, outline, state) {
-            ConditionValue::Holds(holds, _) => {
-                if holds {
-                    HeldAnswer::All(0)
-                } else {
-                    HeldAnswer::Fails
-                }
-            }
-            ConditionValue::Trouble(t) => HeldAnswer::Trouble(t),
-        };
+        return condition_holds(model, at, outline, state);
     }
     HeldAnswer::All(0)
 }

@@ -1,0 +1,2 @@
+-- What is decided in place, and what is promised of it.
+pub mod Quick
