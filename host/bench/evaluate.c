@@ -4,11 +4,15 @@
 #include <stdio.h>
 #include <time.h>
 
-/* The proved evaluators: a number's value, or INT64_MIN for trouble; 1 where a condition holds, 0 where not, 2 for trouble. */
-int64_t repgypsum_number_value(const uint8_t *e, uintptr_t e_len, const uint8_t *model, uintptr_t model_len, const uint64_t *state, uintptr_t state_len,
-                               const uint64_t *outline, uintptr_t outline_len);
-uint8_t repgypsum_condition_value(const uint8_t *e, uintptr_t e_len, const uint8_t *model, uintptr_t model_len, const uint64_t *state, uintptr_t state_len,
-                                  const uint64_t *outline, uintptr_t outline_len);
+/* The words of a state, and of a model's outline with what is prepared behind it. */
+enum { STATE_WORDS = 16, PREPARED_WORDS = 2601 };
+
+/* The proved evaluators: a number's value, or INT64_MIN for trouble; 1 where a condition holds, 0 where not, 2 for trouble.
+   State and outline are lent whole, STATE_WORDS and PREPARED_WORDS words. */
+int64_t repgypsum_number_value(const uint8_t *e, uintptr_t e_len, const uint8_t *model, uintptr_t model_len, const uint64_t state[STATE_WORDS],
+                               const uint64_t outline[PREPARED_WORDS]);
+uint8_t repgypsum_condition_value(const uint8_t *e, uintptr_t e_len, const uint8_t *model, uintptr_t model_len, const uint64_t state[STATE_WORDS],
+                                  const uint64_t outline[PREPARED_WORDS]);
 
 /* Where the outline has the kinds of variables; a set's is 64 and its object count. */
 enum { KINDS = 16 };
@@ -116,8 +120,8 @@ static double now(void) {
 enum { ROUNDS = 20, CALLS = 500000 };
 
 int main(void) {
-    uint64_t state[16], outline[424] = {0};
-    for (int v = 0; v < 16; v++) state[v] = 2147483648ULL + (uint64_t)(v * 37);
+    uint64_t state[STATE_WORDS], outline[PREPARED_WORDS] = {0};
+    for (int v = 0; v < STATE_WORDS; v++) state[v] = 2147483648ULL + (uint64_t)(v * 37);
     state[8] = 0x5a5aULL;
     outline[KINDS + 8] = 64 + 16;
     /* the sum of variables 0 to 7, balanced: 15 nodes */
@@ -132,7 +136,7 @@ int main(void) {
         double a = now();
         for (int i = 0; i < CALLS; i++) {
             state[0] = 2147483648ULL + (uint64_t)(i & 255);
-            check += repgypsum_number_value(sum, sizeof sum, sum, sizeof sum, state, 16, outline, 424);
+            check += repgypsum_number_value(sum, sizeof sum, sum, sizeof sum, state, outline);
         }
         double b = now();
         for (int i = 0; i < CALLS; i++) {
@@ -144,7 +148,7 @@ int main(void) {
         double d = now();
         for (int i = 0; i < CALLS; i++) {
             state[8] = (uint64_t)(i & 65535);
-            check += repgypsum_condition_value(member, sizeof member, member, sizeof member, state, 16, outline, 424);
+            check += repgypsum_condition_value(member, sizeof member, member, sizeof member, state, outline);
         }
         double f = now();
         for (int i = 0; i < CALLS; i++) {
@@ -156,7 +160,7 @@ int main(void) {
         double g = now();
         for (int i = 0; i < CALLS; i++) {
             state[8] = (uint64_t)(i & 65535);
-            check += repgypsum_condition_value(outside, sizeof outside, outside, sizeof outside, state, 16, outline, 424);
+            check += repgypsum_condition_value(outside, sizeof outside, outside, sizeof outside, state, outline);
         }
         double h = now();
         for (int i = 0; i < CALLS; i++) {

@@ -5,11 +5,11 @@
 #include <stdlib.h>
 #include <time.h>
 
-/* Offers children to an empty layer of this width; answers how many are kept, 0 where something is refused. */
+/* Offers children to an empty layer of this width, which takes 29 × width words; answers how many are kept, 0 where something is refused. */
 uint64_t repgypsum_insertions(const uint8_t *model, uintptr_t model_len, uint64_t *words, uintptr_t words_len, uint32_t width, uint32_t children,
                               uint32_t seed);
 
-enum { LONGEST_MODEL = 65536, WIDEST = 4096, CHILDREN = 2000000, RUNS = 5 };
+enum { LONGEST_MODEL = 65536, WIDEST = 4096, LAYER_WORDS = 29, CHILDREN = 2000000, RUNS = 5 };
 
 static double seconds(void) {
     struct timespec t;
@@ -19,7 +19,7 @@ static double seconds(void) {
 
 int main(int argc, char **argv) {
     static uint8_t model[LONGEST_MODEL];
-    static uint64_t words[26 * WIDEST];
+    static uint64_t words[LAYER_WORDS * WIDEST];
     FILE *file = argc == 2 ? fopen(argv[1], "rb") : NULL;
     if (!file) {
         fprintf(stderr, "usage: insert MODEL\n");
@@ -36,7 +36,7 @@ int main(int argc, char **argv) {
             uint32_t layer = 8 * widths[i];
             double start = seconds();
             for (uint32_t offered = 0; offered < CHILDREN; offered += layer) {
-                kept = repgypsum_insertions(model, n, words, 26 * WIDEST, widths[i], layer, offered);
+                kept = repgypsum_insertions(model, n, words, LAYER_WORDS * WIDEST, widths[i], layer, offered);
             }
             double taken = seconds() - start;
             if (taken < least) least = taken;

@@ -9,7 +9,7 @@ use lib.Dec.{ltb}
 use lib.ListN.{length, take, drop, getD, drop-of-length-le}
 use lib.Seq.{take-all, getD-take}
 use Rattle.laws.specs.Lists.{any}
-use Rattle.beam_order.specs.Slots.{fAt, hAt, wordsIn, before, placed}
+use Rattle.beam_order.specs.Slots.{wordsIn, earlier, placed}
 use Rattle.beam_order.specs.Order.{keptIn, without, earlierAt, Cutoff}
 use Rattle.beam_order.proofs.Arrays.{fails-below}
 use Rattle.beam_order.proofs.Counts.{count-at, without-last}
@@ -42,12 +42,12 @@ full {outline} {w} {m} {words} {l} b h =
     subst (λ (k : ℕ). Keeping outline w k words l) z b
 
 -- the child goes before the last one
-some-later : (w : ℕ) (slots order c : List ℕ) → 0 < w → length (take w order) ≡ w → earlierAt slots order (getD c fAt 0) (getD c hAt 0) (w - 1) ≡ true → any (before c) (keptIn slots order w) ≡ true
+some-later : (w : ℕ) (slots order c : List ℕ) → 0 < w → length (take w order) ≡ w → earlierAt slots order c (w - 1) ≡ true → any (earlier c) (keptIn slots order w) ≡ true
 unfolding keptIn earlierAt
 some-later w slots order c pos l e =
     let z : getD (take w order) (w - 1) 0 ≡ getD order (w - 1) 0 = getD-take w order (w - 1) 0 (omega arith) in
-    let t : before c (wordsIn slots (getD (take w order) (w - 1) 0)) ≡ true = rw z e in
-    any-map (wordsIn slots) (before c) (take w order) ∙ some-kept (λ s. before c (wordsIn slots s)) (take w order) (getD (take w order) (w - 1) 0) (count-at (take w order) (w - 1) (omega arith)) t
+    let t : earlier c (wordsIn slots (getD (take w order) (w - 1) 0)) ≡ true = rw z e in
+    any-map (wordsIn slots) (earlier c) (take w order) ∙ some-kept (λ s. earlier c (wordsIn slots s)) (take w order) (getD (take w order) (w - 1) 0) (count-at (take w order) (w - 1) (omega arith)) t
 
 -- the child goes behind all
 behind-all : (w : ℕ) (slots order c : List ℕ) → length (take w order) ≤ w
@@ -79,14 +79,14 @@ module _ (bytes : List ℕ) (w n : ℕ) (words c : List ℕ) (free : any (λ m. 
 
   module _ {outline : List ℕ} (words₁ : List ℕ) (b : Keeping outline w w words₁ rest) where
     abbrev test : ℕ → Bool
-    test = earlierAt (slotsOf w words₁) (orderOf w words₁) (getD c fAt 0) (getD c hAt 0)
+    test = earlierAt (slotsOf w words₁) (orderOf w words₁) c
 
     pub last-cut : (words′ : List ℕ) → test (w - 1) ≡ true → Keeping outline w w words′ (placed c (dropLast (keptOf w words₁ w))) → InsertedInto bytes outline w n w true words words′ c
     last-cut words′ e p =
         ended true words′ (p .held) (lt-ltb w _ (omega (arith, with-child b)))
         (p .kept ∙ sym (cut-kept (keptOf w words₁ w) (kept-length (b .held .parts)) (some-later w (slotsOf w words₁) (orderOf w words₁) c (width-positive (b .held)) (first-length (b .held .parts)) e)) ∙ ap (λ (l : List (List ℕ)). dropLast (placed c l)) (b .kept))
       where
-        cut-kept : (l : List (List ℕ)) → length l ≡ w → any (before c) l ≡ true → dropLast (placed c l) ≡ placed c (dropLast l)
+        cut-kept : (l : List (List ℕ)) → length l ≡ w → any (earlier c) l ≡ true → dropLast (placed c l) ≡ placed c (dropLast l)
         cut-kept [] h a = absurd (omega (arith, width-positive (b .held)))
         cut-kept (x ∷ l) h a = cut-before c x l a
 
@@ -99,7 +99,7 @@ module _ (bytes : List ℕ) (w n : ℕ) (words c : List ℕ) (free : any (λ m. 
         none-passes =
             record {
               within = omega arith;
-              fails = λ i h. fails-below test w (w - 1) i (rising (b .held .parts) (getD c fAt 0) (getD c hAt 0)) (omega arith) e (omega arith);
+              fails = λ i h. fails-below test w (w - 1) i (rising (b .held .parts) c) (omega arith) e (omega arith);
               passes = λ i x y. absurd (omega arith);
             }
 

@@ -15,7 +15,7 @@ use Rattle.search.specs.Search.{Node, Route, less, belowBest, leastF}
 use Rattle.steps.specs.InBytes.{systemIn}
 use Rattle.steps.specs.Follow.{costsIn}
 use Rattle.steps.proofs.Promises.{cost-order}
-use Rattle.beam_order.specs.Slots.{slotWords, fAt, wordsIn, before, Sorted, more}
+use Rattle.beam_order.specs.Slots.{slotWords, fAt, wordsIn, earlier, Sorted, more}
 use Rattle.beam_order.specs.Order.{keptIn}
 use Rattle.beam_order.proofs.Arrays.{word-in}
 use Rattle.beam_order.proofs.Ranks.{f-order, sorted-take}
@@ -37,7 +37,7 @@ filter-first {A} p at (x ∷ k) (suc r) h yes-first no-rest =
 
 -- ---- f rises along a layer
 
-f-first : (m : List ℕ) (at : ℕ → List ℕ) (k : List ℕ) (j : ℕ) → All (λ n. before n m ≡ false) (map at k) → j < length k → getD m fAt 0 ≤ getD (at (getD k j 0)) fAt 0
+f-first : (m : List ℕ) (at : ℕ → List ℕ) (k : List ℕ) (j : ℕ) → All (λ n. earlier n m ≡ false) (map at k) → j < length k → getD m fAt 0 ≤ getD (at (getD k j 0)) fAt 0
 f-first m at [] j a h = absurd (omega arith)
 f-first m at (x ∷ k) zero a h = f-order m (at x) (a .0)
 f-first m at (x ∷ k) (suc j) a h = f-first m at k j (a .1) (omega arith)
@@ -113,7 +113,7 @@ filter-no-best bytes (x ∷ l) = ap (λ (m : List (Node State ℕ)). x ∷ m) (f
 
 -- ---- the least f
 
-least-of : (bytes : List ℕ) (path : ℕ → List ℕ) (m : List ℕ) (l : List (List ℕ)) → All (λ n. before n m ≡ false) l → leastF (costsIn bytes) (systemIn bytes) (getD m fAt 0) (map (nodeOf bytes path) l) ≡ getD m fAt 0
+least-of : (bytes : List ℕ) (path : ℕ → List ℕ) (m : List ℕ) (l : List (List ℕ)) → All (λ n. earlier n m ≡ false) l → leastF (costsIn bytes) (systemIn bytes) (getD m fAt 0) (map (nodeOf bytes path) l) ≡ getD m fAt 0
 unfolding leastF nodeOf
 least-of bytes path m [] a = refl
 least-of bytes path m (x ∷ l) a =

@@ -7,10 +7,10 @@ use mathlib.Core.List.{List, [], _∷_, _++_, map}
 use native.Mathlib.Omega.{arith}
 use lib.ListN.{length, take, drop, getD, length-map}
 use lib.Seq.{length-take-le, getD-take, split-at}
-use Rattle.beam_order.specs.Slots.{slotWords, fAt, hAt, wordsIn, earlier, placed, none}
+use Rattle.beam_order.specs.Slots.{headerWords, slotWords, wordsIn, earlier, placed, none}
 use Rattle.beam_order.specs.Order.{count, Distinct, used, keptIn, inserted, removed, without, upFrom, earlierAt, Cutoff, Rising, Inside}
 use Rattle.beam_order.proofs.Counts.{count-append, count-cons, count-here, count-other, count-part, count-at, map-same, count-inserted, count-removed, without-map, without-count, take-removed, take-inserted, count-more, used-same, used-no, used-yes, up-distinct, slot-below}
-use Rattle.beam_order.proofs.Ranks.{sorted-rising, sorted-without, sorted-placed, placed-at}
+use Rattle.beam_order.proofs.Ranks.{earlier-front, sorted-rising, sorted-without, sorted-placed, placed-at}
 use Rattle.beam_index.specs.Links.{SameBut, Added, Cleared}
 use Rattle.beam_index.specs.Links as L
 use Rattle.beam_index.proofs.Linked.{cleared-falling, cleared-index}
@@ -28,6 +28,20 @@ kept-by slots order n l e = e
 pub record KeepingParts (outline : List ℕ) (w size n : ℕ) (slots order links : List ℕ) (kept-words : List (List ℕ)) : Type 0 where
   pub held : IndexedParts outline w size n slots order links
   pub kept : keptIn slots order n ≡ kept-words
+
+-- ---- a child's header goes where all its words go
+
+pub child-earlier : (slots order header state : List ℕ) → length header ≡ headerWords → (i : ℕ) → earlierAt slots order (header ++ state) i ≡ earlierAt slots order header i
+unfolding earlierAt
+child-earlier slots order header state l i = earlier-front header state (wordsIn slots (getD order i 0)) l
+
+pub child-cutoff : (slots order header state : List ℕ) {n r : ℕ} → length header ≡ headerWords → Cutoff (earlierAt slots order header) n r → Cutoff (earlierAt slots order (header ++ state)) n r
+child-cutoff slots order header state l t =
+    record {
+      within = t .within;
+      fails = λ i h. child-earlier slots order header state l i ∙ t .fails i h;
+      passes = λ i a b. child-earlier slots order header state l i ∙ t .passes i a b;
+    }
 
 module _ {outline : List ℕ} {w size n : ℕ} {slots order links : List ℕ} (hd : IndexedParts outline w size n slots order links) where
   pub order-room : n ≤ length order
@@ -60,25 +74,25 @@ module _ {outline : List ℕ} {w size n : ℕ} {slots order links : List ℕ} (h
 
   -- ---- the order's test
 
-  pub rising : (f h : ℕ) → Rising (earlierAt slots order f h) n
+  pub rising : (c : List ℕ) → Rising (earlierAt slots order c) n
   unfolding earlierAt keptIn
-  rising f h i j l m e =
+  rising c i j l m e =
       let a : getD (take n order) i 0 ≡ getD order i 0 = getD-take n order i 0 (omega arith) in
       let b : getD (take n order) j 0 ≡ getD order j 0 = getD-take n order j 0 m in
-      rw b at (sorted-rising f h (wordsIn slots) (take n order) (hd .sorted) i j l (omega (arith, first-length)) (rw a e))
+      rw b at (sorted-rising c (wordsIn slots) (take n order) (hd .sorted) i j l (omega (arith, first-length)) (rw a e))
 
-  pub cutoff : (f h r : ℕ) → Cutoff (earlierAt slots order f h) n r → Cutoff (λ i. earlier f h (wordsIn slots (getD (take n order) i 0))) (length (take n order)) r
+  pub cutoff : (c : List ℕ) (r : ℕ) → Cutoff (earlierAt slots order c) n r → Cutoff (λ i. earlier c (wordsIn slots (getD (take n order) i 0))) (length (take n order)) r
   unfolding earlierAt
-  cutoff f h r t =
+  cutoff c r t =
       record {
         within = omega (arith, t .within, first-length);
         fails = λ i l. let a : getD (take n order) i 0 ≡ getD order i 0 = getD-take n order i 0 (omega (arith, t .within)) in rw a (t .fails i l);
         passes = λ i l m. let z : i < n = omega (arith, first-length) in let a : getD (take n order) i 0 ≡ getD order i 0 = getD-take n order i 0 z in rw a (t .passes i l z);
       }
 
-  pub placed-by : (c : List ℕ) (p : ℕ) → Cutoff (earlierAt slots order (getD c fAt 0) (getD c hAt 0)) n p
+  pub placed-by : (c : List ℕ) (p : ℕ) → Cutoff (earlierAt slots order c) n p
       → placed c (keptIn slots order n) ≡ map (wordsIn slots) (take p (take n order)) ++ (c ∷ map (wordsIn slots) (drop p (take n order)))
-  placed-by c p t = unfold keptIn in placed-at c (wordsIn slots) (take n order) p (cutoff (getD c fAt 0) (getD c hAt 0) p t)
+  placed-by c p t = unfold keptIn in placed-at c (wordsIn slots) (take n order) p (cutoff c p t)
 
   -- ---- taking a node out
 
@@ -133,7 +147,7 @@ module _ {outline : List ℕ} {w size n : ℕ} {slots order links : List ℕ} (h
 
   pub held-placed : {p b : ℕ} {slots′ order′ links′ : List ℕ} (c : List ℕ) → n < w → length c ≡ slotWords → bucketOf outline (stateWords c) size ≡ b
       → length slots′ ≡ length slots → length order′ ≡ length order → length links′ ≡ length links
-      → Cutoff (earlierAt slots order (getD c fAt 0) (getD c hAt 0)) n p → order′ ≡ inserted order n p (getD order n 0) → slots′ ≡ written slots (getD order n 0) c → Added links links′ w b (getD order n 0)
+      → Cutoff (earlierAt slots order c) n p → order′ ≡ inserted order n p (getD order n 0) → slots′ ≡ written slots (getD order n 0) c → Added links links′ w b (getD order n 0)
       → KeepingParts outline w size (n + 1) slots′ order′ links′ (placed c (keptIn slots order n))
   held-placed {p} {b} {slots′} {order′} {links′} c hn full key ls lo ll cut eo es ad =
       record {

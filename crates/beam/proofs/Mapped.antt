@@ -1,23 +1,26 @@
 -- Lists of words as lists of nodes: the definition's tests, placing, filtering and cutting on nodes are those on their words.
-use Prim.Native.Nat.{ℕ, zero, suc, _≤_, _<_}
+use Prim.Native.Nat.{ℕ, zero, suc, _+_, _*_, _≤_, _<_}
 use mathlib.Core.Path.{_≡_, refl, sym, ap, _∙_}
 use mathlib.Core.Bool.{Bool, true, false, cond, not, _&&_, _||_}
 use mathlib.Core.List.{List, [], _∷_, _++_, map, dropLast}
 use native.Mathlib.Omega.{arith}
 use borrow.Author.Tests.{ltb-true, ltb-false, le-leb, lt-leb}
 use lib.Dec.{ltb, leb}
-use lib.ListN.{length, getD, take, length-map}
+use lib.ListN.{length, getD, take, drop, length-map}
 use Rattle.laws.specs.Lists.{any, filter}
 use Rattle.laws.proofs.Bools.{or-neither}
+use Rattle.model.specs.Numbers.{mostVariables}
 use Rattle.model.specs.Meaning.{State}
 use Rattle.steps.specs.InBytes.{systemIn, stateIn}
 use Rattle.steps.specs.Follow.{costsIn}
 use Rattle.steps.proofs.Promises.{cost-order}
 use Rattle.search.specs.Search.{Node, Round, less, before as before·node, place, beats as beats·node, cut, insert}
-use Rattle.beam_order.specs.Slots.{gAt, hAt, fAt, earlier, before, placed}
+use Rattle.beam_order.specs.Slots.{gAt, hAt, fAt, stateAt, slotWords, wordsIn, earlier, placed}
 use Rattle.beam_order.specs.Order.{without}
-use Rattle.beam.specs.Nodes.{stateWords, nodeOf, beats}
+use Rattle.beam_order.proofs.Arrays.{word-in}
+use Rattle.beam.specs.Nodes.{nodeOf, ChildWords, dominatesAt, beats}
 use Rattle.beam.specs.Layers.{roundWith}
+use Rattle.beam.proofs.Written.{state-in, child-word, child-state}
 
 -- ---- any list
 
@@ -111,7 +114,7 @@ module _ (bytes : List ℕ) (parentPath : ℕ → List ℕ) where
       by-tests false true e = rw (lt-leb f f′ (ltb-true f′ f e))
       by-tests false false e = rw (le-leb f f′ (ltb-false f′ f e))
 
-  pub same-before : (a b : List ℕ) → before·node (costsIn bytes) (systemIn bytes) (node a) (node b) ≡ before a b
+  pub same-before : (a b : List ℕ) → before·node (costsIn bytes) (systemIn bytes) (node a) (node b) ≡ earlier a b
   unfolding before·node less nodeOf earlier
   same-before a b =
       rw (cost-order bytes (getD b fAt 0) (getD a fAt 0), cost-order bytes (getD a fAt 0) (getD b fAt 0), cost-order bytes (getD b hAt 0) (getD a hAt 0))
@@ -120,7 +123,7 @@ module _ (bytes : List ℕ) (parentPath : ℕ → List ℕ) where
   pub same-place : (c : List ℕ) (l : List (List ℕ)) → place (costsIn bytes) (systemIn bytes) (node c) (map node l) ≡ map node (placed c l)
   unfolding place placed
   same-place c [] = refl
-  same-place c (m ∷ l) = rw (same-before c m, same-place c l) (by-test (before c m))
+  same-place c (m ∷ l) = rw (same-before c m, same-place c l) (by-test (earlier c m))
     where
       by-test : (t : Bool) → cond t (node c ∷ node m ∷ map node l) (node m ∷ map node (placed c l)) ≡ map node (cond t (c ∷ m ∷ l) (m ∷ placed c l))
       by-test true = refl
@@ -165,18 +168,32 @@ module _ (bytes : List ℕ) (parentPath : ℕ → List ℕ) where
 
 -- ---- the code's test
 
-pub beats-by : (bytes a b : List ℕ) (r : Bool) → getD a gAt 0 ≤ getD b gAt 0 → r ≡ systemIn bytes .dominates (stateIn bytes (stateWords a)) (stateIn bytes (stateWords b)) → r ≡ beats bytes a b
-unfolding beats
-beats-by bytes a b r h e = e ∙ rw (le-leb (getD a gAt 0) (getD b gAt 0) h) (sym (both _))
+pub dominates-by : (bytes : List ℕ) (g : ℕ) (a : List ℕ) (other : ℕ) (b : List ℕ) (r : Bool) → g ≤ other → r ≡ systemIn bytes .dominates (stateIn bytes a) (stateIn bytes b) → r ≡ dominatesAt bytes g a other b
+dominates-by bytes g a other b r h e = e ∙ rw (le-leb g other h) (sym (both _))
   where
     both : (t : Bool) → (t && true) ≡ t
     both true = refl
     both false = refl
 
-pub beats-not : (bytes a b : List ℕ) → getD b gAt 0 < getD a gAt 0 → false ≡ beats bytes a b
-unfolding beats
-beats-not bytes a b h = rw (lt-leb (getD a gAt 0) (getD b gAt 0) h) (sym (neither (systemIn bytes .dominates (stateIn bytes (stateWords a)) (stateIn bytes (stateWords b)))))
+pub dominates-not : (bytes : List ℕ) (g : ℕ) (a : List ℕ) (other : ℕ) (b : List ℕ) → other < g → false ≡ dominatesAt bytes g a other b
+dominates-not bytes g a other b h = rw (lt-leb g other h) (sym (neither (systemIn bytes .dominates (stateIn bytes a) (stateIn bytes b))))
   where
     neither : (t : Bool) → (t && false) ≡ false
     neither true = refl
     neither false = refl
+
+-- the child, in two parts, and the node in a slot
+module _ (bytes slots : List ℕ) (s : ℕ) (header state : List ℕ) (both : ChildWords header state) where
+  abbrev at : ℕ
+  at = s * slotWords
+
+  abbrev slotState : List ℕ
+  slotState = take mostVariables (drop (at + stateAt) slots)
+
+  pub child-beats : dominatesAt bytes (getD header gAt 0) state (getD slots (at + gAt) 0) slotState ≡ beats bytes (header ++ state) (wordsIn slots s)
+  unfolding beats
+  child-beats = rw (child-word header state both gAt (omega arith), child-state header state both, word-in slots s gAt (omega arith), state-in slots s)
+
+  pub beats-child : dominatesAt bytes (getD slots (at + gAt) 0) slotState (getD header gAt 0) state ≡ beats bytes (wordsIn slots s) (header ++ state)
+  unfolding beats
+  beats-child = rw (child-word header state both gAt (omega arith), child-state header state both, word-in slots s gAt (omega arith), state-in slots s)

@@ -12,7 +12,7 @@ use Rattle.search.specs.Search.{raisedLow}
 use Rattle.steps.specs.InBytes.{systemIn}
 use Rattle.steps.specs.Follow.{costsIn}
 use Rattle.steps.proofs.Promises.{cost-order}
-use Rattle.beam_order.specs.Slots.{slotWords, fAt, wordsIn, Sorted}
+use Rattle.beam_order.specs.Slots.{slotWords, fAt, wordsIn, Sorted, layerWords, orderAt}
 use Rattle.beam_order.specs.Order.{keptIn}
 use Rattle.beam_order.proofs.Arrays.{word-in}
 use Rattle.beam.specs.Nodes.{nodeOf, nodeIn, nodesIn}
@@ -25,14 +25,14 @@ unfolding nodesIn keptIn
 nodes-none w words bytes path = refl
 
 -- a slot's words are those of the list
-pub words-in : (w : ℕ) (words : List ℕ) → 26 * w ≤ length words → (s : ℕ) → s < w → wordsIn (slotsOf w words) s ≡ wordsIn words s
+pub words-in : (w : ℕ) (words : List ℕ) → layerWords * w ≤ length words → (s : ℕ) → s < w → wordsIn (slotsOf w words) s ≡ wordsIn words s
 unfolding wordsIn
 words-in w words long s h =
-    let l : length (take (20 * w) words) ≡ 20 * w = slots-length w words long in
+    let l : length (take (orderAt * w) words) ≡ orderAt * w = slots-length w words long in
     sym
-    (ap (λ (r : List ℕ). take slotWords (drop (s * slotWords) r)) (sym (take-append-drop (20 * w) words))
-    ∙ ap (take slotWords) (drop-append-le (s * slotWords) (take (20 * w) words) (drop (20 * w) words) (omega arith))
-    ∙ take-append-le slotWords (drop (s * slotWords) (take (20 * w) words)) (drop (20 * w) words) (omega (arith, length-drop (s * slotWords) (take (20 * w) words))))
+    (ap (λ (r : List ℕ). take slotWords (drop (s * slotWords) r)) (sym (take-append-drop (orderAt * w) words))
+    ∙ ap (take slotWords) (drop-append-le (s * slotWords) (take (orderAt * w) words) (drop (orderAt * w) words) (omega arith))
+    ∙ take-append-le slotWords (drop (s * slotWords) (take (orderAt * w) words)) (drop (orderAt * w) words) (omega (arith, length-drop (s * slotWords) (take (orderAt * w) words))))
 
 module _ (bytes : List ℕ) (path : ℕ → List ℕ) {w n : ℕ} {words : List ℕ} (la : Layer w n words) where
   abbrev slots : List ℕ
@@ -49,25 +49,25 @@ module _ (bytes : List ℕ) (path : ℕ → List ℕ) {w n : ℕ} {words : List 
   nodes-length = length-map (map (wordsIn slots) (take n order)) (nodeOf bytes path) ∙ length-map (take n order) (wordsIn slots) ∙ first-length
 
   -- the node at a place
-  node-at : (i : ℕ) → i < n → getD (nodesOf w words bytes path n) i (nodeIn bytes path slots 0) ≡ nodeIn bytes path words (getD words (20 * w + i) 0)
+  node-at : (i : ℕ) → i < n → getD (nodesOf w words bytes path n) i (nodeIn bytes path slots 0) ≡ nodeIn bytes path words (getD words (orderAt * w + i) 0)
   unfolding nodesIn keptIn
   node-at i h =
       List·getD-map (nodeOf bytes path) (map (wordsIn slots) (take n order)) i (wordsIn slots 0)
       ∙ ap (nodeOf bytes path)
       (List·getD-map (wordsIn slots) (take n order) i 0 ∙ ap (wordsIn slots) (getD-take n order i 0 h ∙ order-at w words i (omega (arith, few-in la)))
-      ∙ words-in w words (la .long) (getD words (20 * w + i) 0) (place-below la i h))
+      ∙ words-in w words (la .long) (getD words (orderAt * w + i) 0) (place-below la i h))
 
   -- from place i on: the node in the slot there, and the rest
-  pub nodes-from : (i : ℕ) → i < n → drop i (nodesOf w words bytes path n) ≡ nodeIn bytes path words (getD words (20 * w + i) 0) ∷ drop (i + 1) (nodesOf w words bytes path n)
+  pub nodes-from : (i : ℕ) → i < n → drop i (nodesOf w words bytes path n) ≡ nodeIn bytes path words (getD words (orderAt * w + i) 0) ∷ drop (i + 1) (nodesOf w words bytes path n)
   nodes-from i h =
       drop-cons (nodesOf w words bytes path n) i (nodeIn bytes path slots 0) (omega (arith, nodes-length))
       ∙ rw (node-at i h, add-one i)
 
   -- rule 6: low rises to the f of the first, if that is greater
-  pub raised-low : (low : ℕ) → 0 < n → raisedLow (costsIn bytes) (systemIn bytes) false (nodesOf w words bytes path n) low ≡ (let f = getD words (getD words (20 * w) 0 * slotWords + fAt) 0 in cond (leb f low) low f)
+  pub raised-low : (low : ℕ) → 0 < n → raisedLow (costsIn bytes) (systemIn bytes) false (nodesOf w words bytes path n) low ≡ (let f = getD words (getD words (orderAt * w) 0 * slotWords + fAt) 0 in cond (leb f low) low f)
   unfolding nodesIn keptIn
   raised-low low pos =
-      let z : 20 * w + 0 ≡ 20 * w = omega arith in
+      let z : orderAt * w + 0 ≡ orderAt * w = omega arith in
       by-list (take n order) (omega (arith, first-length)) (la .parts .sorted)
       ∙ ap (λ (f : ℕ). cond (leb f low) low f) (ap (λ (s : ℕ). getD (wordsIn slots s) fAt 0) (getD-take n order 0 0 pos) ∙ word-in slots (getD order 0 0) fAt (omega arith) ∙ f-in la 0 pos ∙ ap (λ (i : ℕ). getD words (getD words i 0 * slotWords + fAt) 0) z)
     where

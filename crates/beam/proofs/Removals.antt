@@ -2,21 +2,20 @@
 use Prim.Native.Nat.{ℕ, zero, suc, _+_, _*_, _-_, _<_}
 use mathlib.Core.Path.{_≡_, refl, sym, ap, _∙_}
 use mathlib.Core.Bool.{Bool, true, false, cond, not, _||_}
-use mathlib.Core.List.{List, [], _∷_}
+use mathlib.Core.List.{List, [], _∷_, _++_}
 use native.Mathlib.Omega.{arith}
 use native.Mathlib.Decide.{decLt}
 use borrow.Author.Tests.{eqb-true, eq-eqb}
 use lib.Dec.{eqb}
-use lib.ListN.{length, take, getD}
+use lib.ListN.{length, take, drop, getD, take-append-drop}
 use lib.Seq.{getD-take}
 use Rattle.laws.specs.Lists.{any, filter}
 use Rattle.laws.proofs.Bools.{and-both, not-both}
 use Rattle.steps.specs.InBytes.{Outlined}
-use Rattle.beam_order.specs.Slots.{slotWords, fAt, hAt, wordsIn}
+use Rattle.beam_order.specs.Slots.{headerWords, wordsIn, earlier}
 use Rattle.beam_order.specs.Order.{count, used, keptIn, without, earlierAt, Cutoff, FoundBelow}
 use Rattle.beam_order.proofs.Counts.{count-find, used-yes, used-no, used-count, kept-below}
-use Rattle.beam_order.proofs.Arrays.{word-in}
-use Rattle.beam_order.proofs.Ranks.{not-before-itself}
+use Rattle.beam_order.proofs.Ranks.{earlier-front, not-before-itself}
 use Rattle.beam_index.specs.Links.{Found}
 use Rattle.beam_index.proofs.Linked.{member-of, is-member}
 use Rattle.beam.specs.Nodes.{stateWords, beats}
@@ -81,23 +80,26 @@ module _ {bytes outline : List ℕ} (o : Outlined bytes outline) (size : ℕ) wh
 -- ---- removing by slot
 
 -- a node does not go before itself
-test-at : (slots order : List ℕ) (s i : ℕ) → getD order i 0 ≡ s → earlierAt slots order (getD slots (s * slotWords + fAt) 0) (getD slots (s * slotWords + hAt) 0) i ≡ false
+test-at : (slots order : List ℕ) (s i : ℕ) (header : List ℕ) → header ≡ take headerWords (wordsIn slots s) → length header ≡ headerWords → getD order i 0 ≡ s → earlierAt slots order header i ≡ false
 unfolding earlierAt
-test-at slots order s i e =
-    let f : getD (wordsIn slots s) fAt 0 ≡ getD slots (s * slotWords + fAt) 0 = word-in slots s fAt (omega arith) in
-    let h : getD (wordsIn slots s) hAt 0 ≡ getD slots (s * slotWords + hAt) 0 = word-in slots s hAt (omega arith) in
-    rw (e, ← f, ← h) (not-before-itself (wordsIn slots s))
+test-at slots order s i header z l e =
+    let rest : List ℕ = drop headerWords (wordsIn slots s) in
+    let whole : header ++ rest ≡ wordsIn slots s = ap (λ (h : List ℕ). h ++ rest) z ∙ take-append-drop headerWords (wordsIn slots s) in
+    ap (λ (k : ℕ). earlier header (wordsIn slots k)) e
+    ∙ sym (earlier-front header rest (wordsIn slots s) l)
+    ∙ ap (λ (n : List ℕ). earlier n (wordsIn slots s)) whole
+    ∙ not-before-itself (wordsIn slots s)
 
 -- a used slot is found before the place where a node like its own would go
-pub slot-found : {outline : List ℕ} {w size n : ℕ} {slots order links : List ℕ} → IndexedParts outline w size n slots order links → (s end p : ℕ) → used order n s ≡ true
-    → Cutoff (earlierAt slots order (getD slots (s * slotWords + fAt) 0) (getD slots (s * slotWords + hAt) 0)) n end → FoundBelow order end s p → (p < n) × (getD order p 0 ≡ s)
-slot-found {n = n} {slots = slots} {order = order} hd s end p u cut f = count-find (take n order) s (used-count order n s u) there
+pub slot-found : {outline : List ℕ} {w size n : ℕ} {slots order links : List ℕ} → IndexedParts outline w size n slots order links → (s end p : ℕ) (header : List ℕ) → header ≡ take headerWords (wordsIn slots s) → length header ≡ headerWords → used order n s ≡ true
+    → Cutoff (earlierAt slots order header) n end → FoundBelow order end s p → (p < n) × (getD order p 0 ≡ s)
+slot-found {n = n} {slots = slots} {order = order} hd s end p header z₀ l₀ u cut f = count-find (take n order) s (used-count order n s u) there
   where
     there : (i : ℕ) → i < length (take n order) → getD (take n order) i 0 ≡ s → (p < n) × (getD order p 0 ≡ s)
     there i h z =
         let hn : i < n = omega (arith, first-length hd) in
         let at-i : getD order i 0 ≡ s = sym (getD-take n order i 0 hn) ∙ z in
-        let low : i < end = elim (decLt i end) [ yes y ↦ y | no m ↦ absurd (not-both (cut .passes i (omega arith) hn) (test-at slots order s i at-i)) ] in
+        let low : i < end = elim (decLt i end) [ yes y ↦ y | no m ↦ absurd (not-both (cut .passes i (omega arith) hn) (test-at slots order s i header z₀ l₀ at-i)) ] in
         let r = f .found i low at-i in
         (omega (arith, r .0, cut .within), r .1)
 

@@ -6,6 +6,7 @@ use native.Mathlib.Omega.{arith}
 use lib.ListN.{length, take, drop, getD, length-drop, length-append, take-append-drop}
 use lib.Seq.{length-take-le, take-at, drop-at, drop-drop, take-append-le, drop-append-le, getD-take, getD-drop}
 use Rattle.beam.specs.Layers.{part, slotsOf, orderOf, linksOf}
+use Rattle.beam_order.specs.Slots.{layerWords, linksAt, orderAt}
 
 -- ---- any part
 
@@ -72,48 +73,48 @@ module _ (a e : ℕ) (xs ys : List ℕ) (le : a ≤ e) (room : e ≤ length xs) 
 
 -- the list holds these three
 pub record Holds (w : ℕ) (words slots order links : List ℕ) : Type 0 where
-  pub long : 26 * w ≤ length words
+  pub long : layerWords * w ≤ length words
   pub slots-in : slotsOf w words ≡ slots
   pub order-in : orderOf w words ≡ order
   pub links-in : linksOf w words ≡ links
 
-pub holds : (w : ℕ) (words : List ℕ) → 26 * w ≤ length words → Holds w words (slotsOf w words) (orderOf w words) (linksOf w words)
+pub holds : (w : ℕ) (words : List ℕ) → layerWords * w ≤ length words → Holds w words (slotsOf w words) (orderOf w words) (linksOf w words)
 holds w words h = record { long = h; slots-in = refl; order-in = refl; links-in = refl }
 
 module _ {w : ℕ} {words slots order links : List ℕ} (h : Holds w words slots order links) where
-  pub order-lent : (ys : List ℕ) → length ys ≡ length (orderOf w words) → Holds w (put (20 * w) (21 * w) words ys) slots ys links
+  pub order-lent : (ys : List ℕ) → length ys ≡ length (orderOf w words) → Holds w (put (orderAt * w) (linksAt * w) words ys) slots ys links
   order-lent ys l =
-      let le : 20 * w ≤ 21 * w = omega arith in
-      let room : 21 * w ≤ length words = omega (arith, h .long) in
+      let le : orderAt * w ≤ linksAt * w = omega arith in
+      let room : linksAt * w ≤ length words = omega (arith, h .long) in
       record {
-        long = omega (arith, put-length (20 * w) (21 * w) words ys le room l, h .long);
-        slots-in = put-first (20 * w) (21 * w) words ys le room l (20 * w) (omega arith) ∙ h .slots-in;
-        order-in = put-in (20 * w) (21 * w) words ys le room l;
-        links-in = put-behind (20 * w) (21 * w) words ys le room l (21 * w) (26 * w) (omega arith) ∙ h .links-in;
+        long = omega (arith, put-length (orderAt * w) (linksAt * w) words ys le room l, h .long);
+        slots-in = put-first (orderAt * w) (linksAt * w) words ys le room l (orderAt * w) (omega arith) ∙ h .slots-in;
+        order-in = put-in (orderAt * w) (linksAt * w) words ys le room l;
+        links-in = put-behind (orderAt * w) (linksAt * w) words ys le room l (linksAt * w) (layerWords * w) (omega arith) ∙ h .links-in;
       }
 
-  pub links-lent : (ys : List ℕ) → length ys ≡ length (linksOf w words) → Holds w (put (21 * w) (26 * w) words ys) slots order ys
+  pub links-lent : (ys : List ℕ) → length ys ≡ length (linksOf w words) → Holds w (put (linksAt * w) (layerWords * w) words ys) slots order ys
   links-lent ys l =
-      let le : 21 * w ≤ 26 * w = omega arith in
-      let room : 26 * w ≤ length words = h .long in
+      let le : linksAt * w ≤ layerWords * w = omega arith in
+      let room : layerWords * w ≤ length words = h .long in
       record {
-        long = omega (arith, put-length (21 * w) (26 * w) words ys le room l, h .long);
-        slots-in = put-first (21 * w) (26 * w) words ys le room l (20 * w) (omega arith) ∙ h .slots-in;
-        order-in = put-before (21 * w) (26 * w) words ys le room l (20 * w) (21 * w) (omega arith) (omega arith) ∙ h .order-in;
-        links-in = put-in (21 * w) (26 * w) words ys le room l;
+        long = omega (arith, put-length (linksAt * w) (layerWords * w) words ys le room l, h .long);
+        slots-in = put-first (linksAt * w) (layerWords * w) words ys le room l (orderAt * w) (omega arith) ∙ h .slots-in;
+        order-in = put-before (linksAt * w) (layerWords * w) words ys le room l (orderAt * w) (linksAt * w) (omega arith) (omega arith) ∙ h .order-in;
+        links-in = put-in (linksAt * w) (layerWords * w) words ys le room l;
       }
 
-  pub slots-lent : (ys : List ℕ) → length ys ≡ length (slotsOf w words) → Holds w (ys ++ drop (20 * w) words) ys order links
+  pub slots-lent : (ys : List ℕ) → length ys ≡ length (slotsOf w words) → Holds w (ys ++ drop (orderAt * w) words) ys order links
   slots-lent ys l =
-      let long : length (take (20 * w) words) ≡ 20 * w = length-take-le (20 * w) words (omega (arith, h .long)) in
-      let full : length ys ≡ 20 * w = l ∙ long in
-      let rest : drop (20 * w) (ys ++ drop (20 * w) words) ≡ drop (20 * w) words = drop-at ys (drop (20 * w) words) (20 * w) full in
-      let z : 21 * w ≡ 20 * w + w = omega arith in
+      let long : length (take (orderAt * w) words) ≡ orderAt * w = length-take-le (orderAt * w) words (omega (arith, h .long)) in
+      let full : length ys ≡ orderAt * w = l ∙ long in
+      let rest : drop (orderAt * w) (ys ++ drop (orderAt * w) words) ≡ drop (orderAt * w) words = drop-at ys (drop (orderAt * w) words) (orderAt * w) full in
+      let z : linksAt * w ≡ orderAt * w + w = omega arith in
       record {
-        long = omega (arith, length-append ys (drop (20 * w) words), length-drop (20 * w) words, h .long);
-        slots-in = take-at ys (drop (20 * w) words) (20 * w) full;
-        order-in = ap (take (21 * w - 20 * w)) rest ∙ h .order-in;
+        long = omega (arith, length-append ys (drop (orderAt * w) words), length-drop (orderAt * w) words, h .long);
+        slots-in = take-at ys (drop (orderAt * w) words) (orderAt * w) full;
+        order-in = ap (take (linksAt * w - orderAt * w)) rest ∙ h .order-in;
         links-in =
-            ap (take (26 * w - 21 * w))
-            (ap (λ (k : ℕ). drop k (ys ++ drop (20 * w) words)) z ∙ sym (drop-drop w (20 * w) (ys ++ drop (20 * w) words)) ∙ ap (drop w) rest ∙ drop-drop w (20 * w) words ∙ ap (λ (k : ℕ). drop k words) (sym z)) ∙ h .links-in;
+            ap (take (layerWords * w - linksAt * w))
+            (ap (λ (k : ℕ). drop k (ys ++ drop (orderAt * w) words)) z ∙ sym (drop-drop w (orderAt * w) (ys ++ drop (orderAt * w) words)) ∙ ap (drop w) rest ∙ drop-drop w (orderAt * w) words ∙ ap (λ (k : ℕ). drop k words) (sym z)) ∙ h .links-in;
       }

@@ -1,19 +1,20 @@
 -- The nodes of the search's definition that the words of slots stand for.
 use Prim.Native.Nat.{ℕ, _/_, _%_}
+use mathlib.Core.Path.{_≡_}
 use mathlib.Core.Bool.{Bool, _&&_}
-use mathlib.Core.List.{List, _∷_, map}
+use mathlib.Core.List.{List, [], _∷_, map}
 use lib.Dec.{leb}
-use lib.ListN.{take, getD}
+use lib.ListN.{length, drop, getD}
 use Rattle.model.specs.Numbers.{mostVariables}
 use Rattle.model.specs.Meaning.{State}
 use Rattle.steps.specs.InBytes.{systemIn, stateIn}
 use Rattle.search.specs.Search.{Node}
-use Rattle.beam_order.specs.Slots.{gAt, hAt, fAt, backAt, wordsIn}
+use Rattle.beam_order.specs.Slots.{gAt, hAt, fAt, backAt, headerWords, stateAt, wordsIn}
 use Rattle.beam_order.specs.Order.{keptIn}
 
 -- the words of a node's state
 abbrev pub stateWords : List ℕ → List ℕ
-stateWords = take mostVariables
+stateWords = drop stateAt
 
 -- bytes: the model in whose states the words are read. parentPath: the path to each slot of the layer before
 module _ (bytes : List ℕ) (parentPath : ℕ → List ℕ) where
@@ -27,9 +28,22 @@ module _ (bytes : List ℕ) (parentPath : ℕ → List ℕ) where
   unfoldable pub nodesIn : (slots order : List ℕ) (n : ℕ) → List (Node State ℕ)
   nodesIn slots order n = map nodeOf (keptIn slots order n)
 
+-- a header with these g, h, f and back
+abbrev pub headerOf : (g h f back : ℕ) → List ℕ
+headerOf g h f back = g ∷ 0 ∷ 0 ∷ h ∷ f ∷ 0 ∷ back ∷ []
+
+-- a child in two parts, the words of its header and of its state
+pub record ChildWords (header state : List ℕ) : Type 0 where
+  pub header-long : length header ≡ headerWords
+  pub state-long : length state ≡ mostVariables
+
+-- a state at this g dominates another at its g, which is no less
+abbrev pub dominatesAt : (bytes : List ℕ) (g : ℕ) (state : List ℕ) (other : ℕ) (otherState : List ℕ) → Bool
+dominatesAt bytes g s other t = systemIn bytes .dominates (stateIn bytes s) (stateIn bytes t) && leb g other
+
 -- the node of words a dominates that of b, with g no greater
 unfoldable pub beats : (bytes a b : List ℕ) → Bool
-beats bytes a b = systemIn bytes .dominates (stateIn bytes (stateWords a)) (stateIn bytes (stateWords b)) && leb (getD a gAt 0) (getD b gAt 0)
+beats bytes a b = dominatesAt bytes (getD a gAt 0) (stateWords a) (getD b gAt 0) (stateWords b)
 
 -- the node in slot i of a layer, by its words; path: the path to each slot of this layer
 unfoldable pub nodeAt : (bytes : List ℕ) (path : ℕ → List ℕ) (i : ℕ) (words : List ℕ) → Node State ℕ

@@ -1,32 +1,29 @@
 // A layer, in one slice: nodes are taken in, taken out, offered by rule 5, and dropped by rule 6.
 
 ghost use mathlib.Core.Path.{_≡_};
-ghost use mathlib.Core.Bool.{true};
-ghost use mathlib.Core.List.{dropLast};
+ghost use mathlib.Core.List.{_++_, dropLast};
 ghost use Prim.Native.Nat.{_+_, _-_, _*_, _^_, _≤_, _<_};
-ghost use lib.ListN.{length, getD};
+ghost use lib.ListN.{length};
 ghost use Rattle.steps.specs.InBytes.{Outlined};
-ghost use Rattle.beam_order.specs.Slots.{slotWords, placed};
-ghost use Rattle.beam_order.specs.Order.{used, without, earlierAt, Rising, Cutoff};
-ghost use Rattle.beam_index.specs.Links.{Falling, Found};
-ghost use Rattle.beam.specs.Nodes.{stateWords};
-ghost use Rattle.beam.specs.Buckets.{bucketOf};
-ghost use Rattle.beam.specs.Parts.{bucketIn, sought};
-ghost use Rattle.beam.specs.Layers.{slotsOf, orderOf, linksOf, keptOf, Indexed, Keeping, SlotRemoved, unbeaten, InsertedInto, Layer, Below, Emptied};
+ghost use Rattle.beam_order.specs.Slots.{headerWords, layerWords, placed};
+ghost use Rattle.beam_order.specs.Order.{without, earlierAt, Rising, Cutoff};
+ghost use Rattle.beam_index.specs.Links.{Found};
+ghost use Rattle.beam.specs.Nodes.{ChildWords};
+ghost use Rattle.beam.specs.Parts.{sought as slotSought};
+ghost use Rattle.beam.specs.Layers.{slotsOf, orderOf, linksOf, keptOf, Indexed, Keeping, Offering, Walkable, PlaceIn, SlotIn, SlotRemoved, unbeaten, InsertedInto, Layer, Below, Emptied};
 use crate::buckets::bucket;
 use crate::buckets::slot_bucket;
-use crate::slots::find;
+use crate::slots::sought;
 use crate::slots::write_slot;
-use beam_order::F_AT;
-use beam_order::H_AT;
-use beam_order::SLOT_WORDS;
-
-// Where the order and the links begin behind the slots, and where a layer ends, for each place of the width.
-pub const ORDER_AT: usize = 20;
-
-const LINKS_AT: usize = 21;
-
-pub const LAYER_END: usize = 26;
+use beam_order::slots::F_AT;
+use beam_order::slots::HEADER_WORDS;
+use beam_order::slots::LAYER_WORDS;
+use beam_order::slots::LINKS_AT;
+use beam_order::slots::ORDER_AT;
+use beam_order::slots::SLOT_WORDS;
+use laws::copy_words;
+use outline::layout::PREPARED_WORDS;
+use outline::layout::STATE_WORDS;
 
 // How many nodes a layer has after an insertion, and whether one was cut.
 pub struct Inserted {
@@ -36,106 +33,124 @@ pub struct Inserted {
 
 // Makes a layer empty.
 pub fn empty(layer: &mut [u64], w: usize)
-    requires { ⌜ (0 < w) × ((w ≤ 2 ^ 30) × (26 * w ≤ length (now layer))) ⌝ }
+    requires { ⌜ (0 < w) × ((w ≤ 2 ^ 30) × (layerWords * w ≤ length (now layer))) ⌝ }
     ensures { λ _. ⌜ Emptied w (now (layer .exit)) ⌝ }
 {
     let a = ORDER_AT * w;
     let b = LINKS_AT * w;
-    let e = LAYER_END * w;
+    let e = LAYER_WORDS * w;
     beam_order::fill(&mut layer[a..b]);
     beam_index::clear(&mut layer[b..e]);
 }
 
 // Takes the node at place p, which is in bucket k, out.
-fn remove_position(layer: &mut [u64], outline: &[u64], w: usize, n: usize, k: usize, p: usize)
-    requires { ⌜ Indexed (now outline) w n (now layer) × ((p < n) × ((k < 4 * w) × (bucketIn (now outline) (slotsOf w (now layer)) (4 * w) (getD (orderOf w (now layer)) p 0) ≡ k))) ⌝ }
+fn remove_position(
+    layer: &mut [u64],
+    outline: &[u64; PREPARED_WORDS],
+    w: usize,
+    n: usize,
+    k: usize,
+    p: usize,
+)
+    requires { ⌜ PlaceIn (now outline) w n k p (now layer) ⌝ }
     ensures { λ _. ⌜ Keeping (now (outline .entry)) w (n - 1) (now (layer .exit)) (without p (keptOf w (now (layer .entry)) n)) ⌝ }
 {
     let a = ORDER_AT * w;
     let b = LINKS_AT * w;
-    let e = LAYER_END * w;
+    let e = LAYER_WORDS * w;
     let s = layer[a + p] as usize;
     beam_index::remove(&mut layer[b..e], w, k, s);
     beam_order::remove_at(&mut layer[a..b], n, p);
 }
 
-// The place of a node with this f and h among the first n.
-fn position_in(layer: &[u64], w: usize, n: usize, f: u64, h: u64) -> usize
-    requires { ⌜ Layer w n (now layer) ⌝ }
-    ensures { λ r. ⌜ (r ≤ n) × (Rising (earlierAt (slotsOf w (now (layer .entry))) (orderOf w (now (layer .entry))) f h) n → Cutoff (earlierAt (slotsOf w (now (layer .entry))) (orderOf w (now (layer .entry))) f h) n r) ⌝ }
+// The place of the node with this header among the first n.
+fn position_in(layer: &[u64], w: usize, n: usize, header: &[u64; HEADER_WORDS]) -> usize
+    requires { ⌜ Layer w n (now layer) × (length (now header) ≡ headerWords) ⌝ }
+    ensures { λ r. ⌜ (r ≤ n) × (Rising (earlierAt (slotsOf w (now (layer .entry))) (orderOf w (now (layer .entry))) (now (header .entry))) n → Cutoff (earlierAt (slotsOf w (now (layer .entry))) (orderOf w (now (layer .entry))) (now (header .entry))) n r) ⌝ }
 {
     let a = ORDER_AT * w;
     let b = LINKS_AT * w;
-    beam_order::position_for(&layer[..a], &layer[a..b], w, n, f, h)
+    beam_order::position_for(&layer[..a], &layer[a..b], w, n, header)
 }
 
-// Whether a node with this f and h goes before the last of a full layer.
-fn before_last(layer: &[u64], w: usize, f: u64, h: u64) -> bool
-    requires { ⌜ (0 < w) × Layer w w (now layer) ⌝ }
-    ensures { λ r. ⌜ r ≡ earlierAt (slotsOf w (now (layer .entry))) (orderOf w (now (layer .entry))) f h (w - 1) ⌝ }
+// Whether the node with this header goes before the last of a full layer.
+fn before_last(layer: &[u64], w: usize, header: &[u64; HEADER_WORDS]) -> bool
+    requires { ⌜ (0 < w) × (Layer w w (now layer) × (length (now header) ≡ headerWords)) ⌝ }
+    ensures { λ r. ⌜ r ≡ earlierAt (slotsOf w (now (layer .entry))) (orderOf w (now (layer .entry))) (now (header .entry)) (w - 1) ⌝ }
 {
     let a = ORDER_AT * w;
     let b = LINKS_AT * w;
-    beam_order::earlier_at(&layer[..a], &layer[a..b], w - 1, f, h)
+    beam_order::earlier_at(&layer[..a], &layer[a..b], w - 1, header)
 }
 
 // The link to a node of bucket k that beats the child, or, for beaten, that the child beats; 0 where there is none.
 fn find_in(
     layer: &[u64],
     model: &[u8],
-    outline: &[u64],
+    outline: &[u64; PREPARED_WORDS],
     w: usize,
     k: usize,
-    child: &[u64],
+    header: &[u64; HEADER_WORDS],
+    state: &[u64; STATE_WORDS],
     beaten: bool,
 ) -> usize
-    requires { ⌜ Outlined (now model) (now outline) × ((26 * w ≤ length (now layer)) × ((k < 4 * w) × (Falling w (linksOf w (now layer)) × (length (now child) ≡ slotWords)))) ⌝ }
-    ensures { λ r. ⌜ Found (linksOf w (now (layer .entry))) w k (sought (now (model .entry)) (slotsOf w (now (layer .entry))) (now (child .entry)) beaten) r ⌝ }
+    requires { ⌜ Outlined (now model) (now outline) × (Walkable w k (now layer) × ChildWords (now header) (now state)) ⌝ }
+    ensures { λ r. ⌜ Found (linksOf w (now (layer .entry))) w k (slotSought (now (model .entry)) (slotsOf w (now (layer .entry))) (now (header .entry) ++ now (state .entry)) beaten) r ⌝ }
 {
-    let a = ORDER_AT * w;
     let b = LINKS_AT * w;
-    let e = LAYER_END * w;
-    find(
-        model,
-        outline,
-        &layer[..a],
-        &layer[b..e],
-        w,
-        k,
-        child,
-        beaten,
-    )
+    let mut next = layer[b + (w + k)] as usize;
+    while 0 < next {
+        let s = next - 1;
+        if sought(model, outline, layer, s, header, state, beaten) {
+            return next;
+        }
+        next = layer[b + s] as usize;
+    }
+    0
 }
 
 // Takes the child, whose bucket is k, in.
-fn add_child(layer: &mut [u64], outline: &[u64], w: usize, n: usize, k: usize, child: &[u64])
-    requires { ⌜ Indexed (now outline) w n (now layer) × ((n < w) × ((k < 4 * w) × ((length (now child) ≡ slotWords) × (bucketOf (now outline) (stateWords (now child)) (4 * w) ≡ k)))) ⌝ }
-    ensures { λ _. ⌜ Keeping (now (outline .entry)) w (n + 1) (now (layer .exit)) (placed (now (child .entry)) (keptOf w (now (layer .entry)) n)) ⌝ }
+fn add_child(
+    layer: &mut [u64],
+    outline: &[u64; PREPARED_WORDS],
+    w: usize,
+    n: usize,
+    k: usize,
+    header: &[u64; HEADER_WORDS],
+    state: &[u64; STATE_WORDS],
+)
+    requires { ⌜ Offering (now outline) w n k (now layer) (now header) (now state) × (n < w) ⌝ }
+    ensures { λ _. ⌜ Keeping (now (outline .entry)) w (n + 1) (now (layer .exit)) (placed (now (header .entry) ++ now (state .entry)) (keptOf w (now (layer .entry)) n)) ⌝ }
 {
     let a = ORDER_AT * w;
     let b = LINKS_AT * w;
-    let e = LAYER_END * w;
-    let f = child[F_AT];
-    let h = child[H_AT];
-    let p = position_in(layer, w, n, f, h);
+    let e = LAYER_WORDS * w;
+    let p = position_in(layer, w, n, header);
     let x = layer[a + n];
     beam_order::insert_at(&mut layer[a..b], n, p, x);
     let s = x as usize;
-    write_slot(&mut layer[..a], s, child);
+    write_slot(&mut layer[..a], s, header, state);
     beam_index::add(&mut layer[b..e], w, k, s);
 }
 
 // Takes the node in slot s, which is in bucket k, out.
-fn remove_slot(layer: &mut [u64], outline: &[u64], w: usize, n: usize, k: usize, s: usize)
-    requires { ⌜ Indexed (now outline) w n (now layer) × ((s < w) × ((used (orderOf w (now layer)) n s ≡ true) × ((k < 4 * w) × (bucketIn (now outline) (slotsOf w (now layer)) (4 * w) s ≡ k)))) ⌝ }
+fn remove_slot(
+    layer: &mut [u64],
+    outline: &[u64; PREPARED_WORDS],
+    w: usize,
+    n: usize,
+    k: usize,
+    s: usize,
+)
+    requires { ⌜ SlotIn (now outline) w n k s (now layer) ⌝ }
     ensures { λ _. ⌜ SlotRemoved (now (outline .entry)) w n s (now (layer .entry)) (now (layer .exit)) ⌝ }
 {
     let a = ORDER_AT * w;
     let b = LINKS_AT * w;
     let at = s * SLOT_WORDS;
-    let f = layer[at + F_AT];
-    let h = layer[at + H_AT];
-    let end = position_in(layer, w, n, f, h);
+    let mut header = [0u64; HEADER_WORDS];
+    copy_words(&layer[at..at + HEADER_WORDS], &mut header);
+    let end = position_in(layer, w, n, &header);
     let p = beam_order::find_below(&layer[a..b], end, s as u64);
     remove_position(layer, outline, w, n, k, p);
 }
@@ -144,69 +159,77 @@ fn remove_slot(layer: &mut [u64], outline: &[u64], w: usize, n: usize, k: usize,
 fn remove_beaten(
     layer: &mut [u64],
     model: &[u8],
-    outline: &[u64],
+    outline: &[u64; PREPARED_WORDS],
     w: usize,
     n: usize,
     k: usize,
-    child: &[u64],
+    header: &[u64; HEADER_WORDS],
+    state: &[u64; STATE_WORDS],
 ) -> usize
-    requires { ⌜ Indexed (now outline) w n (now layer) × (Outlined (now model) (now outline) × ((k < 4 * w) × ((length (now child) ≡ slotWords) × (bucketOf (now outline) (stateWords (now child)) (4 * w) ≡ k)))) ⌝ }
-    ensures { λ r. ⌜ Keeping (now (outline .entry)) w r (now (layer .exit)) (unbeaten (now (model .entry)) (now (child .entry)) (keptOf w (now (layer .entry)) n)) ⌝ }
+    requires { ⌜ Offering (now outline) w n k (now layer) (now header) (now state) × Outlined (now model) (now outline) ⌝ }
+    ensures { λ r. ⌜ Keeping (now (outline .entry)) w r (now (layer .exit)) (unbeaten (now (model .entry)) (now (header .entry) ++ now (state .entry)) (keptOf w (now (layer .entry)) n)) ⌝ }
 {
     let mut left = n;
-    let mut link = find_in(layer, model, outline, w, k, child, true);
+    let mut link = find_in(layer, model, outline, w, k, header, state, true);
     while 0 < link {
         remove_slot(layer, outline, w, left, k, link - 1);
         left -= 1;
-        link = find_in(layer, model, outline, w, k, child, true);
+        link = find_in(layer, model, outline, w, k, header, state, true);
     }
     left
 }
 
 // The child, whose bucket is k, takes the place of the last node of a full layer.
-fn replace_last(layer: &mut [u64], model: &[u8], outline: &[u64], w: usize, k: usize, child: &[u64])
-    requires { ⌜ Indexed (now outline) w w (now layer) × (Outlined (now model) (now outline) × ((k < 4 * w) × ((length (now child) ≡ slotWords) × (bucketOf (now outline) (stateWords (now child)) (4 * w) ≡ k)))) ⌝ }
-    ensures { λ _. ⌜ Keeping (now (outline .entry)) w w (now (layer .exit)) (placed (now (child .entry)) (dropLast (keptOf w (now (layer .entry)) w))) ⌝ }
+fn replace_last(
+    layer: &mut [u64],
+    model: &[u8],
+    outline: &[u64; PREPARED_WORDS],
+    w: usize,
+    k: usize,
+    header: &[u64; HEADER_WORDS],
+    state: &[u64; STATE_WORDS],
+)
+    requires { ⌜ Offering (now outline) w w k (now layer) (now header) (now state) × Outlined (now model) (now outline) ⌝ }
+    ensures { λ _. ⌜ Keeping (now (outline .entry)) w w (now (layer .exit)) (placed (now (header .entry) ++ now (state .entry)) (dropLast (keptOf w (now (layer .entry)) w))) ⌝ }
 {
     let a = ORDER_AT * w;
     let p = w - 1;
     let s = layer[a + p] as usize;
     let other = slot_bucket(model, outline, &layer[..a], s, 4 * w);
     remove_position(layer, outline, w, w, other, p);
-    add_child(layer, outline, w, p, k, child);
+    add_child(layer, outline, w, p, k, header, state);
 }
 
-// Rule 5: offers the child to a layer of n nodes, at most width.
+// Rule 5: offers the child with this header and state to a layer of n nodes, at most width.
 pub fn insert(
     layer: &mut [u64],
     model: &[u8],
-    outline: &[u64],
+    outline: &[u64; PREPARED_WORDS],
     width: usize,
     n: usize,
-    child: &[u64],
+    header: &[u64; HEADER_WORDS],
+    state: &[u64; STATE_WORDS],
 ) -> Inserted
-    requires { ⌜ Indexed (now outline) width n (now layer) × (Outlined (now model) (now outline) × (length (now child) ≡ slotWords)) ⌝ }
-    ensures { λ r. ⌜ InsertedInto (now (model .entry)) (now (outline .entry)) width n (r .count) (r .cut) (now (layer .entry)) (now (layer .exit)) (now (child .entry)) ⌝ }
+    requires { ⌜ Indexed (now outline) width n (now layer) × (Outlined (now model) (now outline) × (length (now header) ≡ headerWords)) ⌝ }
+    ensures { λ r. ⌜ InsertedInto (now (model .entry)) (now (outline .entry)) width n (r .count) (r .cut) (now (layer .entry)) (now (layer .exit)) (now (header .entry) ++ now (state .entry)) ⌝ }
 {
-    let k = bucket(model, outline, &child[..16], 4 * width);
-    if 0 < find_in(layer, model, outline, width, k, child, false) {
+    let k = bucket(model, outline, state, 4 * width);
+    if 0 < find_in(layer, model, outline, width, k, header, state, false) {
         return Inserted {
             count: n,
             cut: false,
         };
     }
-    let m = remove_beaten(layer, model, outline, width, n, k, child);
+    let m = remove_beaten(layer, model, outline, width, n, k, header, state);
     if m < width {
-        add_child(layer, outline, width, m, k, child);
+        add_child(layer, outline, width, m, k, header, state);
         return Inserted {
             count: m + 1,
             cut: false,
         };
     }
-    let f = child[F_AT];
-    let h = child[H_AT];
-    if before_last(layer, width, f, h) {
-        replace_last(layer, model, outline, width, k, child);
+    if before_last(layer, width, header) {
+        replace_last(layer, model, outline, width, k, header, state);
         return Inserted {
             count: width,
             cut: true,

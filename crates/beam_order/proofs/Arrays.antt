@@ -12,7 +12,7 @@ use lib.Dec.{ltb}
 use lib.ListN.{length, take, drop, getD, set, length-drop}
 use lib.Seq.{take-set-le, drop-set-add, getD-take, getD-drop, drop-cons, take-suc-set, drop-set-lt, set-split, take-suc, take-all, length-take-le, drop-at}
 use Rattle.beam_order.specs.Slots.{slotWords, fAt, hAt, wordsIn, earlier}
-use Rattle.beam_order.specs.Order.{inserted, removed, upFrom, earlierAt, Rising}
+use Rattle.beam_order.specs.Order.{inserted, removed, upFrom, Rising}
 
 -- ---- filling
 
@@ -95,21 +95,21 @@ pub word-in : (slots : List ℕ) (s q : ℕ) → q < slotWords → getD (wordsIn
 unfolding wordsIn
 word-in slots s q h = getD-take slotWords (drop (s * slotWords) slots) q 0 h ∙ getD-drop (s * slotWords) slots q 0
 
-module _ (slots order : List ℕ) (f h i : ℕ) where
+module _ (n slots : List ℕ) (s : ℕ) where
   abbrev other : ℕ → ℕ
-  other q = getD slots (getD order i 0 * slotWords + q) 0
+  other q = getD slots (s * slotWords + q) 0
 
-  pub earlier-less : f < other fAt → true ≡ earlierAt slots order f h i
-  unfolding earlierAt earlier
-  earlier-less l = rw (word-in slots (getD order i 0) fAt (omega arith), lt-ltb f (other fAt) l)
+  pub earlier-less : getD n fAt 0 < other fAt → true ≡ earlier n (wordsIn slots s)
+  unfolding earlier
+  earlier-less l = rw (word-in slots s fAt (omega arith), lt-ltb (getD n fAt 0) (other fAt) l)
 
-  pub earlier-more : other fAt < f → false ≡ earlierAt slots order f h i
-  unfolding earlierAt earlier
-  earlier-more l = rw (word-in slots (getD order i 0) fAt (omega arith), le-ltb f (other fAt) (omega arith), lt-ltb (other fAt) f l)
+  pub earlier-more : other fAt < getD n fAt 0 → false ≡ earlier n (wordsIn slots s)
+  unfolding earlier
+  earlier-more l = rw (word-in slots s fAt (omega arith), le-ltb (getD n fAt 0) (other fAt) (omega arith), lt-ltb (other fAt) (getD n fAt 0) l)
 
-  pub earlier-even : other fAt ≤ f → f ≤ other fAt → ltb h (other hAt) ≡ earlierAt slots order f h i
-  unfolding earlierAt earlier
-  earlier-even l m = rw (word-in slots (getD order i 0) fAt (omega arith), word-in slots (getD order i 0) hAt (omega arith), le-ltb f (other fAt) l, le-ltb (other fAt) f m)
+  pub earlier-even : other fAt ≤ getD n fAt 0 → getD n fAt 0 ≤ other fAt → ltb (getD n hAt 0) (other hAt) ≡ earlier n (wordsIn slots s)
+  unfolding earlier
+  earlier-even l m = rw (word-in slots s fAt (omega arith), word-in slots s hAt (omega arith), le-ltb (getD n fAt 0) (other fAt) l, le-ltb (other fAt) (getD n fAt 0) m)
 
 -- ---- the halving
 

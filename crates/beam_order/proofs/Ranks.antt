@@ -7,11 +7,11 @@ use mathlib.Core.List.{List, [], _∷_, _++_, map, dropLast}
 use native.Mathlib.Omega.{arith}
 use borrow.Author.Tests.{ltb-true, ltb-false}
 use lib.Dec.{ltb}
-use lib.ListN.{length, take, drop, getD}
+use lib.ListN.{length, take, drop, getD, List·getD-append}
 use Rattle.laws.specs.Lists.{any, All}
 use Rattle.laws.proofs.Bools.{by-cond}
 use Rattle.laws.proofs.Lists.{all-map}
-use Rattle.beam_order.specs.Slots.{fAt, hAt, earlier, before, placed, Sorted, none, more}
+use Rattle.beam_order.specs.Slots.{fAt, hAt, headerWords, earlier, placed, Sorted, none, more}
 use Rattle.beam_order.specs.Order.{Cutoff, Rising, without}
 
 -- ---- the test
@@ -24,29 +24,41 @@ Less f h f′ h′ = (f < f′) ⊎ ((f ≡ f′) × (h < h′))
 abbrev NotLess : (f h f′ h′ : ℕ) → Type 0
 NotLess f h f′ h′ = (f′ < f) ⊎ ((f ≡ f′) × (h′ ≤ h))
 
-less-of : (f h : ℕ) (m : List ℕ) → earlier f h m ≡ true → Less f h (getD m fAt 0) (getD m hAt 0)
+less-of : (n m : List ℕ) → earlier n m ≡ true → Less (getD n fAt 0) (getD n hAt 0) (getD m fAt 0) (getD m hAt 0)
 unfolding earlier
-less-of f h m e = by-tests (ltb f (getD m fAt 0)) refl (ltb (getD m fAt 0) f) refl e
+less-of n m e = by-tests (ltb f (getD m fAt 0)) refl (ltb (getD m fAt 0) f) refl e
   where
+    f : ℕ
+    f = getD n fAt 0
+
+    h : ℕ
+    h = getD n hAt 0
+
     by-tests : (t : Bool) → ltb f (getD m fAt 0) ≡ t → (u : Bool) → ltb (getD m fAt 0) f ≡ u → cond t true (cond u false (ltb h (getD m hAt 0))) ≡ true → Less f h (getD m fAt 0) (getD m hAt 0)
     by-tests true p u q g = inl (ltb-true _ _ p)
     by-tests false p true q g = absurd (false≢true g)
     by-tests false p false q g = inr (omega (arith, ltb-false f (getD m fAt 0) p, ltb-false (getD m fAt 0) f q), ltb-true _ _ g)
 
-not-less-of : (f h : ℕ) (m : List ℕ) → earlier f h m ≡ false → NotLess f h (getD m fAt 0) (getD m hAt 0)
+not-less-of : (n m : List ℕ) → earlier n m ≡ false → NotLess (getD n fAt 0) (getD n hAt 0) (getD m fAt 0) (getD m hAt 0)
 unfolding earlier
-not-less-of f h m e = by-tests (ltb f (getD m fAt 0)) refl (ltb (getD m fAt 0) f) refl e
+not-less-of n m e = by-tests (ltb f (getD m fAt 0)) refl (ltb (getD m fAt 0) f) refl e
   where
+    f : ℕ
+    f = getD n fAt 0
+
+    h : ℕ
+    h = getD n hAt 0
+
     by-tests : (t : Bool) → ltb f (getD m fAt 0) ≡ t → (u : Bool) → ltb (getD m fAt 0) f ≡ u → cond t true (cond u false (ltb h (getD m hAt 0))) ≡ false → NotLess f h (getD m fAt 0) (getD m hAt 0)
     by-tests true p u q g = absurd (true≢false g)
     by-tests false p true q g = inl (ltb-true _ _ q)
     by-tests false p false q g = inr (omega (arith, ltb-false f (getD m fAt 0) p, ltb-false (getD m fAt 0) f q), ltb-false _ _ g)
 
 -- it goes before a, and b does not: then it goes before b
-pub earlier-trans : (f h : ℕ) (a b : List ℕ) → earlier f h a ≡ true → before b a ≡ false → earlier f h b ≡ true
-earlier-trans f h a b p q = by-test (earlier f h b) refl
+pub earlier-trans : (n a b : List ℕ) → earlier n a ≡ true → earlier b a ≡ false → earlier n b ≡ true
+earlier-trans n a b p q = by-test (earlier n b) refl
   where
-    no : {f₁ h₁ f₂ h₂ : ℕ} → Less f h f₁ h₁ → NotLess f₂ h₂ f₁ h₁ → NotLess f h f₂ h₂ → ⊥
+    no : {f h f₁ h₁ f₂ h₂ : ℕ} → Less f h f₁ h₁ → NotLess f₂ h₂ f₁ h₁ → NotLess f h f₂ h₂ → ⊥
     no (inl x) (inl y) (inl z) = omega arith
     no (inl x) (inl y) (inr z) = omega arith
     no (inl x) (inr y) (inl z) = omega arith
@@ -56,12 +68,12 @@ earlier-trans f h a b p q = by-test (earlier f h b) refl
     no (inr x) (inr y) (inl z) = omega arith
     no (inr x) (inr y) (inr z) = omega arith
 
-    by-test : (t : Bool) → earlier f h b ≡ t → t ≡ true
+    by-test : (t : Bool) → earlier n b ≡ t → t ≡ true
     by-test true e = refl
-    by-test false e = absurd (no (less-of f h a p) (not-less-of _ _ a q) (not-less-of f h b e))
+    by-test false e = absurd (no (less-of n a p) (not-less-of b a q) (not-less-of n b e))
 
-before-one-way : (a b : List ℕ) → before a b ≡ true → before b a ≡ false
-before-one-way a b p = by-test (before b a) refl
+earlier-one-way : (a b : List ℕ) → earlier a b ≡ true → earlier b a ≡ false
+earlier-one-way a b p = by-test (earlier b a) refl
   where
     no : {f₁ h₁ f₂ h₂ : ℕ} → Less f₁ h₁ f₂ h₂ → Less f₂ h₂ f₁ h₁ → ⊥
     no (inl x) (inl y) = omega arith
@@ -69,24 +81,29 @@ before-one-way a b p = by-test (before b a) refl
     no (inr x) (inl y) = omega arith
     no (inr x) (inr y) = omega arith
 
-    by-test : (t : Bool) → before b a ≡ t → t ≡ false
+    by-test : (t : Bool) → earlier b a ≡ t → t ≡ false
     by-test false e = refl
-    by-test true e = absurd (no (less-of _ _ b p) (less-of _ _ a e))
+    by-test true e = absurd (no (less-of a b p) (less-of b a e))
 
-pub not-before-itself : (a : List ℕ) → before a a ≡ false
-not-before-itself a = by-test (before a a) refl
+pub not-before-itself : (a : List ℕ) → earlier a a ≡ false
+not-before-itself a = by-test (earlier a a) refl
   where
-    by-test : (t : Bool) → before a a ≡ t → t ≡ false
+    by-test : (t : Bool) → earlier a a ≡ t → t ≡ false
     by-test false e = refl
-    by-test true e = absurd (true≢false (sym e ∙ before-one-way a a e))
+    by-test true e = absurd (true≢false (sym e ∙ earlier-one-way a a e))
 
 -- what is not before has no less f
-pub f-order : (a b : List ℕ) → before b a ≡ false → getD a fAt 0 ≤ getD b fAt 0
-f-order a b e = by-case (not-less-of _ _ a e)
+pub f-order : (a b : List ℕ) → earlier b a ≡ false → getD a fAt 0 ≤ getD b fAt 0
+f-order a b e = by-case (not-less-of b a e)
   where
     by-case : {f₁ h₁ f₂ h₂ : ℕ} → NotLess f₂ h₂ f₁ h₁ → f₁ ≤ f₂
     by-case (inl x) = omega arith
     by-case (inr x) = omega arith
+
+-- a header goes where the words that begin with it go
+pub earlier-front : (header state m : List ℕ) → length header ≡ headerWords → earlier (header ++ state) m ≡ earlier header m
+unfolding earlier
+earlier-front header state m l = rw (List·getD-append header state 0 fAt (omega arith), List·getD-append header state 0 hAt (omega arith))
 
 -- ---- sorted lists
 
@@ -96,12 +113,12 @@ all-at P at [] j a h = absurd (omega arith)
 all-at P at (y ∷ k) zero a h = a .0
 all-at P at (y ∷ k) (suc j) a h = all-at P at k j (a .1) (omega arith)
 
-pub sorted-rising : (f h : ℕ) (at : ℕ → List ℕ) (k : List ℕ) → Sorted (map at k) → Rising (λ i. earlier f h (at (getD k i 0))) (length k)
-sorted-rising f h at [] s i j l m e = absurd (omega arith)
-sorted-rising f h at (y ∷ k) (more a s) zero zero l m e = e
-sorted-rising f h at (y ∷ k) (more a s) zero (suc j) l m e = earlier-trans f h (at y) (at (getD k j 0)) e (all-at (λ (z : List ℕ). before z (at y) ≡ false) at k j a (omega arith))
-sorted-rising f h at (y ∷ k) (more a s) (suc i) zero l m e = absurd (omega arith)
-sorted-rising f h at (y ∷ k) (more a s) (suc i) (suc j) l m e = sorted-rising f h at k s i j (omega arith) (omega arith) e
+pub sorted-rising : (n : List ℕ) (at : ℕ → List ℕ) (k : List ℕ) → Sorted (map at k) → Rising (λ i. earlier n (at (getD k i 0))) (length k)
+sorted-rising n at [] s i j l m e = absurd (omega arith)
+sorted-rising n at (y ∷ k) (more a s) zero zero l m e = e
+sorted-rising n at (y ∷ k) (more a s) zero (suc j) l m e = earlier-trans n (at y) (at (getD k j 0)) e (all-at (λ (z : List ℕ). earlier z (at y) ≡ false) at k j a (omega arith))
+sorted-rising n at (y ∷ k) (more a s) (suc i) zero l m e = absurd (omega arith)
+sorted-rising n at (y ∷ k) (more a s) (suc i) (suc j) l m e = sorted-rising n at k s i j (omega arith) (omega arith) e
 
 all-without : (P : List ℕ → Type 0) (p : ℕ) (l : List (List ℕ)) → All P l → All P (without p l)
 unfolding without
@@ -113,7 +130,7 @@ pub sorted-without : (p : ℕ) (l : List (List ℕ)) → Sorted l → Sorted (wi
 unfolding without
 sorted-without p [] s = s
 sorted-without zero (x ∷ l) (more a s) = s
-sorted-without (suc p) (x ∷ l) (more a s) = more (all-without (λ (n : List ℕ). before n x ≡ false) p l a) (sorted-without p l s)
+sorted-without (suc p) (x ∷ l) (more a s) = more (all-without (λ (n : List ℕ). earlier n x ≡ false) p l a) (sorted-without p l s)
 
 all-take : (P : List ℕ → Type 0) (p : ℕ) (l : List (List ℕ)) → All P l → All P (take p l)
 all-take P zero l a = tt
@@ -123,24 +140,24 @@ all-take P (suc p) (x ∷ l) a = (a .0, all-take P p l (a .1))
 pub sorted-take : (p : ℕ) (l : List (List ℕ)) → Sorted l → Sorted (take p l)
 sorted-take zero l s = none
 sorted-take (suc p) [] s = none
-sorted-take (suc p) (x ∷ l) (more a s) = more (all-take (λ (n : List ℕ). before n x ≡ false) p l a) (sorted-take p l s)
+sorted-take (suc p) (x ∷ l) (more a s) = more (all-take (λ (n : List ℕ). earlier n x ≡ false) p l a) (sorted-take p l s)
 
 all-placed : (P : List ℕ → Type 0) (c : List ℕ) (l : List (List ℕ)) → P c → All P l → All P (placed c l)
 unfolding placed
 all-placed P c [] p a = (p, tt)
-all-placed P c (x ∷ l) p a = by-cond (All P) (before c x) (λ e. (p, a)) (λ e. (a .0, all-placed P c l p (a .1)))
+all-placed P c (x ∷ l) p a = by-cond (All P) (earlier c x) (λ e. (p, a)) (λ e. (a .0, all-placed P c l p (a .1)))
 
 pub sorted-placed : (c : List ℕ) (l : List (List ℕ)) → Sorted l → Sorted (placed c l)
 unfolding placed
 sorted-placed c [] s = more tt none
 sorted-placed c (x ∷ l) (more a s) =
-    by-cond Sorted (before c x)
-    (λ e. more (before-one-way c x e, all-map l (λ y q. before-one-way c y (earlier-trans _ _ x y e q)) a) (more a s))
-    (λ e. more (all-placed (λ (n : List ℕ). before n x ≡ false) c l e a) (sorted-placed c l s))
+    by-cond Sorted (earlier c x)
+    (λ e. more (earlier-one-way c x e, all-map l (λ y q. earlier-one-way c y (earlier-trans c x y e q)) a) (more a s))
+    (λ e. more (all-placed (λ (n : List ℕ). earlier n x ≡ false) c l e a) (sorted-placed c l s))
 
 -- ---- placed, by the number of those that it does not go before
 
-pub placed-at : (c : List ℕ) (at : ℕ → List ℕ) (k : List ℕ) (r : ℕ) → Cutoff (λ i. before c (at (getD k i 0))) (length k) r → placed c (map at k) ≡ map at (take r k) ++ (c ∷ map at (drop r k))
+pub placed-at : (c : List ℕ) (at : ℕ → List ℕ) (k : List ℕ) (r : ℕ) → Cutoff (λ i. earlier c (at (getD k i 0))) (length k) r → placed c (map at k) ≡ map at (take r k) ++ (c ∷ map at (drop r k))
 unfolding placed
 placed-at c at [] zero t = refl
 placed-at c at [] (suc r) t = absurd (omega (arith, t .within))
@@ -153,7 +170,7 @@ placed-at c at (y ∷ k) (suc r) t =
 pub placed-length : (c : List ℕ) (l : List (List ℕ)) → length (placed c l) ≡ suc (length l)
 unfolding placed
 placed-length c [] = refl
-placed-length c (x ∷ l) = by-cond (λ (m : List (List ℕ)). length m ≡ suc (suc (length l))) (before c x) (λ e. refl) (λ e. ap suc (placed-length c l))
+placed-length c (x ∷ l) = by-cond (λ (m : List (List ℕ)). length m ≡ suc (suc (length l))) (earlier c x) (λ e. refl) (λ e. ap suc (placed-length c l))
 
 -- ---- the cut: the last after placing
 
@@ -166,28 +183,28 @@ cut-rest : {A : Type 0} (x : A) (l : List A) → 0 < length l → dropLast (x �
 cut-rest x [] h = absurd (omega arith)
 cut-rest x (y ∷ l) h = refl
 
-placed-here : (c m : List ℕ) (l : List (List ℕ)) → before c m ≡ true → placed c (m ∷ l) ≡ c ∷ m ∷ l
+placed-here : (c m : List ℕ) (l : List (List ℕ)) → earlier c m ≡ true → placed c (m ∷ l) ≡ c ∷ m ∷ l
 unfolding placed
 placed-here c m l e = rw e
 
-placed-behind : (c m : List ℕ) (l : List (List ℕ)) → before c m ≡ false → placed c (m ∷ l) ≡ m ∷ placed c l
+placed-behind : (c m : List ℕ) (l : List (List ℕ)) → earlier c m ≡ false → placed c (m ∷ l) ≡ m ∷ placed c l
 unfolding placed
 placed-behind c m l e = rw e
 
 -- where c goes before some kept one, cutting before placing is cutting after it
-pub cut-before : (c m : List ℕ) (l : List (List ℕ)) → any (before c) (m ∷ l) ≡ true → dropLast (placed c (m ∷ l)) ≡ placed c (dropLast (m ∷ l))
+pub cut-before : (c m : List ℕ) (l : List (List ℕ)) → any (earlier c) (m ∷ l) ≡ true → dropLast (placed c (m ∷ l)) ≡ placed c (dropLast (m ∷ l))
 unfolding any
-cut-before c m [] e = by-test (before c m) refl e
+cut-before c m [] e = by-test (earlier c m) refl e
   where
-    by-test : (t : Bool) → before c m ≡ t → (t || false) ≡ true → dropLast (placed c (m ∷ [])) ≡ placed c (dropLast (m ∷ []))
+    by-test : (t : Bool) → earlier c m ≡ t → (t || false) ≡ true → dropLast (placed c (m ∷ [])) ≡ placed c (dropLast (m ∷ []))
     by-test true f g = rw (placed-here c m [] f) (unfold placed in refl)
     by-test false f g = absurd (false≢true g)
-cut-before c m (y ∷ l) e = by-test (before c m) refl e (cut-before c y l)
+cut-before c m (y ∷ l) e = by-test (earlier c m) refl e (cut-before c y l)
   where
     rest : List (List ℕ)
     rest = y ∷ l
 
-    by-test : (t : Bool) → before c m ≡ t → (t || any (before c) rest) ≡ true → (any (before c) rest ≡ true → dropLast (placed c rest) ≡ placed c (dropLast rest)) → dropLast (placed c (m ∷ rest)) ≡ placed c (dropLast (m ∷ rest))
+    by-test : (t : Bool) → earlier c m ≡ t → (t || any (earlier c) rest) ≡ true → (any (earlier c) rest ≡ true → dropLast (placed c rest) ≡ placed c (dropLast rest)) → dropLast (placed c (m ∷ rest)) ≡ placed c (dropLast (m ∷ rest))
     by-test true f g below = rw (placed-here c m rest f, placed-here c m (dropLast rest) f)
     by-test false f g below =
         rw (placed-behind c m rest f, placed-behind c m (dropLast rest) f)

@@ -44,9 +44,9 @@ unfoldable pub upFrom : (i n : ℕ) → List ℕ
 upFrom i zero = []
 upFrom i (suc n) = i ∷ upFrom (suc i) n
 
--- whether a node with this f and h goes before the one at place i
-unfoldable pub earlierAt : (slots order : List ℕ) (f h i : ℕ) → Bool
-earlierAt slots order f h i = earlier f h (wordsIn slots (getD order i 0))
+-- whether node n goes before the one at place i
+unfoldable pub earlierAt : (slots order n : List ℕ) (i : ℕ) → Bool
+earlierAt slots order n i = earlier n (wordsIn slots (getD order i 0))
 
 -- the first r of n places fail the test, the others pass
 pub record Cutoff (t : ℕ → Bool) (n r : ℕ) : Type 0 where

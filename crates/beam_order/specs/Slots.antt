@@ -1,47 +1,76 @@
--- A slot holds one node of a layer in twenty words: sixteen of its state, then g, h, f and back.
+-- A slot holds one node of a layer: a header of seven words, then the sixteen of its state. The header holds g, with room for three parts, h, f,
+-- with room for two, and back.
 -- The nodes that are kept are ordered by f, then h, then arrival, least first.
-use Prim.Native.Nat.{ℕ, _*_}
+use Prim.Native.Nat.{ℕ, _+_, _*_}
 use mathlib.Core.Path.{_≡_}
 use mathlib.Core.Bool.{Bool, true, false, cond}
 use mathlib.Core.List.{List, [], _∷_}
 use lib.Dec.{ltb}
 use lib.ListN.{take, drop, getD}
 use Rattle.laws.specs.Lists.{All}
+use Rattle.model.specs.Numbers.{mostVariables}
 
-abbrev pub slotWords : ℕ
-slotWords = 20
-
--- which word of a slot holds what
+-- which word of a header holds what
 abbrev pub gAt : ℕ
-gAt = 16
+gAt = 0
 
 abbrev pub hAt : ℕ
-hAt = 17
+hAt = 3
 
 abbrev pub fAt : ℕ
-fAt = 18
+fAt = 4
 
 -- the parent's slot × 256 + the number of the transition
 abbrev pub backAt : ℕ
-backAt = 19
+backAt = 6
+
+abbrev pub headerWords : ℕ
+headerWords = 7
+
+-- a slot: the header, then the words of the state
+abbrev pub stateAt : ℕ
+stateAt = headerWords
+
+abbrev pub slotWords : ℕ
+slotWords = stateAt + mostVariables
+
+-- of a layer in the making, for each place of the width: its slots, then their order, then its index of five words a slot
+abbrev pub orderAt : ℕ
+orderAt = slotWords
+
+abbrev pub linksAt : ℕ
+linksAt = orderAt + 1
+
+abbrev pub layerWords : ℕ
+layerWords = linksAt + 5
+
+-- of the working words, for each place of the width: the slots of the current layer, then the layer in the making; then the back pointers
+abbrev pub nextAt : ℕ
+nextAt = slotWords
+
+abbrev pub nextOrderAt : ℕ
+nextOrderAt = nextAt + orderAt
+
+abbrev pub nextEnd : ℕ
+nextEnd = nextAt + layerWords
+
+abbrev pub backsAt : ℕ
+backsAt = 64
 
 -- the words of slot s
 unfoldable pub wordsIn : (slots : List ℕ) (s : ℕ) → List ℕ
 wordsIn slots s = take slotWords (drop (s * slotWords) slots)
 
--- a node with this f and h goes before the one with these words
-unfoldable pub earlier : (f h : ℕ) (words : List ℕ) → Bool
-earlier f h m = cond (ltb f (getD m fAt 0)) true (cond (ltb (getD m fAt 0) f) false (ltb h (getD m hAt 0)))
-
-abbrev pub before : (n m : List ℕ) → Bool
-before n m = earlier (getD n fAt 0) (getD n hAt 0) m
+-- the node with words n, or with a header n, goes before the one with words m: by f, then by h
+unfoldable pub earlier : (n m : List ℕ) → Bool
+earlier n m = cond (ltb (getD n fAt 0) (getD m fAt 0)) true (cond (ltb (getD m fAt 0) (getD n fAt 0)) false (ltb (getD n hAt 0) (getD m hAt 0)))
 
 -- n behind those of equal f and h
 unfoldable pub placed : List ℕ → List (List ℕ) → List (List ℕ)
 placed n [] = n ∷ []
-placed n (m ∷ ms) = cond (before n m) (n ∷ m ∷ ms) (m ∷ placed n ms)
+placed n (m ∷ ms) = cond (earlier n m) (n ∷ m ∷ ms) (m ∷ placed n ms)
 
 -- none goes before one that stands before it
 pub data Sorted : List (List ℕ) → Type 0 where
   none : Sorted []
-  more : {m : List ℕ} {ms : List (List ℕ)} → All (λ n. before n m ≡ false) ms → Sorted ms → Sorted (m ∷ ms)
+  more : {m : List ℕ} {ms : List (List ℕ)} → All (λ n. earlier n m ≡ false) ms → Sorted ms → Sorted (m ∷ ms)

@@ -1,21 +1,14 @@
 // The order array of a layer: places are found by halving, and slots are put in and taken out by shifts.
 
+pub mod slots;
+
 ghost use mathlib.Core.Path.{_≡_};
 ghost use Prim.Native.Nat.{_+_, _-_, _*_, _≤_, _<_};
 ghost use lib.ListN.{length, getD};
-ghost use Rattle.beam_order.specs.Slots.{slotWords};
+ghost use Rattle.beam_order.specs.Slots.{headerWords, slotWords};
 ghost use Rattle.beam_order.specs.Order.{inserted, removed, upFrom, earlierAt, Rising, Cutoff, Inside, FoundBelow};
-
-// The words of a slot, and which of them hold what.
-pub const SLOT_WORDS: usize = 20;
-
-pub const G_AT: usize = 16;
-
-pub const H_AT: usize = 17;
-
-pub const F_AT: usize = 18;
-
-pub const BACK_AT: usize = 19;
+use crate::slots::HEADER_WORDS;
+use crate::slots::earlier;
 
 // Writes 0, 1, 2, .. into the array.
 pub fn fill(order: &mut [u64])
@@ -55,33 +48,30 @@ pub fn remove_at(order: &mut [u64], n: usize, p: usize)
     order[n - 1] = x;
 }
 
-// Whether a node with this f and h goes before the one at place i.
-pub fn earlier_at(slots: &[u64], order: &[u64], i: usize, f: u64, h: u64) -> bool
-    requires { ⌜ (i < length (now order)) × (getD (now order) i 0 * slotWords + slotWords ≤ length (now slots)) ⌝ }
-    ensures { λ r. ⌜ r ≡ earlierAt (now (slots .entry)) (now (order .entry)) f h i ⌝ }
+// Whether the node with this header goes before the one at place i.
+pub fn earlier_at(slots: &[u64], order: &[u64], i: usize, header: &[u64; HEADER_WORDS]) -> bool
+    requires { ⌜ (length (now header) ≡ headerWords) × ((i < length (now order)) × (getD (now order) i 0 * slotWords + slotWords ≤ length (now slots))) ⌝ }
+    ensures { λ r. ⌜ r ≡ earlierAt (now (slots .entry)) (now (order .entry)) (now (header .entry)) i ⌝ }
 {
-    let s = order[i] as usize;
-    let a = s * SLOT_WORDS;
-    let other = slots[a + F_AT];
-    if f < other {
-        return true;
-    }
-    if other < f {
-        return false;
-    }
-    h < slots[a + H_AT]
+    earlier(header, slots, order[i] as usize)
 }
 
-// The place of a node with this f and h among the first n: behind those of equal f and h. Found by halving.
-pub fn position_for(slots: &[u64], order: &[u64], w: usize, n: usize, f: u64, h: u64) -> usize
-    requires { ⌜ (w * slotWords ≤ length (now slots)) × Inside w n (now order) ⌝ }
-    ensures { λ r. ⌜ (r ≤ n) × (Rising (earlierAt (now (slots .entry)) (now (order .entry)) f h) n → Cutoff (earlierAt (now (slots .entry)) (now (order .entry)) f h) n r) ⌝ }
+// The place of the node with this header among the first n: behind those that it does not go before. Found by halving.
+pub fn position_for(
+    slots: &[u64],
+    order: &[u64],
+    w: usize,
+    n: usize,
+    header: &[u64; HEADER_WORDS],
+) -> usize
+    requires { ⌜ (length (now header) ≡ headerWords) × ((w * slotWords ≤ length (now slots)) × Inside w n (now order)) ⌝ }
+    ensures { λ r. ⌜ (r ≤ n) × (Rising (earlierAt (now (slots .entry)) (now (order .entry)) (now (header .entry))) n → Cutoff (earlierAt (now (slots .entry)) (now (order .entry)) (now (header .entry))) n r) ⌝ }
 {
     let mut low = 0;
     let mut high = n;
     while low < high {
         let middle = low + (high - low) / 2;
-        if earlier_at(slots, order, middle, f, h) {
+        if earlier_at(slots, order, middle, header) {
             high = middle;
         } else {
             low = middle + 1;

@@ -1,14 +1,18 @@
 // Children offered to one layer, to be timed; see host/bench.
 
-ghost use Prim.Native.Nat.{_≤_, _<_, _*_};
 ghost use lib.ListN.{length};
 ghost use mathlib.Core.Path.{_≡_};
-ghost use Rattle.steps.specs.InBytes.{Outlined};
-ghost use Rattle.bench_parts.specs.Timed.{nextOf, childOf, keptAfter, layerFits, insertions};
-use beam::layer::LAYER_END;
+ghost use Rattle.bench_parts.specs.Timed.{nextOf, childHeader, childState, keptAfter, Offerable, layerFits, insertions};
 use beam::layer::empty;
 use beam::layer::insert;
+use beam_order::slots::F_AT;
+use beam_order::slots::G_AT;
+use beam_order::slots::H_AT;
+use beam_order::slots::HEADER_WORDS;
+use beam_order::slots::LAYER_WORDS;
 use model::length_fits;
+use outline::layout::PREPARED_WORDS;
+use outline::layout::STATE_WORDS;
 use prepare::read_and_prepare;
 
 // The next of a row of numbers below 2^32.
@@ -18,47 +22,40 @@ fn next(x: u64) -> u64
     (x % 4294967296 * 1664525 + 1013904223) % 4294967296
 }
 
-// A child's words by x: two of its state, then g, h and f.
-fn make_child(x: u64) -> [u64; 20]
-    ensures { λ r. ⌜ r ≡ childOf x ⌝ }
+// The header of the child by x: g, h and their sum as f.
+fn make_header(x: u64) -> [u64; HEADER_WORDS]
+    ensures { λ r. ⌜ r ≡ childHeader x ⌝ }
 {
     let y = next(x);
     let g = y / 1048576;
     let h = y / 65536 % 64;
-    [
-        x / 65536 % 4096,
-        y / 256 % 64,
-        0,
-        0,
-        0,
-        0,
-        0,
-        0,
-        0,
-        0,
-        0,
-        0,
-        0,
-        0,
-        0,
-        0,
-        g,
-        h,
-        g + h,
-        0,
-    ]
+    let mut header = [0u64; HEADER_WORDS];
+    header[G_AT] = g;
+    header[H_AT] = h;
+    header[F_AT] = g + h;
+    header
+}
+
+// The state of the child by x: two words, then zeros.
+fn make_state(x: u64) -> [u64; STATE_WORDS]
+    ensures { λ r. ⌜ r ≡ childState x ⌝ }
+{
+    let mut state = [0u64; STATE_WORDS];
+    state[0] = x / 65536 % 4096;
+    state[1] = next(x) / 256 % 64;
+    state
 }
 
 // Offers children to an empty layer of width w, from the number `seed` on; answers how many are kept.
 fn offer_children(
     layer: &mut [u64],
     model: &[u8],
-    outline: &[u64],
+    outline: &[u64; PREPARED_WORDS],
     w: usize,
     children: u64,
     seed: u64,
 ) -> usize
-    requires { ⌜ Outlined (now model) (now outline) × ((0 < w) × ((w ≤ 4096) × (26 * w ≤ length (now layer)))) ⌝ }
+    requires { ⌜ Offerable (now model) (now outline) w (now layer) ⌝ }
     ensures { λ r. ⌜ r ≡ keptAfter (now (model .entry)) w children seed ⌝ }
 {
     empty(layer, w);
@@ -66,8 +63,9 @@ fn offer_children(
     let mut x = seed;
     let mut left = children;
     while 0 < left {
-        let child = make_child(x);
-        let inserted = insert(layer, model, outline, w, count, &child);
+        let header = make_header(x);
+        let state = make_state(x);
+        let inserted = insert(layer, model, outline, w, count, &header, &state);
         count = inserted.count;
         x = next(x);
         left -= 1;
@@ -85,10 +83,10 @@ fn layer_fits(w: usize, words: usize) -> bool
     if 4096 < w {
         return false;
     }
-    LAYER_END * w <= words
+    LAYER_WORDS * w <= words
 }
 
-// The same from C: 0 where the model is too long or refused, the width is not from 1 to 4,096 or less than 26 × width words are lent.
+// The same from C: 0 where the model is too long or refused, the width is not from 1 to 4,096 or less than LAYER_WORDS × width words are lent.
 #[no_mangle]
 pub extern "C" fn repgypsum_insertions(
     model: &[u8],
@@ -102,7 +100,7 @@ pub extern "C" fn repgypsum_insertions(
     if length_fits(model.len()) {
         let w = width as usize;
         if layer_fits(w, words.len()) {
-            let mut outline = [0u64; 2601];
+            let mut outline = [0u64; PREPARED_WORDS];
             let refusal = read_and_prepare(model, &mut outline);
             if refusal == 0 {
                 return offer_children(

@@ -19,14 +19,16 @@ use eval_sets::first_bytes::NumberForm;
 use eval_sets::first_bytes::condition_form;
 use eval_sets::first_bytes::number_form;
 use eval_sets::leaves;
+use outline::layout::PREPARED_WORDS;
+use outline::layout::STATE_WORDS;
 
 // Two numbers, one behind the other.
 fn pair(
     e: &[u8],
     at: usize,
     model: &[u8],
-    state: &[u64],
-    outline: &[u64],
+    state: &[u64; STATE_WORDS],
+    outline: &[u64; PREPARED_WORDS],
     depth: usize,
 ) -> PairValue
     ensures { λ r. ⌜ r ≡ runs.pairAt depth (environment (now (model .entry)) (now (state .entry)) (now (outline .entry))) (drop at (now (e .entry))) ⌝ }
@@ -49,8 +51,8 @@ fn number_before(
     at: usize,
     n: usize,
     model: &[u8],
-    state: &[u64],
-    outline: &[u64],
+    state: &[u64; STATE_WORDS],
+    outline: &[u64; PREPARED_WORDS],
     depth: usize,
 ) -> NumberValue
     requires { ⌜ n ≤ length (drop at (now e)) ⌝ }
@@ -72,8 +74,8 @@ fn number_beyond(
     at: usize,
     n: usize,
     model: &[u8],
-    state: &[u64],
-    outline: &[u64],
+    state: &[u64; STATE_WORDS],
+    outline: &[u64; PREPARED_WORDS],
     depth: usize,
 ) -> NumberValue
     requires { ⌜ n ≤ length (drop at (now e)) ⌝ }
@@ -88,8 +90,8 @@ fn choice(
     e: &[u8],
     at: usize,
     model: &[u8],
-    state: &[u64],
-    outline: &[u64],
+    state: &[u64; STATE_WORDS],
+    outline: &[u64; PREPARED_WORDS],
     depth: usize,
 ) -> NumberValue
     ensures { λ r. ⌜ r ≡ runs.choiceAt depth (environment (now (model .entry)) (now (state .entry)) (now (outline .entry))) (drop at (now (e .entry))) ⌝ }
@@ -112,8 +114,8 @@ fn connective(
     e: &[u8],
     at: usize,
     model: &[u8],
-    state: &[u64],
-    outline: &[u64],
+    state: &[u64; STATE_WORDS],
+    outline: &[u64; PREPARED_WORDS],
     depth: usize,
 ) -> ConditionValue
     ensures { λ r. ⌜ r ≡ runs.connectiveAt decides depth (environment (now (model .entry)) (now (state .entry)) (now (outline .entry))) (drop at (now (e .entry))) ⌝ }
@@ -137,8 +139,8 @@ fn number_behind(
     e: &[u8],
     at: usize,
     model: &[u8],
-    state: &[u64],
-    outline: &[u64],
+    state: &[u64; STATE_WORDS],
+    outline: &[u64; PREPARED_WORDS],
     depth: usize,
 ) -> NumberValue
     ensures { λ r. ⌜ r ≡ runs.numberAt depth (environment (now (model .entry)) (now (state .entry)) (now (outline .entry))) form (drop at (now (e .entry))) ⌝ }
@@ -164,8 +166,8 @@ fn condition_behind(
     e: &[u8],
     at: usize,
     model: &[u8],
-    state: &[u64],
-    outline: &[u64],
+    state: &[u64; STATE_WORDS],
+    outline: &[u64; PREPARED_WORDS],
     depth: usize,
 ) -> ConditionValue
     ensures { λ r. ⌜ r ≡ runs.conditionAt depth (environment (now (model .entry)) (now (state .entry)) (now (outline .entry))) form (drop at (now (e .entry))) ⌝ }
@@ -197,8 +199,8 @@ fn number_from(
     e: &[u8],
     at: usize,
     model: &[u8],
-    state: &[u64],
-    outline: &[u64],
+    state: &[u64; STATE_WORDS],
+    outline: &[u64; PREPARED_WORDS],
     depth: usize,
 ) -> NumberValue
     ensures { λ r. ⌜ r ≡ runNumber depth (environment (now (model .entry)) (now (state .entry)) (now (outline .entry))) (drop at (now (e .entry))) ⌝ }
@@ -228,8 +230,8 @@ pub fn condition_from(
     e: &[u8],
     at: usize,
     model: &[u8],
-    state: &[u64],
-    outline: &[u64],
+    state: &[u64; STATE_WORDS],
+    outline: &[u64; PREPARED_WORDS],
     depth: usize,
 ) -> ConditionValue
     ensures { λ r. ⌜ r ≡ runCondition depth (environment (now (model .entry)) (now (state .entry)) (now (outline .entry))) (drop at (now (e .entry))) ⌝ }
@@ -252,7 +254,13 @@ pub fn condition_from(
 }
 
 // The value of the number at the front.
-pub fn number(e: &[u8], model: &[u8], state: &[u64], outline: &[u64], depth: usize) -> NumberValue
+pub fn number(
+    e: &[u8],
+    model: &[u8],
+    state: &[u64; STATE_WORDS],
+    outline: &[u64; PREPARED_WORDS],
+    depth: usize,
+) -> NumberValue
     ensures run { λ r. ⌜ r ≡ runNumber depth (environment (now (model .entry)) (now (state .entry)) (now (outline .entry))) (now (e .entry)) ⌝ }
     ensures promise { λ r. ⌜ NumberPromise depth (environment (now (model .entry)) (now (state .entry)) (now (outline .entry))) (now (e .entry)) r ⌝ }
 {

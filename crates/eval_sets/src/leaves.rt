@@ -27,6 +27,8 @@ use crate::sets::set_near;
 use crate::sets::set_then_element;
 use crate::sets::two_elements;
 use crate::sets::two_sets;
+use outline::layout::PREPARED_WORDS;
+use outline::layout::STATE_WORDS;
 use outline::layout::TABLES;
 use outline::word_at;
 use words::arithmetic::difference;
@@ -58,7 +60,7 @@ pub fn literal_number(e: &[u8]) -> NumberValue
 }
 
 // 21, behind its byte: a number variable.
-pub fn number_variable(e: &[u8], state: &[u64]) -> NumberValue
+pub fn number_variable(e: &[u8], state: &[u64; STATE_WORDS]) -> NumberValue
     ensures { λ r. ⌜ r ≡ runs.numberVariableAt (now (state .entry)) (now (e .entry)) ⌝ }
 {
     if e.len() == 0 {
@@ -123,7 +125,7 @@ pub fn arithmetic(o: Operation, p: PairValue) -> NumberValue
 }
 
 // The word of table t.
-fn table_in(outline: &[u64], t: usize) -> u64
+fn table_in(outline: &[u64; PREPARED_WORDS], t: usize) -> u64
     requires { ⌜ t < 256 ⌝ }
     ensures { λ r. ⌜ r ≡ runs.tableIn (now (outline .entry)) t ⌝ }
 {
@@ -131,7 +133,12 @@ fn table_in(outline: &[u64], t: usize) -> u64
 }
 
 // 28, behind its byte: an entry of a table.
-pub fn entry_number(e: &[u8], model: &[u8], state: &[u64], outline: &[u64]) -> NumberValue
+pub fn entry_number(
+    e: &[u8],
+    model: &[u8],
+    state: &[u64; STATE_WORDS],
+    outline: &[u64; PREPARED_WORDS],
+) -> NumberValue
     ensures { λ r. ⌜ r ≡ runs.entryNumber (now (model .entry)) (now (state .entry)) (now (outline .entry)) (now (e .entry)) ⌝ }
 {
     if e.len() == 0 {
@@ -146,7 +153,13 @@ pub fn entry_number(e: &[u8], model: &[u8], state: &[u64], outline: &[u64]) -> N
 }
 
 // 29, behind its byte: how many members a set has.
-pub fn size_number(e: &[u8], at: usize, state: &[u64], outline: &[u64], depth: usize) -> NumberValue
+pub fn size_number(
+    e: &[u8],
+    at: usize,
+    state: &[u64; STATE_WORDS],
+    outline: &[u64; PREPARED_WORDS],
+    depth: usize,
+) -> NumberValue
     ensures { λ r. ⌜ r ≡ runs.sizeNumber (runs.runSet depth (now (state .entry)) (now (outline .entry)) (drop at (now (e .entry)))) ⌝ }
 {
     let x = set_near(e, at, state, outline, depth);
@@ -158,8 +171,8 @@ pub fn total_number(
     e: &[u8],
     at: usize,
     model: &[u8],
-    state: &[u64],
-    outline: &[u64],
+    state: &[u64; STATE_WORDS],
+    outline: &[u64; PREPARED_WORDS],
     depth: usize,
 ) -> NumberValue
     ensures { λ r. ⌜ r ≡ runs.totalAt depth (runs.environment (now (model .entry)) (now (state .entry)) (now (outline .entry))) (drop at (now (e .entry))) ⌝ }
@@ -202,7 +215,7 @@ pub fn comparison(r: Relation, p: PairValue) -> ConditionValue
 }
 
 // 53, behind its byte: two elements are equal.
-pub fn same_elements(e: &[u8], state: &[u64]) -> ConditionValue
+pub fn same_elements(e: &[u8], state: &[u64; STATE_WORDS]) -> ConditionValue
     ensures { λ r. ⌜ r ≡ runs.sameElements (runs.twoElements (now (state .entry)) (now (e .entry))) ⌝ }
 {
     let x = two_elements(e, state);
@@ -213,8 +226,8 @@ pub fn same_elements(e: &[u8], state: &[u64]) -> ConditionValue
 pub fn member_of(
     e: &[u8],
     at: usize,
-    state: &[u64],
-    outline: &[u64],
+    state: &[u64; STATE_WORDS],
+    outline: &[u64; PREPARED_WORDS],
     depth: usize,
 ) -> ConditionValue
     ensures { λ r. ⌜ r ≡ runs.memberOf (runs.elementThenSetAt depth (now (state .entry)) (now (outline .entry)) (drop at (now (e .entry)))) ⌝ }
@@ -228,8 +241,8 @@ pub fn member_of(
 pub fn empty_set(
     e: &[u8],
     at: usize,
-    state: &[u64],
-    outline: &[u64],
+    state: &[u64; STATE_WORDS],
+    outline: &[u64; PREPARED_WORDS],
     depth: usize,
 ) -> ConditionValue
     ensures { λ r. ⌜ r ≡ runs.emptySet (runs.runSet depth (now (state .entry)) (now (outline .entry)) (drop at (now (e .entry)))) ⌝ }
@@ -242,8 +255,8 @@ pub fn empty_set(
 pub fn subset_of(
     e: &[u8],
     at: usize,
-    state: &[u64],
-    outline: &[u64],
+    state: &[u64; STATE_WORDS],
+    outline: &[u64; PREPARED_WORDS],
     depth: usize,
 ) -> ConditionValue
     ensures { λ r. ⌜ r ≡ runs.subsetOf (runs.twoSetsAt depth (now (state .entry)) (now (outline .entry)) (drop at (now (e .entry)))) ⌝ }

@@ -18,6 +18,8 @@ use crate::first_bytes::SetForm;
 use crate::first_bytes::set_form;
 use laws::wide;
 use outline::layout::KINDS;
+use outline::layout::PREPARED_WORDS;
+use outline::layout::STATE_WORDS;
 use outline::word_at;
 use words::literals::long;
 use words::sets::difference;
@@ -28,7 +30,7 @@ use words::sets::union;
 use words::sizes::MOST_OBJECTS;
 
 // The object of the element at the front.
-pub fn element(e: &[u8], state: &[u64]) -> ElementValue
+pub fn element(e: &[u8], state: &[u64; STATE_WORDS]) -> ElementValue
     ensures run { λ r. ⌜ r ≡ runs.runElement (now (state .entry)) (now (e .entry)) ⌝ }
     ensures promise { λ r. ⌜ ElementPromise (now (state .entry)) (now (e .entry)) r ⌝ }
 {
@@ -50,7 +52,7 @@ pub fn element(e: &[u8], state: &[u64]) -> ElementValue
 }
 
 // Two elements, one behind the other.
-pub fn two_elements(e: &[u8], state: &[u64]) -> Parts
+pub fn two_elements(e: &[u8], state: &[u64; STATE_WORDS]) -> Parts
     ensures { λ r. ⌜ r ≡ runs.twoElements (now (state .entry)) (now (e .entry)) ⌝ }
 {
     let x = element(e, state);
@@ -88,7 +90,7 @@ fn literal_set(e: &[u8]) -> SetValue
 }
 
 // The objects of the set variable v, by its kind word.
-fn objects_in(outline: &[u64], v: usize) -> u64
+fn objects_in(outline: &[u64; PREPARED_WORDS], v: usize) -> u64
     requires { ⌜ v < 256 ⌝ }
     ensures { λ r. ⌜ r ≡ runs.objectsIn (now (outline .entry)) v ⌝ }
 {
@@ -100,7 +102,7 @@ fn objects_in(outline: &[u64], v: usize) -> u64
 }
 
 // A set variable: its word, and its objects.
-fn set_variable(e: &[u8], state: &[u64], outline: &[u64]) -> SetValue
+fn set_variable(e: &[u8], state: &[u64; STATE_WORDS], outline: &[u64; PREPARED_WORDS]) -> SetValue
     ensures { λ r. ⌜ r ≡ runs.setVariableAt (now (state .entry)) (now (outline .entry)) (now (e .entry)) ⌝ }
 {
     if e.len() == 0 {
@@ -180,7 +182,13 @@ fn set_past(v: SetValue) -> SetValue
 }
 
 // An element and a set behind it.
-fn element_then_set(e: &[u8], at: usize, state: &[u64], outline: &[u64], depth: usize) -> Parts
+fn element_then_set(
+    e: &[u8],
+    at: usize,
+    state: &[u64; STATE_WORDS],
+    outline: &[u64; PREPARED_WORDS],
+    depth: usize,
+) -> Parts
     ensures { λ r. ⌜ r ≡ runs.elementThenSetAt depth (now (state .entry)) (now (outline .entry)) (drop at (now (e .entry))) ⌝ }
 {
     let x = element(after(e, at), state);
@@ -194,7 +202,13 @@ fn element_then_set(e: &[u8], at: usize, state: &[u64], outline: &[u64], depth: 
 }
 
 // Two sets, one behind the other.
-pub fn two_sets(e: &[u8], at: usize, state: &[u64], outline: &[u64], depth: usize) -> Parts
+pub fn two_sets(
+    e: &[u8],
+    at: usize,
+    state: &[u64; STATE_WORDS],
+    outline: &[u64; PREPARED_WORDS],
+    depth: usize,
+) -> Parts
     ensures { λ r. ⌜ r ≡ runs.twoSetsAt depth (now (state .entry)) (now (outline .entry)) (drop at (now (e .entry))) ⌝ }
 {
     let x = set_from(e, at, state, outline, depth);
@@ -212,8 +226,8 @@ fn set_behind(
     form: SetForm,
     e: &[u8],
     at: usize,
-    state: &[u64],
-    outline: &[u64],
+    state: &[u64; STATE_WORDS],
+    outline: &[u64; PREPARED_WORDS],
     depth: usize,
 ) -> SetValue
     ensures { λ r. ⌜ r ≡ runs.setAt depth (now (state .entry)) (now (outline .entry)) form (drop at (now (e .entry))) ⌝ }
@@ -229,7 +243,13 @@ fn set_behind(
 }
 
 // The members of the set that begins at a position.
-pub fn set_from(e: &[u8], at: usize, state: &[u64], outline: &[u64], depth: usize) -> SetValue
+pub fn set_from(
+    e: &[u8],
+    at: usize,
+    state: &[u64; STATE_WORDS],
+    outline: &[u64; PREPARED_WORDS],
+    depth: usize,
+) -> SetValue
     ensures { λ r. ⌜ r ≡ runs.runSet depth (now (state .entry)) (now (outline .entry)) (drop at (now (e .entry))) ⌝ }
 {
     if depth == 0 {
@@ -242,7 +262,13 @@ pub fn set_from(e: &[u8], at: usize, state: &[u64], outline: &[u64], depth: usiz
 }
 
 // The same; a variable is read at once, without a call.
-pub fn set_near(e: &[u8], at: usize, state: &[u64], outline: &[u64], depth: usize) -> SetValue
+pub fn set_near(
+    e: &[u8],
+    at: usize,
+    state: &[u64; STATE_WORDS],
+    outline: &[u64; PREPARED_WORDS],
+    depth: usize,
+) -> SetValue
     ensures { λ r. ⌜ r ≡ runs.runSet depth (now (state .entry)) (now (outline .entry)) (drop at (now (e .entry))) ⌝ }
 {
     if depth == 0 {
@@ -258,7 +284,12 @@ pub fn set_near(e: &[u8], at: usize, state: &[u64], outline: &[u64], depth: usiz
 }
 
 // The members of the set at the front.
-pub fn set(e: &[u8], state: &[u64], outline: &[u64], depth: usize) -> SetValue
+pub fn set(
+    e: &[u8],
+    state: &[u64; STATE_WORDS],
+    outline: &[u64; PREPARED_WORDS],
+    depth: usize,
+) -> SetValue
     ensures run { λ r. ⌜ r ≡ runs.runSet depth (now (state .entry)) (now (outline .entry)) (now (e .entry)) ⌝ }
     ensures promise { λ r. ⌜ SetPromise depth (now (state .entry)) (now (outline .entry)) (now (e .entry)) r ⌝ }
 {
@@ -266,7 +297,13 @@ pub fn set(e: &[u8], state: &[u64], outline: &[u64], depth: usize) -> SetValue
 }
 
 // A set and an element behind it.
-pub fn set_then_element(e: &[u8], at: usize, state: &[u64], outline: &[u64], depth: usize) -> Parts
+pub fn set_then_element(
+    e: &[u8],
+    at: usize,
+    state: &[u64; STATE_WORDS],
+    outline: &[u64; PREPARED_WORDS],
+    depth: usize,
+) -> Parts
     ensures { λ r. ⌜ r ≡ runs.setThenElementAt depth (now (state .entry)) (now (outline .entry)) (drop at (now (e .entry))) ⌝ }
 {
     let x = set_from(e, at, state, outline, depth);

@@ -10,6 +10,8 @@ ghost use Rattle.eval_tests.specs.Stopped.{stopped, TestPromise};
 use eval_numbers::condition_from;
 use eval_sets::answers::ConditionValue;
 use eval_sets::answers::NOTHING;
+use outline::layout::PREPARED_WORDS;
+use outline::layout::STATE_WORDS;
 
 // The answer without its bytes where it does not hold.
 fn stop(v: ConditionValue) -> ConditionValue
@@ -49,8 +51,8 @@ fn both(
     e: &[u8],
     at: usize,
     model: &[u8],
-    state: &[u64],
-    outline: &[u64],
+    state: &[u64; STATE_WORDS],
+    outline: &[u64; PREPARED_WORDS],
     depth: usize,
 ) -> ConditionValue
     ensures { λ r. ⌜ r ≡ stopped (connectiveAt false depth (environment (now (model .entry)) (now (state .entry)) (now (outline .entry))) (drop at (now (e .entry)))) ⌝ }
@@ -72,8 +74,8 @@ fn test_from(
     e: &[u8],
     at: usize,
     model: &[u8],
-    state: &[u64],
-    outline: &[u64],
+    state: &[u64; STATE_WORDS],
+    outline: &[u64; PREPARED_WORDS],
     depth: usize,
 ) -> ConditionValue
     ensures { λ r. ⌜ r ≡ stopped (runCondition depth (environment (now (model .entry)) (now (state .entry)) (now (outline .entry))) (drop at (now (e .entry)))) ⌝ }
@@ -91,7 +93,13 @@ fn test_from(
 }
 
 // Whether the condition at the front holds, tested no further than it must; one that is no conjunction costs one call.
-pub fn test(e: &[u8], model: &[u8], state: &[u64], outline: &[u64], depth: usize) -> ConditionValue
+pub fn test(
+    e: &[u8],
+    model: &[u8],
+    state: &[u64; STATE_WORDS],
+    outline: &[u64; PREPARED_WORDS],
+    depth: usize,
+) -> ConditionValue
     ensures run { λ r. ⌜ r ≡ stopped (runCondition depth (environment (now (model .entry)) (now (state .entry)) (now (outline .entry))) (now (e .entry))) ⌝ }
     ensures promise { λ r. ⌜ TestPromise depth (environment (now (model .entry)) (now (state .entry)) (now (outline .entry))) (now (e .entry)) r ⌝ }
 {

@@ -1,6 +1,6 @@
 -- The numbers that document 01 fixes: refusals and sizes, each said once.
 -- docs/FORMAT.md, "Sizes", "Refusals by the input" and "Refusals by the state".
-use Prim.Native.Nat.{ℕ, _^_}
+use Prim.Native.Nat.{ℕ, _*_, _^_}
 
 -- ---- refused by the input
 
@@ -94,4 +94,4 @@ rangeEnd = 2 ^ 31
 
 -- how many numbers lie in it: twice the end
 abbrev pub rangeSize : ℕ
-rangeSize = 2 ^ 32
+rangeSize = 2 * rangeEnd

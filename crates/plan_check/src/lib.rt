@@ -3,6 +3,7 @@
 ghost use Rattle.model.specs.Check as plans;
 ghost use Rattle.steps.specs.Follow.{CheckedIs};
 use model::length_fits;
+use outline::layout::PREPARED_WORDS;
 use prepare::read_and_prepare;
 use steps::answers::Checked;
 use steps::check::follow;
@@ -18,7 +19,7 @@ pub fn check(model: &[u8], plan: &[u8]) -> Checked
         if MOST_STEPS < plan.len() {
             return Checked { answer: 2, cost: 0 };
         }
-        let mut outline = [0u64; 2601];
+        let mut outline = [0u64; PREPARED_WORDS];
         let refusal = read_and_prepare(model, &mut outline);
         if refusal == 0 {
             return follow(model, &outline, plan);

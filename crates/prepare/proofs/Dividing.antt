@@ -20,7 +20,7 @@ use Rattle.eval_sets.proofs.Reading.{of-read}
 use Rattle.eval_sets.proofs.Spans.{condition-ends, ends-span}
 use Rattle.prepare.specs.Layout.{conjunctsFrom, conjunctCountAt, mostConjuncts}
 use Rattle.prepare.specs.Prepared.{ConjunctAt}
-use Rattle.prepare.specs.Steps.{Kept, Room, Parted, Parting, PartedMore, ConjunctPut, ConjunctsPut, Put}
+use Rattle.prepare.specs.Promised.{Kept, Room, Parted, Parting, PartedMore, ConjunctPut, ConjunctsPut, Put}
 use Rattle.prepare.proofs.Connectives.{both-parts}
 use Rattle.prepare.proofs.Items.{item-at}
 use Rattle.prepare.proofs.Guarding.{condition-inside}

@@ -25,7 +25,7 @@ use Rattle.outline.specs.Outline.{modelOf}
 use Rattle.prepare.specs.declared.guards.Guard.{Guard}
 use Rattle.prepare.specs.declared.tests.Test.{Test}
 use Rattle.prepare.specs.Guards.{passes}
-use Rattle.prepare.specs.Steps.{TestSays, TestWithin, Joins, GuardSays}
+use Rattle.prepare.specs.Promised.{TestSays, TestWithin, Joins, GuardSays}
 use Rattle.prepare.proofs.Bits.{joined-tests, joined-within}
 use Rattle.prepare.proofs.Starts.{starts-with, clash}
 use Rattle.prepare.proofs.Tails.{transition-behind}

@@ -13,7 +13,7 @@ use Rattle.laws.proofs.Lists.{found-below}
 use Rattle.outline.specs.Outline.{outlineWords, ruleAt, variableCountAt, tableCountAt, transitionCountAt, baseCaseCountAt, constraintCountAt, boundCountAt, kindsFrom, preferencesFrom, startsFrom, tablesFrom, transitionsFrom, baseCasesFrom, constraintsFrom, boundsFrom, VariableAt, Items, Outlines}
 use Rattle.prepare.specs.declared.guards.Guard.{Guard}
 use Rattle.prepare.specs.Guards.{guardIn}
-use Rattle.prepare.specs.Steps.{Kept, Room, Put}
+use Rattle.prepare.specs.Promised.{Kept, Room, Put}
 
 pub kept-all : (end : ℕ) (words : List ℕ) → Kept end words words
 kept-all end words = record { words = λ i h. refl; same = refl }

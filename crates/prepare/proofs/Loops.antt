@@ -19,7 +19,7 @@ use Rattle.prepare.specs.declared.guards.Guard.{Guard}
 use Rattle.prepare.specs.Guards.{guardIn}
 use Rattle.prepare.specs.Layout.{masksFrom, placesFrom, guardsFrom, conjunctsFrom}
 use Rattle.prepare.specs.Prepared.{comparedMask, hashedMask, MasksAt, PlaceAt, TransitionAt, Prepared}
-use Rattle.prepare.specs.Steps.{Kept, Put, Room, GuardSays, MaskPut, MasksPut, PlacePut, PlacesPut, GuardsPut, ConjunctsPut}
+use Rattle.prepare.specs.Promised.{Kept, Put, Room, GuardSays, MaskPut, MasksPut, PlacePut, PlacesPut, GuardsPut, ConjunctsPut}
 use Rattle.prepare.proofs.Kept.{kept-all, kept-fewer, kept-both, guard-kept, room-kept}
 
 -- what holds of each number before v, and of v

@@ -13,7 +13,7 @@ use Rattle.words.specs.States.{stateOf}
 use Rattle.outline.specs.Outline.{modelOf}
 use Rattle.prepare.specs.declared.tests.Test.{Test}
 use Rattle.prepare.specs.Guards.{passes}
-use Rattle.prepare.specs.Steps.{TestSays, ConjunctSays}
+use Rattle.prepare.specs.Promised.{TestSays, ConjunctSays}
 use Rattle.prepare.proofs.Connectives.{either-parts, negation-part}
 use Rattle.prepare.proofs.Guarding.{guard, passes-all, condition-inside}
 

@@ -28,24 +28,24 @@ use Rattle.eval_sets.proofs.Promises.{run-condition}
 use Rattle.eval_sets.proofs.Slices.{first-at}
 use Rattle.prepare.specs.declared.tests.Test.{Test}
 use Rattle.prepare.specs.Forms.{MemberForm, MissingForm}
-use Rattle.prepare.specs.Steps.{TestSays}
+use Rattle.prepare.specs.Promised.{TestSays}
 use Rattle.prepare.proofs.Bits.{member-test, missing-test}
 
 -- ---- runs
 
-element-literal : (ws e : List ℕ) → 2 ≤ length e → getD e 0 0 ≡ 0x30 → runElement ws e ≡ elementAnswer (getD e 1 0 % mostObjects) 2
+pub element-literal : (ws e : List ℕ) → 2 ≤ length e → getD e 0 0 ≡ 0x30 → runElement ws e ≡ elementAnswer (getD e 1 0 % mostObjects) 2
 unfolding runElement elementOf
 element-literal ws e l b = simp (b, le-ltb (length e) 2 l)
 
-module _ (ws os bytes : List ℕ) where
-  some-behind : (at n : ℕ) → at + 1 + n ≤ length bytes → n ≤ length (drop (at + 1) bytes)
-  some-behind at n l = rw (length-drop (at + 1) bytes) (omega arith)
+pub some-behind : (bytes : List ℕ) (at n : ℕ) → at + 1 + n ≤ length bytes → n ≤ length (drop (at + 1) bytes)
+some-behind bytes at n l = rw (length-drop (at + 1) bytes) (omega arith)
 
+module _ (ws os bytes : List ℕ) where
   -- 41 v
   variable-run : (d at v : ℕ) → (d ≡ 0 → ⊥) → at + 2 ≤ length bytes → getD bytes at 0 ≡ 0x41 → getD bytes (at + 1) 0 ≡ v → runSet d ws os (drop at bytes) ≡ setAnswer (getD ws v 0) (objectsIn os v) 2
   unfolding setForm setBehind
   variable-run d at v some l b e =
-      let there = some-behind at 1 (omega arith) in
+      let there = some-behind bytes at 1 (omega arith) in
       let is : getD (drop (at + 1) bytes) 0 0 ≡ v = sym (first-at (at + 1) bytes) ∙ e in
       set-opens ws os .opened d at bytes some (omega arith) b
       ∙ ap (setPast 1) (variable-some ws os (drop (at + 1) bytes) (λ z. absurd (omega arith)) ∙ ap (λ (u : ℕ). setAnswer (getD ws u 0) (objectsIn os u) 1) is)
@@ -57,7 +57,7 @@ module _ (ws os bytes : List ℕ) where
   literal-run d at s some l b h =
       let two-on : at + 1 + 1 ≡ at + 2 = omega arith in
       let members : word 8 (drop 1 (drop (at + 1) bytes)) ≡ read s 8 = rw (drop-drop 1 (at + 1) bytes, two-on) h in
-      set-opens ws os .opened d at bytes some (omega arith) b ∙ ap (setPast 1) (literal-is (drop (at + 1) bytes) s (some-behind at 9 (omega arith)) members)
+      set-opens ws os .opened d at bytes some (omega arith) b ∙ ap (setPast 1) (literal-is (drop (at + 1) bytes) s (some-behind bytes at 9 (omega arith)) members)
 
 module _ (p : Environment) (bytes : List ℕ) (at : ℕ) where
   -- 54 30 k 41 v
@@ -67,7 +67,7 @@ module _ (p : Environment) (bytes : List ℕ) (at : ℕ) where
       let ws = p .state in
       let os = p .outline in
       let object : runElement ws (drop (at + 1) bytes) ≡ elementAnswer (getD (drop (at + 1) bytes) 1 0 % mostObjects) 2 =
-      element-literal ws (drop (at + 1) bytes) (some-behind ws os bytes at 2 (omega (arith, f .inside))) (sym (first-at (at + 1) bytes) ∙ f .object) in
+      element-literal ws (drop (at + 1) bytes) (some-behind bytes at 2 (omega (arith, f .inside))) (sym (first-at (at + 1) bytes) ∙ f .object) in
       let k : getD (drop (at + 1) bytes) 1 0 ≡ getD bytes (at + 2) 0 = getD-drop (at + 1) bytes 1 0 ∙ ap (λ (i : ℕ). getD bytes i 0) (behind-one 1) in
       let third : drop 2 (drop (at + 1) bytes) ≡ drop (at + 3) bytes = drop-drop 2 (at + 1) bytes ∙ ap (λ (i : ℕ). drop i bytes) (behind-one 2) in
       let set : runSet 31 ws os (drop 2 (drop (at + 1) bytes)) ≡ setAnswer (getD ws v 0) (objectsIn os v) 2 =
@@ -111,7 +111,7 @@ module _ (p : Environment) (bytes : List ℕ) (at : ℕ) where
 
 -- ---- values
 
-holds-value : (v : Value Bool) (n : ℕ) {b : Bool} {k : ℕ} → conditionAnswer v n ≡ C.Holds b k → (v ≡ value b) × (n ≡ k)
+pub holds-value : (v : Value Bool) (n : ℕ) {b : Bool} {k : ℕ} → conditionAnswer v n ≡ C.Holds b k → (v ≡ value b) × (n ≡ k)
 unfolding conditionAnswer
 holds-value (value b) n e = (cc, cc)
 holds-value (trouble t) n e = let z : _≡_ {A = ℕ} 0 1 = cc in absurd (omega arith)

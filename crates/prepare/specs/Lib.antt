@@ -3,4 +3,4 @@ pub mod Layout
 pub mod Forms
 pub mod Guards
 pub mod Prepared
-pub mod Steps
+pub mod Promised

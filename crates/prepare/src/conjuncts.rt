@@ -8,19 +8,19 @@ ghost use lib.ListN.{length, getD};
 ghost use Rattle.outline.specs.Outline.{modelOf};
 ghost use Rattle.prepare.specs.Guards.{guardIn};
 ghost use Rattle.prepare.specs.Layout.{mostConjuncts, conjunctsFrom};
-ghost use Rattle.prepare.specs.Steps.{ConjunctSays, ConjunctsPut, Kept, Room, Parting, PartedMore, ConjunctPut};
+ghost use Rattle.prepare.specs.Promised.{ConjunctSays, ConjunctsPut, Kept, Room, Parting, PartedMore, ConjunctPut};
 use crate::guards::Guard;
 use crate::guards::put_guard;
-use crate::layout::CONJUNCT_COUNT;
-use crate::layout::CONJUNCTS;
-use crate::layout::MOST_CONJUNCTS;
 use crate::tests::test_at;
 use crate::writing::put;
 use eval_sets::bytes::after;
 use eval_sets::bytes::skip;
 use laws::byte_at;
+use outline::layout::CONJUNCT_COUNT;
+use outline::layout::CONJUNCTS;
 use outline::layout::CONSTRAINT_COUNT;
 use outline::layout::CONSTRAINTS;
+use outline::layout::MOST_CONJUNCTS;
 use outline::word_at;
 
 // The guard of the condition at a place: of 59 57 and a test, the test, and the second part behind it.

@@ -3,7 +3,6 @@
 
 pub mod conjuncts;
 pub mod guards;
-pub mod layout;
 pub mod masks;
 pub mod places;
 pub mod tests;
@@ -17,7 +16,7 @@ ghost use Rattle.model.specs.Commands as commands;
 ghost use Rattle.outline.specs.Outline.{modelOf, refusalOf};
 ghost use Rattle.prepare.specs.Layout.{preparedWords};
 ghost use Rattle.prepare.specs.Prepared.{Prepared};
-ghost use Rattle.prepare.specs.Steps.{Room, Ready};
+ghost use Rattle.prepare.specs.Promised.{Room, Ready};
 use crate::conjuncts::conjuncts;
 use crate::guards::guards;
 use crate::masks::masks;

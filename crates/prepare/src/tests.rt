@@ -2,7 +2,7 @@
 
 ghost use mathlib.Core.Path.{_≡_};
 ghost use mathlib.Core.Bool.{true};
-ghost use Rattle.prepare.specs.Steps.{TestSays, TestWithin};
+ghost use Rattle.prepare.specs.Promised.{TestSays, TestWithin};
 ghost use Rattle.prepare.specs.Forms.{MemberForm, MissingForm};
 use eval_sets::bytes::after;
 use laws::byte_at;

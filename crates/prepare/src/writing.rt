@@ -2,7 +2,7 @@
 
 ghost use Prim.Native.Nat.{_+_, _≤_};
 ghost use lib.ListN.{length};
-ghost use Rattle.prepare.specs.Steps.{Put};
+ghost use Rattle.prepare.specs.Promised.{Put};
 use laws::copy_words;
 
 // Puts words from a place on.

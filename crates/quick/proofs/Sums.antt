@@ -11,7 +11,7 @@ use lib.IntN.{ℤ, pos, _+ℤ_, _-ℤ_}
 use lib.Signed.{mag, leZ}
 use borrow.Author.Tests.{ltb-true, lt-ltb, le-ltb}
 use Rattle.model.specs.Numbers.{rangeEnd, rangeSize, mostNesting, mostObjects}
-use Rattle.model.specs.Values.{Value, value, trouble, inRange}
+use Rattle.model.specs.Values.{Value, value, inRange}
 use Rattle.model.specs.Values.{_>>=_ as _andThen_}
 use Rattle.model.specs.Readers.{read, integer}
 use Rattle.model.specs.Syntax.{Condition}
@@ -27,7 +27,7 @@ use Rattle.eval_sets.proofs.Opening.{number-variable-some, entry-some, number-o
 use Rattle.eval_sets.proofs.Parts.{parts, elements-are, number-past, condition-past, pair-is, test-is}
 use Rattle.eval_sets.proofs.Promises.{run-condition}
 use Rattle.eval_sets.proofs.Slices.{first-at}
-use Rattle.prepare.proofs.Tested.{outline-describes}
+use Rattle.prepare.proofs.Tested.{element-literal, some-behind, holds-value, outline-describes}
 use Rattle.quick.specs.Quick.{SumForm, variableIn, entryIn, SumIs, decided, Told, QuickSays}
 
 fits-value : (z : ℤ) → mag z < rangeEnd → fits z ≡ value z
@@ -35,15 +35,12 @@ unfolding inRange
 fits-value z l = rw (lt-ltb (mag z) rangeEnd l)
 
 module _ (p : Environment) (bytes : List ℕ) where
-  some-behind : (at n : ℕ) → at + 1 + n ≤ length bytes → n ≤ length (drop (at + 1) bytes)
-  some-behind at n l = rw (length-drop (at + 1) bytes) (omega arith)
-
   -- 21 v
   variable-run : (d at : ℕ) → (d ≡ 0 → ⊥) → at + 2 ≤ length bytes → getD bytes at 0 ≡ 0x21
       → runNumber d p (drop at bytes) ≡ numberAnswer (fits (pos (getD (p .state) (getD bytes (at + 1) 0) 0 % rangeSize) -ℤ pos rangeEnd)) 2
   unfolding numberForm numberAt numberBehind
   variable-run d at some l b =
-      let there = some-behind at 1 (omega arith) in
+      let there = some-behind bytes at 1 (omega arith) in
       number-opens p .opened d at bytes some (omega arith) b
       ∙ ap (numberPast 1) (number-variable-some (p .state) (drop (at + 1) bytes) (λ z. absurd (omega arith)))
       ∙ number-past _ 1 1
@@ -54,17 +51,13 @@ module _ (p : Environment) (bytes : List ℕ) where
   unfolding numberForm numberAt numberBehind literalNumber literalValue
   literal-run d at c some l b h =
       number-opens p .opened d at bytes some (omega arith) b
-      ∙ ap (numberPast 1) (rw (le-ltb (length (drop (at + 1) bytes)) 4 (some-behind at 4 (omega arith)), h))
+      ∙ ap (numberPast 1) (rw (le-ltb (length (drop (at + 1) bytes)) 4 (some-behind bytes at 4 (omega arith)), h))
       ∙ number-past (fits c) 1 4
 
-  -- 31 u and 30 k
+  -- 31 u
   element-variable : (e : List ℕ) → 2 ≤ length e → getD e 0 0 ≡ 0x31 → runElement (p .state) e ≡ elementAnswer (getD (p .state) (getD e 1 0) 0 % mostObjects) 2
   unfolding runElement elementOf
   element-variable e l b = simp (b, le-ltb (length e) 2 l)
-
-  element-literal : (e : List ℕ) → 2 ≤ length e → getD e 0 0 ≡ 0x30 → runElement (p .state) e ≡ elementAnswer (getD e 1 0 % mostObjects) 2
-  unfolding runElement elementOf
-  element-literal e l b = simp (b, le-ltb (length e) 2 l)
 
   -- 28 t 31 u 30 k
   entry-run : (d at : ℕ) → (d ≡ 0 → ⊥) → at + 6 ≤ length bytes → getD bytes at 0 ≡ 0x28 → getD bytes (at + 2) 0 ≡ 0x31 → getD bytes (at + 4) 0 ≡ 0x30
@@ -80,7 +73,7 @@ module _ (p : Environment) (bytes : List ℕ) where
       let row : runElement (p .state) (drop (at + 2) bytes) ≡ elementAnswer (getD (p .state) (getD bytes (at + 3) 0) 0 % mostObjects) 2 =
       element-variable (drop (at + 2) bytes) (omega (arith, long2, l)) (sym (first-at (at + 2) bytes) ∙ r) ∙ ap (λ (i : ℕ). elementAnswer (getD (p .state) i 0 % mostObjects) 2) (getD-drop (at + 2) bytes 1 0 ∙ ap (λ (i : ℕ). getD bytes i 0) (on-two 1)) in
       let column : runElement (p .state) (drop 2 (drop (at + 2) bytes)) ≡ elementAnswer (getD bytes (at + 5) 0 % mostObjects) 2 =
-      ap (runElement (p .state)) four-on ∙ element-literal (drop (at + 4) bytes) (omega (arith, long4, l)) (sym (first-at (at + 4) bytes) ∙ c) ∙ ap (λ (i : ℕ). elementAnswer (i % mostObjects) 2) (getD-drop (at + 4) bytes 1 0 ∙ ap (λ (i : ℕ). getD bytes i 0) (on-four 1)) in
+      ap (runElement (p .state)) four-on ∙ element-literal (p .state) (drop (at + 4) bytes) (omega (arith, long4, l)) (sym (first-at (at + 4) bytes) ∙ c) ∙ ap (λ (i : ℕ). elementAnswer (i % mostObjects) 2) (getD-drop (at + 4) bytes 1 0 ∙ ap (λ (i : ℕ). getD bytes i 0) (on-four 1)) in
       let both : twoElements (p .state) (drop 1 e) ≡ parts (getD (p .state) (getD bytes (at + 3) 0) 0 % mostObjects) (getD bytes (at + 5) 0 % mostObjects) 0 4 =
       ap (twoElements (p .state)) two-on ∙ elements-are (p .state) (λ f. noSet) (drop (at + 2) bytes) _ _ _ _ row column in
       let value-of : entryNumber (p .model) (p .state) (p .outline) e ≡ numberAnswer (fits (entryOf (p .model) (tableIn (p .outline) (getD bytes (at + 1) 0)) (getD (p .state) (getD bytes (at + 3) 0) 0 % mostObjects) (getD bytes (at + 5) 0 % mostObjects))) 5 =
@@ -134,11 +127,6 @@ module _ (p : Environment) (bytes : List ℕ) where
 
 -- ---- the value
 
-holds-value : (v : Value Bool) (n : ℕ) (b : Bool) (k : ℕ) → conditionAnswer v n ≡ conditionAnswer (value b) k → v ≡ value b
-unfolding conditionAnswer
-holds-value (value a) n b k e = cc
-holds-value (trouble t) n b k e = let z : _≡_ {A = ℕ} 0 1 = cc in absurd (omega arith)
-
 module _ (bytes : List ℕ) (at : ℕ) (words state : List ℕ) (z c : ℤ) where
   -- in range, the sum is compared
   summed-up : SumIs bytes at words state z → mag z < rangeEnd → mag c < rangeEnd
@@ -150,6 +138,7 @@ module _ (bytes : List ℕ) (at : ℕ) (words state : List ℕ) (z c : ℤ) wher
   module _ (f : SumForm bytes at) (s : SumIs bytes at words state z) (h : integer (drop (at + 11) bytes) ≡ read c 4) (k : mag c < rangeEnd) where
     value-is : mag z < rangeEnd → (x : Condition) (n : ℕ) → Outlines bytes words (modelOf bytes) → condition (modelOf bytes .variables) (modelOf bytes .tables) mostNesting (drop at bytes) ≡ read x n
         → conditionValue rangeEnd (modelOf bytes .tables) x (stateOf (modelOf bytes .variables) state) ≡ value (leZ z c)
+    unfolding conditionAnswer
     value-is l x n o reads =
         let p = environment bytes state words in
         let first : runNumber 30 p (drop (at + 2) bytes) ≡ numberAnswer (fits (variableIn bytes at state)) 2 =
@@ -157,8 +146,9 @@ module _ (bytes : List ℕ) (at : ℕ) (words state : List ℕ) (z c : ℤ) wher
         let second : runNumber 30 p (drop (at + 4) bytes) ≡ numberAnswer (fits (entryIn bytes at words state)) 6 =
         entry-run p bytes 30 (at + 4) (λ e. absurd (omega arith)) (omega (arith, f .inside)) (f .entry) (ap (λ (i : ℕ). getD bytes i 0) (on-four 2) ∙ f .row) (ap (λ (i : ℕ). getD bytes i 0) (on-four 4) ∙ f .column)
         ∙ rw (on-four 1, on-four 3, on-four 5) in
-        holds-value _ n (leZ z c) 15
+        holds-value _ n
         (sym (run-condition mostNesting p (drop at bytes) _ _ x n (outline-describes state o) reads) ∙ whole-run p bytes at c f h _ _ first second ∙ ap (λ (v : Value Bool). conditionAnswer v 15) (summed-up s l k))
+        .0
       where
         on-two : (i : ℕ) → at + 2 + i ≡ at + (2 + i)
         on-two i = omega arith

@@ -8,6 +8,8 @@ ghost use Rattle.quick.specs.Quick.{QuickSays, SumForm, SumIs, decided a
 use eval_sets::bytes::after;
 use laws::byte_at;
 use laws::wide;
+use outline::layout::PREPARED_WORDS;
+use outline::layout::STATE_WORDS;
 use outline::layout::TABLES;
 use outline::word_at;
 use words::arithmetic::in_range;
@@ -47,7 +49,12 @@ fn is_sum(model: &[u8], at: usize) -> bool
 }
 
 // The number variable and the table's entry together.
-fn summed(model: &[u8], at: usize, outline: &[u64], state: &[u64]) -> i64
+fn summed(
+    model: &[u8],
+    at: usize,
+    outline: &[u64; PREPARED_WORDS],
+    state: &[u64; STATE_WORDS],
+) -> i64
     requires { ⌜ at + 15 ≤ length (now model) ⌝ }
     ensures { λ r. ⌜ SumIs (now (model .entry)) at (now (outline .entry)) (now (state .entry)) r ⌝ }
 {
@@ -73,7 +80,12 @@ fn decided(z: i64, c: i64) -> u8
 }
 
 // Whether the condition at a place holds, 1 or 0; SILENT where this does not decide it.
-pub fn condition(model: &[u8], at: usize, outline: &[u64], state: &[u64]) -> u8
+pub fn condition(
+    model: &[u8],
+    at: usize,
+    outline: &[u64; PREPARED_WORDS],
+    state: &[u64; STATE_WORDS],
+) -> u8
     ensures { λ r. ⌜ QuickSays (now (model .entry)) at (now (outline .entry)) (now (state .entry)) r ⌝ }
 {
     if is_sum(model, at) {

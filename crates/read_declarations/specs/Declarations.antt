@@ -3,7 +3,7 @@ use Prim.Native.Nat.{ℕ, _≤_}
 use mathlib.Core.Path.{_≡_}
 use mathlib.Core.List.{List, map}
 use lib.ListN.{length, getD, take}
-use Rattle.model.specs.Numbers.{mostVariables, mostTables}
+use Rattle.model.specs.Numbers.{mostModelBytes, mostVariables, mostTables}
 use lib.IntN.{ℤ}
 use Rattle.model.specs.Readers.{Read, read, refused, Reader, _>>_, integer, command}
 use Rattle.model.specs.Syntax.{Variable, Table}
@@ -76,6 +76,13 @@ pub record TablesRead (bytes : List ℕ) (x : Read (List Table)) (rows columns w
 abbrev pub TablesTold : List ℕ → Read (List Table) → (rows columns words : List ℕ) → Listed → Type 0
 TablesTold bytes x rows columns words (L.Items end n) = TablesRead bytes x rows columns words end n
 TablesTold bytes x rows columns words (L.Refused t) = x ≡ refused t
+
+-- what the reader of tables needs: a model that is not too long, and room for the sides and the word of each table
+pub record TablesRoom (bytes rows columns words : List ℕ) : Type 0 where
+  pub short : length bytes ≤ mostModelBytes
+  pub rows-long : length rows ≡ mostTables
+  pub columns-long : length columns ≡ mostTables
+  pub words-long : length words ≡ mostTables
 
 abbrev pub TablesAs : (bytes : List ℕ) (start : ℕ) (rows columns words : List ℕ) → Listed → Type 0
 TablesAs bytes start rows columns words r = (length rows ≡ 32) × (length columns ≡ 32) × (length words ≡ 32) × TablesTold bytes (readAt tables start bytes) rows columns words r

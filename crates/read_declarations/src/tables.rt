@@ -7,7 +7,7 @@ ghost use Rattle.model.specs.Numbers.{mostModelBytes};
 ghost use Rattle.model.specs.Commands as commands;
 ghost use Rattle.words.specs.Tables.{tableWord};
 ghost use Rattle.read_declarations.specs.Positions.{readAt, positionOf};
-ghost use Rattle.read_declarations.specs.Declarations.{sidesOf, oneEntry, TablesAs};
+ghost use Rattle.read_declarations.specs.Declarations.{sidesOf, oneEntry, TablesRoom, TablesAs};
 use crate::Listed;
 use crate::MOST_TABLES;
 use crate::Position;
@@ -91,7 +91,7 @@ pub fn tables(
     columns: &mut [u8],
     words: &mut [u64],
 ) -> Listed
-    requires { ⌜ (length (now model) ≤ mostModelBytes) × (length (now rows) ≡ 32) × (length (now columns) ≡ 32) × (length (now words) ≡ 32) ⌝ }
+    requires { ⌜ TablesRoom (now model) (now rows) (now columns) (now words) ⌝ }
     ensures { λ r. ⌜ TablesAs (now (model .entry)) start (now (rows .exit)) (now (columns .exit)) (now (words .exit)) r ⌝ }
 {
     let mut at = start;

@@ -8,10 +8,10 @@ use mathlib.Core.List.{List, [], _∷_}
 use mathlib.Core.Option.{Option, none, some}
 use native.Mathlib.Omega.{arith}
 use lib.ListN.{length}
-use lib.Dec.{ltb, leb}
-use borrow.Author.Tests.{leb-true, le-ltb}
+use lib.Dec.{ltb}
+use borrow.Author.Tests.{le-ltb}
 use Rattle.laws.specs.Lists.{isEmpty}
-use Rattle.laws.proofs.Bools.{by-cond, not-both, not-false, and-both}
+use Rattle.laws.proofs.Bools.{by-cond, not-both, not-false}
 use Rattle.model.specs.Numbers.{rangeEnd, modelTooLong, badSetting, tooLittleLent}
 use Rattle.model.specs.Values.{Value, value, trouble}
 use Rattle.model.specs.System.{Costs, CostLaws, System, Origin, base, unfinished}
@@ -22,7 +22,8 @@ use Rattle.model.specs.Steps.{costsOf, systemOf, originOf}
 use Rattle.model.proofs.Costs.{cost-laws}
 use Rattle.search.specs.Answer.{cheapest, noPlan, contradicted, budgetSpent, verdict, Answer}
 use Rattle.search.specs.Search.{Node, Route, Progress, Round, Ending, decided, refused, Stop, belowBest, counted, atLimit, improvedBy, layerEnd, nextLayer, root, freshRound, round, After, again, ended, exhausted, afterRound, tallyOf, answerOf, answer, nextWidth, laterWidths, unlessOver, rounds, refusedAtStart, begin, enter, searchWithin, search}
-use Rattle.search.specs.Run.{Settings, Lent, isWidth, widerUpTo, settingsFit, lentFits, refusedByInput, searchModel, runRead, run}
+use Rattle.search.specs.Run.{Settings, Lent, firstWidth, widerThan, limitOf, settingsFit, lentFits, refusedByInput, searchModel, runRead, run}
+use Rattle.search.proofs.Settings.{form-fits, limit-within}
 use Rattle.search.proofs.Induction.{Point, taking, expanding, Changes, RoundEnd, round-holds}
 use Rattle.search.proofs.Rounds.{AfterHolds, afterRound-holds, atStart}
 use Rattle.search.proofs.Counts.{offer-progress}
@@ -227,18 +228,14 @@ module _ {S C : Type 0} (K : Costs C) (L : CostLaws K) (M : System S C) (o : Ori
 
 -- ---- from bytes
 
-limit-at-least-one : (q : Settings) → settingsFit q ≡ true → 1 ≤ q .limit
-unfolding settingsFit
-limit-at-least-one q e = leb-true 1 (q .limit) (and-both (isWidth (q .widest)) (leb 1 (q .limit)) (and-both _ _ e .0) .1)
-
 module _ (most : ℕ) (bytes : List ℕ) (q : Settings) (l : Lent) where
   -- a run of bytes that are read is the search within any number of rounds above the budget
   pub any-bound-of-run : (m : Model) (n : ℕ) → model bytes ≡ read m n → length bytes ≤ most → settingsFit q ≡ true → lentFits q l ≡ true → (most-rounds : ℕ) → q .budget < most-rounds
-      → run most bytes q l ≡ searchWithin (costsOf (m .rule)) (systemOf rangeEnd m) most-rounds (q .budget) (q .limit) 1 (widerUpTo (q .widest)) (originOf m)
+      → run most bytes q l ≡ searchWithin (costsOf (m .rule)) (systemOf rangeEnd m) most-rounds (q .budget) (limitOf (q .form)) (firstWidth (q .beam)) (widerThan (q .beam)) (originOf m)
   unfolding run runRead searchModel
   any-bound-of-run m n reads few fit enough most-rounds lt =
       rw (le-ltb most (length bytes) few, fit, enough, reads)
-      (sym (any-bound-of-search (costsOf (m .rule)) (cost-laws (m .rule)) (systemOf rangeEnd m) (originOf m) (q .budget) 1 (widerUpTo (q .widest)) most-rounds (q .limit) (limit-at-least-one q fit) lt))
+      (sym (any-bound-of-search (costsOf (m .rule)) (cost-laws (m .rule)) (systemOf rangeEnd m) (originOf m) (q .budget) (firstWidth (q .beam)) (widerThan (q .beam)) most-rounds (limitOf (q .form)) (limit-within (q .form) (form-fits q fit) .0) lt))
 
   input-used : (t : ℕ) → UsedIfSpent (q .budget) (refusedByInput t)
   unfolding refusedByInput
@@ -246,7 +243,7 @@ module _ (most : ℕ) (bytes : List ℕ) (q : Settings) (l : Lent) where
 
   read-used : (x : Read Model) → settingsFit q ≡ true → UsedIfSpent (q .budget) (runRead x q)
   unfolding runRead searchModel
-  read-used (read m n) fit = budget-spent-means-used (costsOf (m .rule)) (cost-laws (m .rule)) (systemOf rangeEnd m) (originOf m) (q .budget) 1 (widerUpTo (q .widest)) (q .limit) (limit-at-least-one q fit)
+  read-used (read m n) fit = budget-spent-means-used (costsOf (m .rule)) (cost-laws (m .rule)) (systemOf rangeEnd m) (originOf m) (q .budget) (firstWidth (q .beam)) (widerThan (q .beam)) (limitOf (q .form)) (limit-within (q .form) (form-fits q fit) .0)
   read-used (unread t) fit = input-used t
 
   -- a run that ends with "budget spent" has made as many expansions as the budget allows

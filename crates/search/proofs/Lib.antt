@@ -3,6 +3,7 @@ pub mod Opened
 pub mod Cases
 pub mod CasesOfRules
 pub mod CasesOfTargets
+pub mod Settings
 pub mod Induction
 pub mod Rounds
 pub mod Invariant

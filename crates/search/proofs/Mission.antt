@@ -4,15 +4,13 @@ use Prim.Native.Nat.{ℕ, _≤_, _<_}
 use mathlib.Core.Path.{_≡_, refl, sym, _∙_, ap, subst}
 use mathlib.Core.Logic.{_↔_}
 use mathlib.Core.Bool.{Bool, true, false, not, false≢true}
-use mathlib.Core.List.{List, [], _∷_, _++_}
+use mathlib.Core.List.{List, [], _++_}
 use native.Mathlib.Omega.{arith}
 use lib.ListN.{length, drop, length-append}
-use lib.Dec.{ltb, eqb}
+use lib.Dec.{ltb}
 use lib.Seq.{take-at}
-use borrow.Author.Tests.{leb-true, le-leb, le-ltb, eqb-true}
-use Rattle.laws.specs.Lists.{All}
+use borrow.Author.Tests.{leb-true, le-leb, le-ltb}
 use Rattle.laws.proofs.Bools.{by-cond, not-false, and-both}
-use Rattle.laws.proofs.Lists.{some-all, any-some}
 use Rattle.model.specs.Numbers.{rangeEnd, mostModelBytes, mostSteps, modelTooLong, badSetting, tooLittleLent, notAPlan}
 use Rattle.model.specs.Values.{Value, value, trouble}
 use Rattle.model.specs.Readers.{Read, read, refused}
@@ -27,10 +25,11 @@ use Rattle.model.proofs.Reading.{model-refusal}
 use Rattle.model.proofs.Troubles.{admits-trouble, status-trouble, move-trouble-before, move-trouble-after, bound-trouble, CheckRefusal, check-numbers}
 use Rattle.model.proofs.PlanCheck.{check-exact, broken-has-no-plan, check-of-broken-target, check-of-target-trouble}
 use Rattle.search.specs.Answer.{Verdict, cheapest, noPlan, widthStop, lengthStop, contradicted, Outcome, verdict, byState, byInput, Answer, bufferAfter, handedBack}
-use Rattle.search.specs.Guarantee.{Stopped, widest, Guarantee}
+use Rattle.search.specs.Guarantee.{Stopped, Guarantee}
 use Rattle.search.specs.Demands.{Ends, with-verdict, by-state, by-input, PlanOf, DeclarationsTrue, LayersFit, Marked, Demands}
 use Rattle.search.specs.Search.{searchWithin}
-use Rattle.search.specs.Run.{Settings, Lent, widerWidths, widerUpTo, settingsFit, lentFits, refusedByInput, searchModel, runRead, run}
+use Rattle.search.specs.Run.{Settings, Lent, firstWidth, widerThan, widestOf, limitOf, settingsFit, lentFits, refusedByInput, searchModel, runRead, run}
+use Rattle.search.proofs.Settings.{beam-fits, widest-is-last}
 use Rattle.search.proofs.Targets.{broken-start, troubled-start}
 use Rattle.search.proofs.Sound.{search-guarantee, steps-within, no-stop-where-fits}
 use Rattle.search.proofs.Refusals.{run-refusal-path}
@@ -51,9 +50,9 @@ search-ends m q (byState t) e =
       of-move-after = λ s t n c lt e. move-trouble-after rangeEnd m s t e;
       of-bound = λ s n e. bound-trouble rangeEnd m s e;
     } in
-    let range = refusals-from-system (costsOf (m .rule)) (systemOf rangeEnd m) (originOf m) (q .budget) (q .limit) 1 (widerUpTo (q .widest)) StateTrouble known t e in
+    let range = refusals-from-system (costsOf (m .rule)) (systemOf rangeEnd m) (originOf m) (q .budget) (limitOf (q .form)) (firstWidth (q .beam)) (widerThan (q .beam)) StateTrouble known t e in
     by-state (range .0) (range .1)
-search-ends m q (byInput t) e = absurd (never-by-input (costsOf (m .rule)) (systemOf rangeEnd m) (originOf m) (q .budget) (q .limit) 1 (widerUpTo (q .widest)) t e)
+search-ends m q (byInput t) e = absurd (never-by-input (costsOf (m .rule)) (systemOf rangeEnd m) (originOf m) (q .budget) (limitOf (q .form)) (firstWidth (q .beam)) (widerThan (q .beam)) t e)
 
 refusal-ends : (t : ℕ) → 1 ≤ t → t ≤ 9 → Ends (refusedByInput t .outcome)
 unfolding refusedByInput
@@ -98,7 +97,7 @@ source-keeps-buffer : {bytes : List ℕ} {q : Settings} {a : Answer ℕ} (buffer
 unfolding refusedByInput bufferAfter searchModel
 source-keeps-buffer buffer (input-refused t) e = refl
 source-keeps-buffer {q = q} buffer {t} (searched m n r) e =
-    absurd (never-by-input (costsOf (m .rule)) (systemOf rangeEnd m) (originOf m) (q .budget) (q .limit) 1 (widerUpTo (q .widest)) t e)
+    absurd (never-by-input (costsOf (m .rule)) (systemOf rangeEnd m) (originOf m) (q .budget) (limitOf (q .form)) (firstWidth (q .beam)) (widerThan (q .beam)) t e)
 
 pub refusal-changes-no-buffer : (most : ℕ) (bytes : List ℕ) (q : Settings) (l : Lent) (buffer : List ℕ) {t : ℕ} → run most bytes q l .outcome ≡ byInput t → bufferAfter (run most bytes q l) buffer ≡ buffer
 refusal-changes-no-buffer most bytes q l buffer e = source-keeps-buffer buffer (run-source most bytes q l) e
@@ -113,7 +112,7 @@ plan-check-exact bytes plan c = check-exact bytes plan c
 source-within-budget : {bytes : List ℕ} {q : Settings} {a : Answer ℕ} → Source bytes q a → a .tally .expansions ≤ q .budget
 unfolding refusedByInput searchModel
 source-within-budget {q = q} (input-refused t) = omega arith
-source-within-budget {q = q} (searched m n r) = expansions-within-budget (costsOf (m .rule)) (systemOf rangeEnd m) (originOf m) (q .budget) (q .limit) 1 (widerUpTo (q .widest))
+source-within-budget {q = q} (searched m n r) = expansions-within-budget (costsOf (m .rule)) (systemOf rangeEnd m) (originOf m) (q .budget) (limitOf (q .form)) (firstWidth (q .beam)) (widerThan (q .beam))
 
 pub expansions-never-pass-budget : (most : ℕ) (bytes : List ℕ) (q : Settings) (l : Lent) → run most bytes q l .tally .expansions ≤ q .budget
 expansions-never-pass-budget most bytes q l = source-within-budget (run-source most bytes q l)
@@ -121,21 +120,21 @@ expansions-never-pass-budget most bytes q l = source-within-budget (run-source m
 -- "The search follows document 01's rules step for step": these set no bound on the rounds. The definition's own is never met, since every one
 -- above the budget gives the same run
 pub rounds-end-by-rules : (most : ℕ) (bytes : List ℕ) (q : Settings) (l : Lent) (m : Model) (n : ℕ) → model bytes ≡ read m n → length bytes ≤ most → settingsFit q ≡ true → lentFits q l ≡ true
-    → (most-rounds : ℕ) → q .budget < most-rounds → run most bytes q l ≡ searchWithin (costsOf (m .rule)) (systemOf rangeEnd m) most-rounds (q .budget) (q .limit) 1 (widerUpTo (q .widest)) (originOf m)
+    → (most-rounds : ℕ) → q .budget < most-rounds → run most bytes q l ≡ searchWithin (costsOf (m .rule)) (systemOf rangeEnd m) most-rounds (q .budget) (limitOf (q .form)) (firstWidth (q .beam)) (widerThan (q .beam)) (originOf m)
 rounds-end-by-rules most bytes q l m n reads few fit enough = any-bound-of-run most bytes q l m n reads few fit enough
 
-plan-lent : (q : Settings) (l : Lent) → lentFits q l ≡ true → q .limit ≤ l .planBytes
+plan-lent : (q : Settings) (l : Lent) → lentFits q l ≡ true → limitOf (q .form) ≤ l .planBytes
 unfolding lentFits
-plan-lent q l e = leb-true (q .limit) (l .planBytes) (and-both _ _ e .0)
+plan-lent q l e = leb-true (limitOf (q .form)) (l .planBytes) (and-both _ _ e .0)
 
 -- the steps in an answer never outnumber the length limit, so L plan bytes are enough
-source-steps-within : {bytes : List ℕ} {q : Settings} {a : Answer ℕ} → Source bytes q a → length (a .steps) ≤ q .limit
+source-steps-within : {bytes : List ℕ} {q : Settings} {a : Answer ℕ} → Source bytes q a → length (a .steps) ≤ limitOf (q .form)
 unfolding refusedByInput searchModel
 source-steps-within {q = q} (input-refused t) = omega arith
 source-steps-within {q = q} (searched m n r) =
-    steps-within (costsOf (m .rule)) (cost-laws (m .rule)) (systemOf rangeEnd m) (dominates-self rangeEnd m) (originOf m) (q .budget) (q .limit) 1 (widerUpTo (q .widest))
+    steps-within (costsOf (m .rule)) (cost-laws (m .rule)) (systemOf rangeEnd m) (dominates-self rangeEnd m) (originOf m) (q .budget) (limitOf (q .form)) (firstWidth (q .beam)) (widerThan (q .beam))
 
-pub steps-never-pass-limit : (most : ℕ) (bytes : List ℕ) (q : Settings) (l : Lent) → length (run most bytes q l .steps) ≤ q .limit
+pub steps-never-pass-limit : (most : ℕ) (bytes : List ℕ) (q : Settings) (l : Lent) → length (run most bytes q l .steps) ≤ limitOf (q .form)
 steps-never-pass-limit most bytes q l = source-steps-within (run-source most bytes q l)
 
 -- nor the plan bytes lent
@@ -157,7 +156,7 @@ plan-handed-back a buffer h =
 -- ---- the guarantee, from bytes
 
 abbrev GuaranteeOf : Model → Settings → Answer ℕ → Type 0
-GuaranteeOf m q a = Guarantee (costsOf (m .rule)) (systemOf rangeEnd m) (originOf m) (q .widest) (q .limit) a
+GuaranteeOf m q a = Guarantee (costsOf (m .rule)) (systemOf rangeEnd m) (originOf m) (widestOf (q .beam)) (limitOf (q .form)) a
 
 no-verdict : {t : ℕ} {v : Verdict} {X : Type 0} → byInput t ≡ verdict v → X
 no-verdict e = let z : _≡_ {A = ℕ} 0 1 = cc in absurd (omega arith)
@@ -179,24 +178,11 @@ refusal-guarantee m q t =
       length-witness = no-verdict;
     }
 
--- the widths 1, 2, 4 up to W end with W
-widest-of-each : All (λ w. widest 1 (widerUpTo w) ≡ w) (1 ∷ widerWidths)
-unfolding widerUpTo Rattle.laws.specs.Lists.filter
-widest-of-each = (refl, (refl, (refl, (refl, (refl, (refl, (refl, (refl, (refl, (refl, (refl, (refl, (refl, tt)))))))))))))
-
-widest-is : (q : Settings) → settingsFit q ≡ true → widest 1 (widerUpTo (q .widest)) ≡ q .widest
-unfolding settingsFit
-widest-is q e =
-    let fits = and-both _ _ e .0 in
-    let listed = and-both _ _ fits .0 in
-    some-all (1 ∷ widerWidths) widest-of-each (any-some (λ w. eqb w (q .widest)) (1 ∷ widerWidths) listed)
-    (λ w same h. subst (λ x. widest 1 (widerUpTo x) ≡ x) (eqb-true w (q .widest) h) same)
-
 search-model-guarantee : (m : Model) (q : Settings) → settingsFit q ≡ true → GuaranteeOf m q (searchModel m q)
 unfolding searchModel
 search-model-guarantee m q e =
-    subst (λ w. Guarantee (costsOf (m .rule)) (systemOf rangeEnd m) (originOf m) w (q .limit) (searchModel m q)) (widest-is q e)
-    (search-guarantee (costsOf (m .rule)) (cost-laws (m .rule)) (systemOf rangeEnd m) (dominates-self rangeEnd m) (originOf m) (q .budget) (q .limit) 1 (widerUpTo (q .widest)))
+    subst (λ w. Guarantee (costsOf (m .rule)) (systemOf rangeEnd m) (originOf m) w (limitOf (q .form)) (searchModel m q)) (widest-is-last (q .beam) (beam-fits q e))
+    (search-guarantee (costsOf (m .rule)) (cost-laws (m .rule)) (systemOf rangeEnd m) (dominates-self rangeEnd m) (originOf m) (q .budget) (limitOf (q .form)) (firstWidth (q .beam)) (widerThan (q .beam)))
 
 module _ (most : ℕ) (bytes : List ℕ) (q : Settings) (l : Lent) (m : Model) (n : ℕ) (reads : model bytes ≡ read m n) where
   read-guarantee : settingsFit q ≡ true → GuaranteeOf m q (runRead (model bytes) q)
@@ -252,7 +238,7 @@ module _ (most : ℕ) (bytes : List ℕ) (q : Settings) (l : Lent) (m : Model) (
   -- "if every layer of the model up to the length limit has at most as many different states as the widest beam, and no unfinished state
   -- lies at the limit, neither the width stop nor the length stop is given"
   pub no-stop-where-layers-fit : LayersFit m q → (run most bytes q l .outcome ≡ verdict widthStop → ⊥) × (run most bytes q l .outcome ≡ verdict lengthStop → ⊥)
-  no-stop-where-layers-fit f = no-stop-where-fits (costsOf (m .rule)) (systemOf rangeEnd m) (originOf m) (q .widest) (q .limit) (run most bytes q l) run-guarantee f
+  no-stop-where-layers-fit f = no-stop-where-fits (costsOf (m .rule)) (systemOf rangeEnd m) (originOf m) (widestOf (q .beam)) (limitOf (q .form)) (run most bytes q l) run-guarantee f
 
   -- all that is said of the model
   run-marked : Marked m q (run most bytes q l)
@@ -296,17 +282,17 @@ module _ (most : ℕ) (bytes : List ℕ) (q : Settings) (l : Lent) (m : Model) (
   unfolding run runRead
   searched-run = rw (le-ltb most (length bytes) few, fit, enough, reads)
 
-  -- "If one fails, the verdict is 1 with no expansion, one round begun, width 1 and bound 0"
+  -- "If one fails, the verdict is 1 with no expansion, one round begun, width 1 and bound 0": the width of round 1
   pub broken-target-has-no-plan : targetAdmitted m ≡ value false
-      → run most bytes q l ≡ record { outcome = verdict noPlan; flag = false; cost = 0; bound = 0; steps = []; tally = record { expansions = 0; rounds = 1; width = 1 } }
+      → run most bytes q l ≡ record { outcome = verdict noPlan; flag = false; cost = 0; bound = 0; steps = []; tally = record { expansions = 0; rounds = 1; width = firstWidth (q .beam) } }
   unfolding searchModel originOf costsOf
-  broken-target-has-no-plan e = searched-run ∙ broken-start (costsOf (m .rule)) (systemOf rangeEnd m) (originOf m) (q .budget) (q .limit) 1 (widerUpTo (q .widest)) e
+  broken-target-has-no-plan e = searched-run ∙ broken-start (costsOf (m .rule)) (systemOf rangeEnd m) (originOf m) (q .budget) (limitOf (q .form)) (firstWidth (q .beam)) (widerThan (q .beam)) e
 
   -- trouble in one: a refusal by the state at the target, its fields the same but for the number
   pub target-trouble-refused : {t : ℕ} → targetAdmitted m ≡ trouble t
-      → run most bytes q l ≡ record { outcome = byState t; flag = false; cost = 0; bound = 0; steps = []; tally = record { expansions = 0; rounds = 1; width = 1 } }
+      → run most bytes q l ≡ record { outcome = byState t; flag = false; cost = 0; bound = 0; steps = []; tally = record { expansions = 0; rounds = 1; width = firstWidth (q .beam) } }
   unfolding searchModel originOf costsOf
-  target-trouble-refused e = searched-run ∙ troubled-start (costsOf (m .rule)) (systemOf rangeEnd m) (originOf m) (q .budget) (q .limit) 1 (widerUpTo (q .widest)) e
+  target-trouble-refused e = searched-run ∙ troubled-start (costsOf (m .rule)) (systemOf rangeEnd m) (originOf m) (q .budget) (limitOf (q .form)) (firstWidth (q .beam)) (widerThan (q .beam)) e
 
   -- the plan buffer stays as it is, with either
   pub broken-target-changes-no-buffer : (buffer : List ℕ) → targetAdmitted m ≡ value false → bufferAfter (run most bytes q l) buffer ≡ buffer

@@ -10,7 +10,7 @@ use Rattle.model.specs.Meaning.{numberValue}
 use Rattle.model.specs.Check.{check, answerNumber, answerCost}
 use Rattle.model.proofs.Opened.{valueRead}
 use Rattle.search.specs.Answer.{Answer, isRefusal, bufferAfter}
-use Rattle.search.specs.Run.{run, fields}
+use Rattle.search.specs.Run.{upTo, plain, run, fields}
 use Rattle.laws.specs.Lists as ofLists
 use Rattle.laws.specs.Hex as ofHex
 use Rattle.model.specs.Values as ofValues
@@ -75,7 +75,7 @@ unfolding ofLists.any ofLists.filter ofLists.isEmpty ofHex.hex ofHex.zeros _bind
     ofSearch.tallyOf ofSearch.answerOf ofSearch.answer ofSearch.nextWidth ofSearch.laterWidths ofSearch.unlessOver ofSearch.rounds ofSearch.untouched ofSearch.refusedAtStart ofSearch.begin ofSearch.enter
     ofSearch.searchWithin ofSearch.search ofRun.widerUpTo ofRun.settingsFit ofRun.wordsNeeded ofRun.lentFits ofRun.refusedByInput ofRun.searchModel ofRun.runRead ofRun.run
     ofRun.fields valueRead told toldCheck
-opened (runOf bytes widest limit budget buffer words) = told (run mostModelBytes bytes (record { widest = widest; limit = limit; budget = budget }) (record { planBytes = length buffer; words = words })) buffer
+opened (runOf bytes widest limit budget buffer words) = told (run mostModelBytes bytes (record { beam = upTo widest; form = plain limit; budget = budget }) (record { planBytes = length buffer; words = words })) buffer
 opened (checkOf bytes plan) = toldCheck (check bytes plan)
 opened (numberOf bytes) = valued (valueRead (ofExpressions.number [] [] mostNesting bytes))
 

@@ -19,7 +19,7 @@ use Rattle.model.proofs.Dominance.{dominates-self}
 use Rattle.search.specs.Answer.{byState, Answer}
 use Rattle.search.specs.Search.{Progress, Ending, decided, refused, answerOf, answer, search}
 use Rattle.search.specs.Guarantee.{widest, TroubleAt}
-use Rattle.search.specs.Run.{Settings, Lent, widerUpTo, settingsFit, lentFits, refusedByInput, searchModel, runRead, run}
+use Rattle.search.specs.Run.{Settings, Lent, firstWidth, widerThan, limitOf, settingsFit, lentFits, refusedByInput, searchModel, runRead, run}
 use Rattle.search.proofs.Rounds.{search-holds}
 use Rattle.search.proofs.Invariant.{Supported, Claim, Justified}
 use Rattle.search.proofs.Sound.{run-kept}
@@ -55,7 +55,7 @@ module _ (most : ℕ) (bytes : List ℕ) (q : Settings) (l : Lent) (m : Model) (
 
   read-path : ToTrouble (runRead (model bytes) q)
   unfolding runRead searchModel
-  read-path = rw reads (λ t e. refusal-path (costsOf (m .rule)) (cost-laws (m .rule)) (systemOf rangeEnd m) (dominates-self rangeEnd m) (originOf m) (q .budget) (q .limit) 1 (widerUpTo (q .widest)) e)
+  read-path = rw reads (λ t e. refusal-path (costsOf (m .rule)) (cost-laws (m .rule)) (systemOf rangeEnd m) (dominates-self rangeEnd m) (originOf m) (q .budget) (limitOf (q .form)) (firstWidth (q .beam)) (widerThan (q .beam)) e)
 
   pub run-refusal-path : {t : ℕ} → run most bytes q l .outcome ≡ byState t → TroubleAt (costsOf (m .rule)) (systemOf rangeEnd m) (originOf m) t (run most bytes q l .steps) (run most bytes q l .cost)
   unfolding run

@@ -12,7 +12,7 @@ use Rattle.model.specs.Commands.{model}
 use Rattle.model.specs.Steps.{target, costsOf, systemOf, originOf}
 use Rattle.search.specs.Answer.{Verdict, cheapest, noPlan, widthStop, lengthStop, budgetSpent, contradicted, Outcome, verdict, byState, byInput, Answer}
 use Rattle.search.specs.Guarantee.{Stopped, TroubleAt, Fits}
-use Rattle.search.specs.Run.{Settings}
+use Rattle.search.specs.Run.{Settings, widestOf, limitOf}
 
 -- how a run may end: a verdict, or one of document 01's refusals
 pub data Ends : Outcome → Type 0 where
@@ -31,7 +31,7 @@ DeclarationsTrue m = TrueDeclarations (costsOf (m .rule)) (systemOf rangeEnd m) 
 -- "every layer of the model up to the length limit has at most as many different states as the widest beam, and no unfinished state
 -- lies at the limit"
 abbrev pub LayersFit : Model → Settings → Type 0
-LayersFit m q = Fits (costsOf (m .rule)) (systemOf rangeEnd m) (originOf m) (q .widest) (q .limit)
+LayersFit m q = Fits (costsOf (m .rule)) (systemOf rangeEnd m) (originOf m) (widestOf (q .beam)) (limitOf (q .form))
 
 -- what the answer to a run of the model m says of that model: demand 3, and the path at a refusal by the state
 pub record Marked (m : Model) (q : Settings) (a : Answer ℕ) : Type 0 where
@@ -61,6 +61,6 @@ pub record Demands (bytes : List ℕ) (q : Settings) (a : Answer ℕ) : Type 0 w
   -- "expanded, unless the budget is used up: verdict 4"
   pub budget-used : a .outcome ≡ verdict budgetSpent → a .tally .expansions ≡ q .budget
   -- the steps never outnumber the length limit
-  pub within-limit : length (a .steps) ≤ q .limit
+  pub within-limit : length (a .steps) ≤ limitOf (q .form)
   -- of the model that the bytes are read as
   pub marked : (m : Model) (n : ℕ) → model bytes ≡ read m n → Marked m q a

@@ -14,9 +14,18 @@ use Rattle.model.specs.Steps.{costsOf, systemOf, originOf}
 use Rattle.search.specs.Answer.{byInput, Answer, outcomeNumber}
 use Rattle.search.specs.Search.{search}
 
+-- the widths that rounds may have: "1, 2, 4 up to W"
+pub data Beam : Type 0 where
+  upTo : (widest : ℕ) → Beam
+
+-- how far a run goes: "length L"
+pub data Form : Type 0 where
+  plain : (limit : ℕ) → Form
+
+-- the settings of a run
 pub record Settings : Type 0 where
-  pub widest : ℕ
-  pub limit : ℕ
+  pub beam : Beam
+  pub form : Form
   pub budget : ℕ
 
 -- how much the caller lends
@@ -35,23 +44,44 @@ widerUpTo widest = filter (λ w. leb w widest) widerWidths
 abbrev pub isWidth : ℕ → Bool
 isWidth widest = any (λ w. eqb w widest) (1 ∷ widerWidths)
 
--- "widest beam W, a power of two, 1..4,096; length L, 1..256"
+-- the width of round 1, those behind it, and the widest
+abbrev pub firstWidth : Beam → ℕ
+firstWidth (upTo widest) = 1
+
+abbrev pub widerThan : Beam → List ℕ
+widerThan (upTo widest) = widerUpTo widest
+
+abbrev pub widestOf : Beam → ℕ
+widestOf (upTo widest) = widest
+
+-- the steps that a plan may have
+abbrev pub limitOf : Form → ℕ
+limitOf (plain limit) = limit
+
+-- "widest beam W, a power of two, 1..4,096"
+abbrev pub beamFits : Beam → Bool
+beamFits (upTo widest) = isWidth widest
+
+-- "length L, 1..256"
+abbrev pub formFits : Form → Bool
+formFits (plain limit) = leb 1 limit && leb limit mostSteps
+
 unfoldable pub settingsFit : Settings → Bool
-settingsFit q = isWidth (q .widest) && leb 1 (q .limit) && leb (q .limit) mostSteps
+settingsFit q = beamFits (q .beam) && formFits (q .form)
 
 -- "The caller lends at least L plan bytes and 64 × W + W × (L + 1) working words"
 unfoldable pub wordsNeeded : Settings → ℕ
-wordsNeeded q = 64 * q .widest + q .widest * (q .limit + 1)
+wordsNeeded q = 64 * widestOf (q .beam) + widestOf (q .beam) * (limitOf (q .form) + 1)
 
 unfoldable pub lentFits : Settings → Lent → Bool
-lentFits q l = leb (q .limit) (l .planBytes) && leb (wordsNeeded q) (l .words)
+lentFits q l = leb (limitOf (q .form)) (l .planBytes) && leb (wordsNeeded q) (l .words)
 
 -- "All other answer fields 0"
 unfoldable pub refusedByInput : ℕ → Answer ℕ
 refusedByInput t = record { outcome = byInput t; flag = false; cost = 0; bound = 0; steps = []; tally = record { expansions = 0; rounds = 0; width = 0 } }
 
 unfoldable pub searchModel : Model → Settings → Answer ℕ
-searchModel m q = search (costsOf (m .rule)) (systemOf rangeEnd m) (q .budget) (q .limit) 1 (widerUpTo (q .widest)) (originOf m)
+searchModel m q = search (costsOf (m .rule)) (systemOf rangeEnd m) (q .budget) (limitOf (q .form)) (firstWidth (q .beam)) (widerThan (q .beam)) (originOf m)
 
 unfoldable pub runRead : Read Model → Settings → Answer ℕ
 runRead (read m n) q = searchModel m q

@@ -1,5 +1,5 @@
 -- A transition tried in a node, or all of them: the answer's meaning, and how the layer in the making goes on by rules 4 and 5.
-use Prim.Native.Nat.{ℕ, _<_}
+use Prim.Native.Nat.{ℕ, _^_, _<_}
 use mathlib.Core.Path.{_≡_}
 use mathlib.Core.Bool.{Bool, true, false, cond}
 use mathlib.Core.List.{List, _∷_}
@@ -7,23 +7,25 @@ use mathlib.Core.Option.{Option, none, some}
 use lib.Dec.{ltb}
 use Rattle.model.specs.Meaning.{State}
 use Rattle.search.specs.Search.{Node, Route, Round, refused, Result, on, over, offer, bounded, tried, expand}
-use Rattle.steps.specs.InBytes.{stateIn, systemIn}
+use Rattle.steps.specs.InBytes.{Outlined, stateIn, systemIn}
 use Rattle.steps.specs.Follow.{costsIn}
-use Rattle.beam.specs.Nodes.{nodeOf, nodeAt}
+use Rattle.beam.specs.Nodes.{nodeOf}
 use Rattle.beam.specs.Layers.{nodesOf, Indexed, roundWith}
 use Rattle.beam.specs.declared.layer.Inserted.{Inserted}
+use Rattle.search_expansion.specs.declared.trials.Best.{Best}
+use Rattle.search_expansion.specs.declared.trials.Parent.{Parent}
 use Rattle.search_expansion.specs.declared.trials.Trial.{Trial}
 use Rattle.search_expansion.specs.declared.trials.Trial.the-variants as T
 use Rattle.search_expansion.specs.declared.trials.Expanded.{Expanded}
 
 -- the best plan: whether there is one, and its cost
-abbrev pub BestIs : (has : Bool) (cost : ℕ) → Option (Route ℕ) → Type 0
-BestIs has cost none = has ≡ false
-BestIs has cost (some b) = (has ≡ true) × (b .cost ≡ cost)
+abbrev pub BestIs : Best → Option (Route ℕ) → Type 0
+BestIs x none = x .found ≡ false
+BestIs x (some b) = (x .found ≡ true) × (b .cost ≡ x .cost)
 
 -- f is below the best cost; without a plan the best is above every number
-unfoldable pub belowCost : (has : Bool) (cost f : ℕ) → Bool
-belowCost has cost f = cond has (ltb f cost) true
+unfoldable pub belowCost : Best → (f : ℕ) → Bool
+belowCost x f = cond (x .found) (ltb f (x .cost)) true
 
 -- the round goes on, or the run is over, refused at the node or at its child by transition t, whose path costs c
 unfoldable pub trialResult : Trial → Node State ℕ → Round State ℕ → Result (Round State ℕ) ℕ
@@ -49,16 +51,31 @@ abbrev pub expandIn : (bytes : List ℕ) (w : ℕ) → Node State ℕ → Round 
 expandIn bytes w = expand (costsIn bytes) (systemIn bytes) w (systemIn bytes .transitions) 0
 
 -- rule 4's end: a round whose kept nodes are those of the layer before goes on with those of the layer after
-pub record Offered (bytes outline : List ℕ) (w n : ℕ) (has : Bool) (best : ℕ) (child layer layer′ : List ℕ) (x : Inserted) : Type 0 where
-  pub held : Indexed outline w (x .count) layer′
-  pub same : (path : ℕ → List ℕ) (r : Round State ℕ) → r .kept ≡ nodesOf w layer bytes path n → BestIs has best (r .progress .best)
-      → offer (costsIn bytes) (systemIn bytes) w (nodeOf bytes path child) r ≡ roundWith (nodesOf w layer′ bytes path (x .count)) (x .cut) r
+pub record Offered (bytes outline : List ℕ) (n : ℕ) (p : Parent) (child layer layer′ : List ℕ) (x : Inserted) : Type 0 where
+  pub held : Indexed outline (p .width) (x .count) layer′
+  pub same : (path : ℕ → List ℕ) (r : Round State ℕ) → r .kept ≡ nodesOf (p .width) layer bytes path n → BestIs (p .best) (r .progress .best)
+      → offer (costsIn bytes) (systemIn bytes) (p .width) (nodeOf bytes path child) r ≡ roundWith (nodesOf (p .width) layer′ bytes path (x .count)) (x .cut) r
 
--- rule: what the definition does with the node in slot i, its words being `node`, and a round whose kept nodes are the n of the layer
--- before; it goes on with those of the layer after. path: the path to each slot of the node's layer
-pub record Grows (bytes outline : List ℕ) (w n i : ℕ) (has : Bool) (best : ℕ) (node layer layer′ : List ℕ) (x : Expanded) (rule : Node State ℕ → Round State ℕ → Result (Round State ℕ) ℕ) : Type 0 where
-  pub held : Indexed outline w (x .count) layer′
+-- what an expansion needs, n nodes being in the making
+pub record Expandable (bytes outline : List ℕ) (n : ℕ) (p : Parent) (layer : List ℕ) : Type 0 where
+  pub outlined : Outlined bytes outline
+  pub held : Indexed outline (p .width) n layer
+  pub small : p .g < 2 ^ 63
+  pub slot : p .slot < 2 ^ 32
+
+-- the node that is expanded, whatever its h and f. path: the path to each slot of its layer
+abbrev pub parentOf : (bytes : List ℕ) (path : ℕ → List ℕ) (state : List ℕ) → Parent → (h f : ℕ) → Node State ℕ
+parentOf bytes path state p h f = record { state = stateIn bytes state; g = p .g; h = h; f = f; path = path (p .slot) }
+
+-- rule: what the definition does with the node that is expanded and a round whose kept nodes are the n of the layer before; it goes on with
+-- those of the layer after
+pub record Grows (bytes outline : List ℕ) (n : ℕ) (p : Parent) (state layer layer′ : List ℕ) (x : Expanded) (rule : Node State ℕ → Round State ℕ → Result (Round State ℕ) ℕ) : Type 0 where
+  pub held : Indexed outline (p .width) (x .count) layer′
   pub numbered : Numbered (x .trial)
-  pub same : (path : ℕ → List ℕ) (r : Round State ℕ) → r .kept ≡ nodesOf w layer bytes path n → BestIs has best (r .progress .best)
-      → rule (nodeAt bytes path i node) r
-      ≡ trialResult (x .trial) (nodeAt bytes path i node) (roundWith (nodesOf w layer′ bytes path (x .count)) (x .cut) r)
+  pub same : (path : ℕ → List ℕ) (h f : ℕ) (r : Round State ℕ) → r .kept ≡ nodesOf (p .width) layer bytes path n → BestIs (p .best) (r .progress .best)
+      → rule (parentOf bytes path state p h f) r
+      ≡ trialResult (x .trial) (parentOf bytes path state p h f) (roundWith (nodesOf (p .width) layer′ bytes path (x .count)) (x .cut) r)
+
+-- the same whatever the state of that node is
+pub record GrowsOfAny (bytes outline : List ℕ) (n : ℕ) (p : Parent) (layer layer′ : List ℕ) (x : Expanded) (rule : Node State ℕ → Round State ℕ → Result (Round State ℕ) ℕ) : Type 0 where
+  pub grows : (state : List ℕ) → Grows bytes outline n p state layer layer′ x rule

@@ -1,22 +1,28 @@
 // Rule 4: a node's children, by conditions, cost, effects, constraints and h, offered to the layer in the making.
 
 ghost use mathlib.Core.Path.{_≡_};
-ghost use Prim.Native.Nat.{_<_, _^_};
+ghost use mathlib.Core.List.{_++_};
+ghost use Prim.Native.Nat.{_<_};
 ghost use mathlib.Core.Bool.{_||_};
-ghost use lib.ListN.{length, getD};
+ghost use lib.ListN.{length};
 ghost use Rattle.model.specs.Numbers.{rangeEnd};
-ghost use Rattle.beam_order.specs.Slots.{slotWords, gAt};
+ghost use Rattle.beam_order.specs.Slots.{headerWords};
 ghost use Rattle.steps.specs.InBytes.{Outlined};
 ghost use Rattle.beam.specs.Layers.{Indexed};
-ghost use Rattle.search_expansion.specs.Expansion.{belowCost, boundedIn, triedIn, expandIn, Offered, Grows};
+ghost use Rattle.search_expansion.specs.Expansion.{belowCost, boundedIn, triedIn, expandIn, Offered, Expandable, Grows, GrowsOfAny};
+use crate::trials::Best;
 use crate::trials::Expanded;
+use crate::trials::Parent;
 use crate::trials::Trial;
 use beam::layer::Inserted;
 use beam::layer::insert;
-use beam_order::BACK_AT;
-use beam_order::F_AT;
-use beam_order::G_AT;
-use beam_order::H_AT;
+use beam_order::slots::BACK_AT;
+use beam_order::slots::F_AT;
+use beam_order::slots::G_AT;
+use beam_order::slots::H_AT;
+use beam_order::slots::HEADER_WORDS;
+use outline::layout::PREPARED_WORDS;
+use outline::layout::STATE_WORDS;
 use steps::answers::BoundAnswer;
 use steps::answers::MoveAnswer;
 use steps::bounds::bound;
@@ -26,29 +32,28 @@ use steps::moves::step;
 use steps::moves::transitions;
 
 // Whether f is below the best cost.
-pub fn below_best(found: bool, best: u64, f: u64) -> bool
-    ensures { λ r. ⌜ r ≡ belowCost found best f ⌝ }
+pub fn below_best(best: Best, f: u64) -> bool
+    ensures { λ r. ⌜ r ≡ belowCost best f ⌝ }
 {
-    if found { f < best } else { true }
+    if best.found { f < best.cost } else { true }
 }
 
 // Rule 4: offers a child to the layer in the making, if its f is below the best.
 fn offer(
     layer: &mut [u64],
     model: &[u8],
-    outline: &[u64],
-    w: usize,
+    outline: &[u64; PREPARED_WORDS],
     n: usize,
-    found: bool,
-    best: u64,
-    child: &[u64],
+    parent: Parent,
+    header: &[u64; HEADER_WORDS],
+    state: &[u64; STATE_WORDS],
 ) -> Inserted
-    requires { ⌜ Indexed (now outline) w n (now layer) × (Outlined (now model) (now outline) × (length (now child) ≡ slotWords)) ⌝ }
-    ensures { λ r. ⌜ Offered (now (model .entry)) (now (outline .entry)) w n found best (now (child .entry)) (now (layer .entry)) (now (layer .exit)) r ⌝ }
+    requires { ⌜ Indexed (now outline) (parent .width) n (now layer) × (Outlined (now model) (now outline) × (length (now header) ≡ headerWords)) ⌝ }
+    ensures { λ r. ⌜ Offered (now (model .entry)) (now (outline .entry)) n parent (now (header .entry) ++ now (state .entry)) (now (layer .entry)) (now (layer .exit)) r ⌝ }
 {
-    let f = child[F_AT];
-    if below_best(found, best, f) {
-        return insert(layer, model, outline, w, n, child);
+    let best = parent.best;
+    if below_best(best, header[F_AT]) {
+        return insert(layer, model, outline, parent.width, n, header, state);
     }
     Inserted {
         count: n,
@@ -56,32 +61,29 @@ fn offer(
     }
 }
 
-// The child by transition t at cost c, whose words hold its state: h, then the offer.
+// The child by transition t at cost c, with this state: h, then the offer.
 fn bounded(
     layer: &mut [u64],
     model: &[u8],
-    outline: &[u64],
-    w: usize,
+    outline: &[u64; PREPARED_WORDS],
     n: usize,
-    found: bool,
-    best: u64,
-    node: &[u64],
-    i: usize,
+    parent: Parent,
     t: usize,
     c: u64,
-    child: &mut [u64],
+    state: &[u64; STATE_WORDS],
 ) -> Expanded
-    requires { ⌜ Indexed (now outline) w n (now layer) × (Outlined (now model) (now outline) × ((length (now node) ≡ slotWords) × ((getD (now node) gAt 0 < 2 ^ 63) × ((i < 2 ^ 32) × ((t < 256) × ((c < rangeEnd) × (length (now child) ≡ slotWords))))))) ⌝ }
-    ensures { λ r. ⌜ Grows (now (model .entry)) (now (outline .entry)) w n i found best (now (node .entry)) (now (layer .entry)) (now (layer .exit)) r (boundedIn (now (model .entry)) (now (child .entry)) w t c) ⌝ }
+    requires { ⌜ Expandable (now model) (now outline) n parent (now layer) × ((t < 256) × (c < rangeEnd)) ⌝ }
+    ensures { λ r. ⌜ GrowsOfAny (now (model .entry)) (now (outline .entry)) n parent (now (layer .entry)) (now (layer .exit)) r (boundedIn (now (model .entry)) (now (state .entry)) (parent .width) t c) ⌝ }
 {
-    let g = combine(model, outline, node[G_AT], c);
-    match bound(model, outline, child) {
+    let g = combine(model, outline, parent.g, c);
+    match bound(model, outline, state) {
         BoundAnswer::Value(h) => {
-            child[G_AT] = g;
-            child[H_AT] = h;
-            child[F_AT] = combine(model, outline, g, h);
-            child[BACK_AT] = (i * 256 + t) as u64;
-            let x = offer(layer, model, outline, w, n, found, best, child);
+            let mut header = [0u64; HEADER_WORDS];
+            header[G_AT] = g;
+            header[H_AT] = h;
+            header[F_AT] = combine(model, outline, g, h);
+            header[BACK_AT] = (parent.slot * 256 + t) as u64;
+            let x = offer(layer, model, outline, n, parent, &header, state);
             Expanded {
                 count: x.count,
                 cut: x.cut,
@@ -96,43 +98,27 @@ fn bounded(
     }
 }
 
-// Tries transition t in the node of slot i.
+// Tries transition t in the node with this state.
 fn try_transition(
     layer: &mut [u64],
     model: &[u8],
-    outline: &[u64],
-    w: usize,
+    outline: &[u64; PREPARED_WORDS],
     n: usize,
-    found: bool,
-    best: u64,
-    node: &[u64],
-    i: usize,
+    state: &[u64; STATE_WORDS],
+    parent: Parent,
     t: usize,
 ) -> Expanded
-    requires { ⌜ Indexed (now outline) w n (now layer) × (Outlined (now model) (now outline) × ((length (now node) ≡ slotWords) × ((getD (now node) gAt 0 < 2 ^ 63) × ((i < 2 ^ 32) × (t < 256))))) ⌝ }
-    ensures { λ r. ⌜ Grows (now (model .entry)) (now (outline .entry)) w n i found best (now (node .entry)) (now (layer .entry)) (now (layer .exit)) r (triedIn (now (model .entry)) w t) ⌝ }
+    requires { ⌜ Expandable (now model) (now outline) n parent (now layer) × (t < 256) ⌝ }
+    ensures { λ r. ⌜ Grows (now (model .entry)) (now (outline .entry)) n parent (now (state .entry)) (now (layer .entry)) (now (layer .exit)) r (triedIn (now (model .entry)) (parent .width) t) ⌝ }
 {
-    let mut child = [0u64; 20];
-    match step(model, outline, node, t, &mut child) {
+    let mut child = [0u64; STATE_WORDS];
+    match step(model, outline, state, t, &mut child) {
         MoveAnswer::Blocked => Expanded {
             count: n,
             cut: false,
             trial: Trial::On,
         },
-        MoveAnswer::Moved(c) => bounded(
-            layer,
-            model,
-            outline,
-            w,
-            n,
-            found,
-            best,
-            node,
-            i,
-            t,
-            c,
-            &mut child,
-        ),
+        MoveAnswer::Moved(c) => bounded(layer, model, outline, n, parent, t, c, &child),
         MoveAnswer::Before(e) => Expanded {
             count: n,
             cut: false,
@@ -141,7 +127,7 @@ fn try_transition(
         MoveAnswer::After(c, e) => Expanded {
             count: n,
             cut: false,
-            trial: Trial::At(e, combine(model, outline, node[G_AT], c), t),
+            trial: Trial::At(e, combine(model, outline, parent.g, c), t),
         },
     }
 }
@@ -153,28 +139,25 @@ pub fn either(a: bool, b: bool) -> bool
     if a { true } else { b }
 }
 
-// Expands the node of slot i into the layer in the making. A transition that is not allowed is blocked, and not tried.
+// Expands the node with this state into the layer in the making. A transition that is not allowed is blocked, and not tried.
 pub fn expand(
     layer: &mut [u64],
     model: &[u8],
-    outline: &[u64],
-    w: usize,
+    outline: &[u64; PREPARED_WORDS],
     n: usize,
-    found: bool,
-    best: u64,
-    node: &[u64],
-    i: usize,
+    state: &[u64; STATE_WORDS],
+    parent: Parent,
 ) -> Expanded
-    requires { ⌜ Indexed (now outline) w n (now layer) × (Outlined (now model) (now outline) × ((length (now node) ≡ slotWords) × ((getD (now node) gAt 0 < 2 ^ 63) × (i < 2 ^ 32)))) ⌝ }
-    ensures { λ r. ⌜ Grows (now (model .entry)) (now (outline .entry)) w n i found best (now (node .entry)) (now (layer .entry)) (now (layer .exit)) r (expandIn (now (model .entry)) w) ⌝ }
+    requires { ⌜ Expandable (now model) (now outline) n parent (now layer) ⌝ }
+    ensures { λ r. ⌜ Grows (now (model .entry)) (now (outline .entry)) n parent (now (state .entry)) (now (layer .entry)) (now (layer .exit)) r (expandIn (now (model .entry)) (parent .width)) ⌝ }
 {
     let all = transitions(model, outline);
     let mut count = n;
     let mut cut = false;
     let mut t: usize = 0;
     while t < all {
-        if allowed(model, outline, node, t) {
-            let x = try_transition(layer, model, outline, w, count, found, best, node, i, t);
+        if allowed(model, outline, state, t) {
+            let x = try_transition(layer, model, outline, count, state, parent, t);
             count = x.count;
             cut = either(cut, x.cut);
             let trial = x.trial;

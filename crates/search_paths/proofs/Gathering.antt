@@ -8,13 +8,7 @@ use native.Mathlib.Nat.{mod-lt, mod-eq-of-lt}
 use native.Mathlib.Numerals.{add-one}
 use lib.ListN.{length, take, drop, getD, set, length-take, length-append, length-drop, length-set}
 use lib.Seq.{ext-getD, take-at, take-all, take-nil, drop-nil, take-take, getD-take, getD-drop, drop-length, getD-set-same, getD-set-other}
-use Rattle.model.specs.Meaning.{State}
-use Rattle.model.specs.Numbers.{mostVariables}
-use Rattle.steps.specs.InBytes.{Outlined, stateIn, systemIn, targetIn, originIn}
-use Rattle.steps.specs.Follow.{costsIn}
-use Rattle.steps.proofs.Promises.{cost-laws, cost-empty, origin-start, origin-spent, same-state}
-use Rattle.search.specs.Search.{Node, root}
-use Rattle.beam_order.specs.Slots.{slotWords, gAt, hAt, fAt, backAt, wordsIn}
+use Rattle.beam_order.specs.Slots.{slotWords, backAt, wordsIn, backsAt, nextAt, nextEnd, nextOrderAt}
 use Rattle.beam_order.proofs.Arrays.{word-in}
 use Rattle.beam.specs.Nodes.{nodeOf, nodeIn, nodeAt}
 use Rattle.beam.specs.Layers.{part, nodesOf, Indexed, Layer, Emptied}
@@ -22,7 +16,7 @@ use Rattle.beam.proofs.Written.{words-long}
 use Rattle.beam.proofs.Whole.{put, part-length, part-at, put-length, put-in, put-first, put-behind}
 use Rattle.beam.proofs.Moves.{few-in, place-below}
 use Rattle.beam.proofs.Nodes.{nodes-length, nodes-from}
-use Rattle.search_paths.specs.Routes.{backIn, pathBy, nextOf, nodesFrom, currentOf, Started, NodeTaken, Taken}
+use Rattle.search_paths.specs.Routes.{backIn, pathBy, nextOf, nodesFrom, currentOf, rootOf, Startable, Started, NodeTaken, Taken}
 
 -- ---- words that two lists share
 
@@ -65,16 +59,16 @@ beyond a e words ys low room same x h =
     ∙ ap (λ (y : ℕ). getD words y 0) z
 
 -- a path's: the rows up to its layer
-pub path-same : (words words′ : List ℕ) (w k : ℕ) → 0 < w → Same words words′ (64 * w) (64 * w + (k + 1) * w) → (i : ℕ) → pathBy words′ w k i ≡ pathBy words w k i
+pub path-same : (words words′ : List ℕ) (w k : ℕ) → 0 < w → Same words words′ (backsAt * w) (backsAt * w + (k + 1) * w) → (i : ℕ) → pathBy words′ w k i ≡ pathBy words w k i
 unfolding pathBy backIn
 path-same words words′ w zero pos same i = refl
 path-same words words′ w (suc k) pos same i =
     let m : i % w < w = mod-lt i pos in
-    let e : getD words′ (64 * w + (suc k * w + i % w)) 0 ≡ getD words (64 * w + (suc k * w + i % w)) 0 = same (64 * w + (suc k * w + i % w)) (omega arith) (omega arith) in
-    let back = getD words (64 * w + (suc k * w + i % w)) 0 in
+    let e : getD words′ (backsAt * w + (suc k * w + i % w)) 0 ≡ getD words (backsAt * w + (suc k * w + i % w)) 0 = same (backsAt * w + (suc k * w + i % w)) (omega arith) (omega arith) in
+    let back = getD words (backsAt * w + (suc k * w + i % w)) 0 in
     rw e (ap (λ (l : List ℕ). (back % 256) ∷ l) (path-same words words′ w k pos (λ x a b. same x a (omega arith)) (back / 256)))
 
-pub paths-same : (words words′ : List ℕ) (w k : ℕ) → 0 < w → Same words words′ (64 * w) (64 * w + (k + 1) * w) → pathBy words′ w k ≡ pathBy words w k
+pub paths-same : (words words′ : List ℕ) (w k : ℕ) → 0 < w → Same words words′ (backsAt * w) (backsAt * w + (k + 1) * w) → pathBy words′ w k ≡ pathBy words w k
 paths-same words words′ w k pos same = fun-ext (path-same words words′ w k pos same)
 
 -- a current layer's: its slots, and its paths
@@ -101,42 +95,42 @@ slot-first words words′ e i t h =
     ∙ ap (drop (i * slotWords)) (sym (take-take (i * slotWords + slotWords) e words′ h) ∙ ap (take (i * slotWords + slotWords)) t ∙ take-take (i * slotWords + slotWords) e words h)
     ∙ sym (take-of-drop (i * slotWords) slotWords words)
 
-module _ (words words′ : List ℕ) (w : ℕ) (pos : 0 < w) (first : take (20 * w) words′ ≡ take (20 * w) words) (last : drop (46 * w) words′ ≡ drop (46 * w) words) where
+module _ (words words′ : List ℕ) (w : ℕ) (pos : 0 < w) (first : take (nextAt * w) words′ ≡ take (nextAt * w) words) (last : drop (nextEnd * w) words′ ≡ drop (nextEnd * w) words) where
   pub paths-kept : (k : ℕ) → pathBy words′ w k ≡ pathBy words w k
-  paths-kept k = paths-same words words′ w k pos (λ x a b. last-same words words′ (46 * w) (64 * w + (k + 1) * w) last x (omega arith) b)
+  paths-kept k = paths-same words words′ w k pos (λ x a b. last-same words words′ (nextEnd * w) (backsAt * w + (k + 1) * w) last x (omega arith) b)
 
   pub current-kept : (bytes : List ℕ) (k n : ℕ) → n ≤ w → currentOf bytes words′ w k n ≡ currentOf bytes words w k n
   current-kept bytes k n few =
-      nodes-same bytes (pathBy words w k) (pathBy words′ w k) words words′ (paths-kept k) n 0 (λ j h. slot-first words words′ (20 * w) j first (omega arith))
+      nodes-same bytes (pathBy words w k) (pathBy words′ w k) words words′ (paths-kept k) n 0 (λ j h. slot-first words words′ (nextAt * w) j first (omega arith))
 
 -- which holds where the layer in the making was lent
-module _ (words ys : List ℕ) (w : ℕ) (room : 46 * w ≤ length words) (same : length ys ≡ length (nextOf w words)) where
-  pub making-first : take (20 * w) (put (20 * w) (46 * w) words ys) ≡ take (20 * w) words
-  making-first = put-first (20 * w) (46 * w) words ys (omega arith) room same (20 * w) (omega arith)
+module _ (words ys : List ℕ) (w : ℕ) (room : nextEnd * w ≤ length words) (same : length ys ≡ length (nextOf w words)) where
+  pub making-first : take (nextAt * w) (put (nextAt * w) (nextEnd * w) words ys) ≡ take (nextAt * w) words
+  making-first = put-first (nextAt * w) (nextEnd * w) words ys (omega arith) room same (nextAt * w) (omega arith)
 
-  pub making-last : drop (46 * w) (put (20 * w) (46 * w) words ys) ≡ drop (46 * w) words
+  pub making-last : drop (nextEnd * w) (put (nextAt * w) (nextEnd * w) words ys) ≡ drop (nextEnd * w) words
   making-last =
-      let after = put (20 * w) (46 * w) words ys in
-      let l : length after ≡ length words = put-length (20 * w) (46 * w) words ys (omega arith) room same in
-      sym (take-all (length words - 46 * w) (drop (46 * w) after) (omega (arith, length-drop (46 * w) after)))
-      ∙ put-behind (20 * w) (46 * w) words ys (omega arith) room same (46 * w) (length words) (omega arith)
-      ∙ take-all (length words - 46 * w) (drop (46 * w) words) (omega (arith, length-drop (46 * w) words))
+      let after = put (nextAt * w) (nextEnd * w) words ys in
+      let l : length after ≡ length words = put-length (nextAt * w) (nextEnd * w) words ys (omega arith) room same in
+      sym (take-all (length words - nextEnd * w) (drop (nextEnd * w) after) (omega (arith, length-drop (nextEnd * w) after)))
+      ∙ put-behind (nextAt * w) (nextEnd * w) words ys (omega arith) room same (nextEnd * w) (length words) (omega arith)
+      ∙ take-all (length words - nextEnd * w) (drop (nextEnd * w) words) (omega (arith, length-drop (nextEnd * w) words))
 
 -- ---- one node more
 
 -- the first i nodes of the layer in the making stand in the current layer, which becomes layer k; all else that is read is as it was
 pub record Gathered (words₀ words : List ℕ) (w k i : ℕ) : Type 0 where
   pub long : length words ≡ length words₀
-  pub rest : Same words₀ words (20 * w) (64 * w + k * w)
-  pub slots : (j : ℕ) → j < i → wordsIn words j ≡ wordsIn words₀ (w + getD words₀ (40 * w + j) 0)
-  pub backs : (j : ℕ) → j < i → getD words (64 * w + (k * w + j)) 0 ≡ getD (wordsIn words₀ (w + getD words₀ (40 * w + j) 0)) backAt 0
+  pub rest : Same words₀ words (nextAt * w) (backsAt * w + k * w)
+  pub slots : (j : ℕ) → j < i → wordsIn words j ≡ wordsIn words₀ (w + getD words₀ (nextOrderAt * w + j) 0)
+  pub backs : (j : ℕ) → j < i → getD words (backsAt * w + (k * w + j)) 0 ≡ getD (wordsIn words₀ (w + getD words₀ (nextOrderAt * w + j) 0)) backAt 0
 
 pub gathered-none : (words : List ℕ) (w k : ℕ) → Gathered words words w k 0
 gathered-none words w k = record { long = refl; rest = λ x a b. refl; slots = λ j h. absurd (omega arith); backs = λ j h. absurd (omega arith) }
 
 -- what take_node writes: the node's words, and behind them its back pointer
-module _ (words node ys : List ℕ) (w k i : ℕ) (hi : i < w) (inside : getD words (40 * w + i) 0 < w) (long : 64 * w + (k + 1) * w ≤ length words)
-    (e : node ≡ wordsIn words (w + getD words (40 * w + i) 0)) (f : ys ≡ node) where
+module _ (words node ys : List ℕ) (w k i : ℕ) (hi : i < w) (inside : getD words (nextOrderAt * w + i) 0 < w) (long : backsAt * w + (k + 1) * w ≤ length words)
+    (e : node ≡ wordsIn words (w + getD words (nextOrderAt * w + i) 0)) (f : ys ≡ node) where
   -- the slot's begin and end, and the place of the back pointer
   abbrev a : ℕ
   a = i * slotWords
@@ -145,7 +139,7 @@ module _ (words node ys : List ℕ) (w k i : ℕ) (hi : i < w) (inside : getD wo
   b = i * slotWords + slotWords
 
   abbrev p : ℕ
-  p = 64 * w + (k * w + i)
+  p = backsAt * w + (k * w + i)
 
   slot-low : a ≤ b
   slot-low = omega arith
@@ -154,7 +148,7 @@ module _ (words node ys : List ℕ) (w k i : ℕ) (hi : i < w) (inside : getD wo
   slot-room = omega arith
 
   slot-fits : length ys ≡ length (part a b words)
-  slot-fits = ap length (f ∙ e) ∙ words-long words (w + getD words (40 * w + i) 0) (omega arith) ∙ sym (part-length a b words slot-low slot-room ∙ omega arith)
+  slot-fits = ap length (f ∙ e) ∙ words-long words (w + getD words (nextOrderAt * w + i) 0) (omega arith) ∙ sym (part-length a b words slot-low slot-room ∙ omega arith)
 
   abbrev base : List ℕ
   base = put a b words ys
@@ -188,82 +182,82 @@ one-more P i old new j h = by-place (decLt j i)
     by-place (yes l) = old j l
     by-place (no l) = subst P (let z : i ≡ j = omega arith in z) new
 
-pub gathered-more : (words₀ words words′ : List ℕ) (w k i : ℕ) → i < w → getD words₀ (40 * w + i) 0 < w → length words′ ≡ length words → Gathered words₀ words w k i → NodeTaken words words′ w k i → Gathered words₀ words′ w k (i + 1)
+pub gathered-more : (words₀ words words′ : List ℕ) (w k i : ℕ) → i < w → getD words₀ (nextOrderAt * w + i) 0 < w → length words′ ≡ length words → Gathered words₀ words w k i → NodeTaken words words′ w k i → Gathered words₀ words′ w k (i + 1)
 gathered-more words₀ words words′ w k i hi inside l g t =
-    let s : getD words (40 * w + i) 0 ≡ getD words₀ (40 * w + i) 0 = g .rest (40 * w + i) (omega arith) (omega arith) in
-    let moved : wordsIn words (w + getD words (40 * w + i) 0) ≡ wordsIn words₀ (w + getD words₀ (40 * w + i) 0) =
-    ap (λ (y : ℕ). wordsIn words (w + y)) s ∙ slot-same words₀ words (w + getD words₀ (40 * w + i) 0) (g .long) (λ x a b. g .rest x (omega arith) (omega arith)) in
+    let s : getD words (nextOrderAt * w + i) 0 ≡ getD words₀ (nextOrderAt * w + i) 0 = g .rest (nextOrderAt * w + i) (omega arith) (omega arith) in
+    let moved : wordsIn words (w + getD words (nextOrderAt * w + i) 0) ≡ wordsIn words₀ (w + getD words₀ (nextOrderAt * w + i) 0) =
+    ap (λ (y : ℕ). wordsIn words (w + y)) s ∙ slot-same words₀ words (w + getD words₀ (nextOrderAt * w + i) 0) (g .long) (λ x a b. g .rest x (omega arith) (omega arith)) in
     record {
       long = l ∙ g .long;
       rest = λ x a b. t .between x (omega arith) (omega arith) ∙ g .rest x a b;
-      slots = one-more (λ j. wordsIn words′ j ≡ wordsIn words₀ (w + getD words₀ (40 * w + j) 0)) i (λ j h. slot-same words words′ j l (λ x a b. t .before x (omega arith)) ∙ g .slots j h) (t .slot ∙ moved);
-      backs = one-more (λ j. getD words′ (64 * w + (k * w + j)) 0 ≡ getD (wordsIn words₀ (w + getD words₀ (40 * w + j) 0)) backAt 0) i
-          (λ j h. t .between (64 * w + (k * w + j)) (omega arith) (omega arith) ∙ g .backs j h) (t .back ∙ ap (λ (l : List ℕ). getD l backAt 0) moved);
+      slots = one-more (λ j. wordsIn words′ j ≡ wordsIn words₀ (w + getD words₀ (nextOrderAt * w + j) 0)) i (λ j h. slot-same words words′ j l (λ x a b. t .before x (omega arith)) ∙ g .slots j h) (t .slot ∙ moved);
+      backs = one-more (λ j. getD words′ (backsAt * w + (k * w + j)) 0 ≡ getD (wordsIn words₀ (w + getD words₀ (nextOrderAt * w + j) 0)) backAt 0) i
+          (λ j h. t .between (backsAt * w + (k * w + j)) (omega arith) (omega arith) ∙ g .backs j h) (t .back ∙ ap (λ (l : List ℕ). getD l backAt 0) moved);
     }
 
 -- ---- all nodes
 
 module _ (w : ℕ) (words : List ℕ) where
   -- the slot at a place of the layer in the making
-  pub next-place : (i : ℕ) → i < w → getD (nextOf w words) (20 * w + i) 0 ≡ getD words (40 * w + i) 0
+  pub next-place : (i : ℕ) → i < w → getD (nextOf w words) (nextAt * w + i) 0 ≡ getD words (nextOrderAt * w + i) 0
   next-place i h =
-      let z : 20 * w + (20 * w + i) ≡ 40 * w + i = omega arith in
-      part-at (20 * w) (46 * w) words (20 * w + i) (omega arith) ∙ ap (λ (y : ℕ). getD words y 0) z
+      let z : nextAt * w + (nextAt * w + i) ≡ nextOrderAt * w + i = omega arith in
+      part-at (nextAt * w) (nextEnd * w) words (nextAt * w + i) (omega arith) ∙ ap (λ (y : ℕ). getD words y 0) z
 
   -- its words
-  next-slot : (s : ℕ) → s < w → 46 * w ≤ length words → wordsIn (nextOf w words) s ≡ wordsIn words (w + s)
+  next-slot : (s : ℕ) → s < w → nextEnd * w ≤ length words → wordsIn (nextOf w words) s ≡ wordsIn words (w + s)
   next-slot s h long =
-      let z : length (nextOf w words) ≡ 46 * w - 20 * w = part-length (20 * w) (46 * w) words (omega arith) long in
+      let z : length (nextOf w words) ≡ nextEnd * w - nextAt * w = part-length (nextAt * w) (nextEnd * w) words (omega arith) long in
       let l : length (wordsIn (nextOf w words) s) ≡ slotWords = words-long (nextOf w words) s (omega arith) in
       ext-getD 0 (wordsIn (nextOf w words) s) (wordsIn words (w + s)) (l ∙ sym (words-long words (w + s) (omega arith))) (λ x k. at x (omega arith))
     where
       at : (x : ℕ) → x < slotWords → getD (wordsIn (nextOf w words) s) x 0 ≡ getD (wordsIn words (w + s)) x 0
       at x k =
-          let z : 20 * w + (s * slotWords + x) ≡ (w + s) * slotWords + x = omega arith in
-          word-in (nextOf w words) s x k ∙ part-at (20 * w) (46 * w) words (s * slotWords + x) (omega arith) ∙ ap (λ (y : ℕ). getD words y 0) z ∙ sym (word-in words (w + s) x k)
+          let z : nextAt * w + (s * slotWords + x) ≡ (w + s) * slotWords + x = omega arith in
+          word-in (nextOf w words) s x k ∙ part-at (nextAt * w) (nextEnd * w) words (s * slotWords + x) (omega arith) ∙ ap (λ (y : ℕ). getD words y 0) z ∙ sym (word-in words (w + s) x k)
 
 module _ (words₀ : List ℕ) {w n : ℕ} (la : Layer w n (nextOf w words₀)) where
   -- each place holds a slot of the layer in the making
-  pub place-inside : (i : ℕ) → i < n → getD words₀ (40 * w + i) 0 < w
+  pub place-inside : (i : ℕ) → i < n → getD words₀ (nextOrderAt * w + i) 0 < w
   place-inside i h =
       let few : n ≤ w = few-in la in
       subst (λ (s : ℕ). s < w) (next-place w words₀ i (omega arith)) (place-below la i h)
 
   -- on the way too
-  pub still-inside : (words : List ℕ) (k i : ℕ) → Gathered words₀ words w k i → i < n → getD words (40 * w + i) 0 < w
+  pub still-inside : (words : List ℕ) (k i : ℕ) → Gathered words₀ words w k i → i < n → getD words (nextOrderAt * w + i) 0 < w
   still-inside words k i g h =
       let few : n ≤ w = few-in la in
-      rw (g .rest (40 * w + i) (omega arith) (omega arith)) (place-inside i h)
+      rw (g .rest (nextOrderAt * w + i) (omega arith) (omega arith)) (place-inside i h)
 
 node-same : (bytes : List ℕ) (path parent : ℕ → List ℕ) (j : ℕ) (ws us : List ℕ) → ws ≡ us → path j ≡ (getD us backAt 0 % 256) ∷ parent (getD us backAt 0 / 256) → nodeAt bytes path j ws ≡ nodeOf bytes parent us
 unfolding nodeAt nodeOf
 node-same bytes path parent j ws us e p = rw (e, p)
 
-module _ (words₀ words ys : List ℕ) (w k n : ℕ) (pos : 0 < w) (la : Layer w n (nextOf w words₀)) (long : 64 * w + (k + 2) * w ≤ length words₀)
-    (g : Gathered words₀ words w (k + 1) n) (same : length ys ≡ length (part (20 * w) (46 * w) words)) where
+module _ (words₀ words ys : List ℕ) (w k n : ℕ) (pos : 0 < w) (la : Layer w n (nextOf w words₀)) (long : backsAt * w + (k + 2) * w ≤ length words₀)
+    (g : Gathered words₀ words w (k + 1) n) (same : length ys ≡ length (part (nextAt * w) (nextEnd * w) words)) where
   abbrev after : List ℕ
-  after = put (20 * w) (46 * w) words ys
+  after = put (nextAt * w) (nextEnd * w) words ys
 
-  low : 20 * w ≤ 46 * w
+  low : nextAt * w ≤ nextEnd * w
   low = omega arith
 
-  room : 46 * w ≤ length words
+  room : nextEnd * w ≤ length words
   room = omega (arith, g .long)
 
   after-length : length after ≡ length words
-  after-length = put-length (20 * w) (46 * w) words ys low room same
+  after-length = put-length (nextAt * w) (nextEnd * w) words ys low room same
 
-  before-making : Same words after 0 (20 * w)
-  before-making = first-same words after (20 * w) (put-first (20 * w) (46 * w) words ys low room same (20 * w) (omega arith))
+  before-making : Same words after 0 (nextAt * w)
+  before-making = first-same words after (nextAt * w) (put-first (nextAt * w) (nextEnd * w) words ys low room same (nextAt * w) (omega arith))
 
-  behind-making : (x : ℕ) → 46 * w ≤ x → getD after x 0 ≡ getD words x 0
-  behind-making = beyond (20 * w) (46 * w) words ys low room same
+  behind-making : (x : ℕ) → nextEnd * w ≤ x → getD after x 0 ≡ getD words x 0
+  behind-making = beyond (nextAt * w) (nextEnd * w) words ys low room same
 
   parents : pathBy after w k ≡ pathBy words₀ w k
   parents = paths-same words₀ after w k pos (λ x a b. behind-making x (omega arith) ∙ g .rest x (omega arith) b)
 
   abbrev slot-of : ℕ → ℕ
-  slot-of j = getD words₀ (40 * w + j) 0
+  slot-of j = getD words₀ (nextOrderAt * w + j) 0
 
   slot-taken : (j : ℕ) → j < n → wordsIn after j ≡ wordsIn words₀ (w + slot-of j)
   slot-taken j h = slot-same words after j after-length (λ x a b. before-making x (omega arith) (omega (arith, few-in la))) ∙ g .slots j h
@@ -272,14 +266,14 @@ module _ (words₀ words ys : List ℕ) (w k n : ℕ) (pos : 0 < w) (la : Layer 
   unfolding backIn
   back-taken j h =
       let m : j % w ≡ j = mod-eq-of-lt (let q : j < w = omega (arith, few-in la) in q) in
-      let z : 64 * w + (suc k * w + j % w) ≡ 64 * w + ((k + 1) * w + j) = omega arith in
-      ap (λ (y : ℕ). getD after y 0) z ∙ behind-making (64 * w + ((k + 1) * w + j)) (omega arith) ∙ g .backs j h
+      let z : backsAt * w + (suc k * w + j % w) ≡ backsAt * w + ((k + 1) * w + j) = omega arith in
+      ap (λ (y : ℕ). getD after y 0) z ∙ behind-making (backsAt * w + ((k + 1) * w + j)) (omega arith) ∙ g .backs j h
 
   path-taken : (j : ℕ) → j < n → (let b = getD (wordsIn words₀ (w + slot-of j)) backAt 0 in pathBy after w (suc k) j ≡ (b % 256) ∷ pathBy words₀ w k (b / 256))
   unfolding pathBy
   path-taken j h = rw (back-taken j h, parents)
 
-  node-taken : (bytes : List ℕ) (j : ℕ) → j < n → nodeAt bytes (pathBy after w (suc k)) j (wordsIn after j) ≡ nodeIn bytes (pathBy words₀ w k) (nextOf w words₀) (getD (nextOf w words₀) (20 * w + j) 0)
+  node-taken : (bytes : List ℕ) (j : ℕ) → j < n → nodeAt bytes (pathBy after w (suc k)) j (wordsIn after j) ≡ nodeIn bytes (pathBy words₀ w k) (nextOf w words₀) (getD (nextOf w words₀) (nextAt * w + j) 0)
   node-taken bytes j h =
       node-same bytes (pathBy after w (suc k)) (pathBy words₀ w k) j (wordsIn after j) (wordsIn words₀ (w + slot-of j)) (slot-taken j h) (path-taken j h)
       ∙ ap (nodeOf bytes (pathBy words₀ w k)) (sym (next-slot w words₀ (slot-of j) (place-inside words₀ la j h) (omega arith)))
@@ -300,48 +294,27 @@ module _ (words₀ words ys : List ℕ) (w k n : ℕ) (pos : 0 < w) (la : Layer 
   pub all-taken : Emptied w ys → Taken words₀ after w k n
   all-taken e =
       record {
-        held = λ outline. subst (Indexed outline w 0) (sym (put-in (20 * w) (46 * w) words ys low room same)) (e .held outline);
+        held = λ outline. subst (Indexed outline w 0) (sym (put-in (nextAt * w) (nextEnd * w) words ys low room same)) (e .held outline);
         nodes = λ bytes. nodes-taken bytes n 0 (omega arith);
       }
 
 -- ---- the start
 
--- the words of the target's state, then its g, h and f
-abbrev pub targetWords : (state : List ℕ) (h : ℕ) → List ℕ
-targetWords state h = set (set (set state gAt 0) hAt h) fAt h
-
-target-word : (state : List ℕ) (h v : ℕ) → v < mostVariables → getD (take mostVariables (targetWords state h)) v 0 ≡ getD state v 0
-target-word state h v l =
-    getD-take mostVariables (targetWords state h) v 0 l
-    ∙ getD-set-other (set (set state gAt 0) hAt h) fAt v h 0 (λ q. omega arith)
-    ∙ getD-set-other (set state gAt 0) hAt v h 0 (λ q. omega arith)
-    ∙ getD-set-other state gAt v 0 0 (λ q. omega arith)
-
-target-node : {bytes outline : List ℕ} (path : ℕ → List ℕ) (state : List ℕ) (h : ℕ) → Outlined bytes outline → length state ≡ slotWords → stateIn bytes state ≡ targetIn bytes → path 0 ≡ []
-    → nodeAt bytes path 0 (targetWords state h) ≡ root (costsIn bytes) (systemIn bytes) (originIn bytes) h
-unfolding nodeAt root
-target-node {bytes} path state h o l e none =
-    let s : stateIn bytes (take mostVariables (targetWords state h)) ≡ targetIn bytes = same-state o (take mostVariables (targetWords state h)) state (target-word state h) ∙ e in
-    let lg : length (set state gAt 0) ≡ slotWords = length-set state gAt 0 ∙ l in
-    let lh : length (set (set state gAt 0) hAt h) ≡ slotWords = length-set (set state gAt 0) hAt h ∙ lg in
-    let g : getD (targetWords state h) gAt 0 ≡ 0 = getD-set-other (set (set state gAt 0) hAt h) fAt gAt h 0 (λ q. omega arith) ∙ getD-set-other (set state gAt 0) hAt gAt h 0 (λ q. omega arith) ∙ getD-set-same state gAt 0 0 (omega arith) in
-    let b : getD (targetWords state h) hAt 0 ≡ h = getD-set-other (set (set state gAt 0) hAt h) fAt hAt h 0 (λ q. omega arith) ∙ getD-set-same (set state gAt 0) hAt h 0 (omega arith) in
-    let f : getD (targetWords state h) fAt 0 ≡ h = getD-set-same (set (set state gAt 0) hAt h) fAt h 0 (omega arith) in
-    rw (s, g, b, f, none, origin-start bytes, origin-spent bytes, ← (cost-empty bytes), cost-laws bytes .left-unit h)
-
--- rule 1: the target's words in slot 0, and the layer in the making emptied
-pub round-started : {bytes outline : List ℕ} (words state first ys : List ℕ) (w h : ℕ) → Outlined bytes outline → 0 < w → 64 * w ≤ length words
-    → length state ≡ slotWords → stateIn bytes state ≡ targetIn bytes → first ≡ targetWords state h → length ys ≡ length (part (20 * w) (46 * w) (first ++ drop slotWords words)) → Emptied w ys
-    → Started bytes outline (put (20 * w) (46 * w) (first ++ drop slotWords words) ys) w h
+-- rule 1: the root's words in slot 0, and the layer in the making emptied
+pub round-started : (root words first ys : List ℕ) (w : ℕ) → Startable root words w → first ≡ root
+    → length ys ≡ length (part (nextAt * w) (nextEnd * w) (first ++ drop slotWords words)) → Emptied w ys
+    → Started root (put (nextAt * w) (nextEnd * w) (first ++ drop slotWords words) ys) w
 unfolding nodesFrom pathBy wordsIn
-round-started {bytes} {outline} words state first ys w h o pos long l e eq same em =
-    let lf : length first ≡ slotWords = ap length eq ∙ length-set (set (set state gAt 0) hAt h) fAt h ∙ length-set (set state gAt 0) hAt h ∙ length-set state gAt 0 ∙ l in
+round-started root words first ys w s eq same em =
+    let lf : length first ≡ slotWords = ap length eq ∙ s .long in
+    let pos : 0 < w = s .some-width in
+    let long : backsAt * w ≤ length words = s .room in
     let lw : length (first ++ drop slotWords words) ≡ length words = length-append first (drop slotWords words) ∙ omega (arith, length-drop slotWords words) in
-    let low : 20 * w ≤ 46 * w = omega arith in
-    let room : 46 * w ≤ length (first ++ drop slotWords words) = omega arith in
-    let slot : take slotWords (put (20 * w) (46 * w) (first ++ drop slotWords words) ys) ≡ targetWords state h =
-    put-first (20 * w) (46 * w) (first ++ drop slotWords words) ys low room same slotWords (omega arith) ∙ take-at first (drop slotWords words) slotWords lf ∙ eq in
+    let low : nextAt * w ≤ nextEnd * w = omega arith in
+    let room : nextEnd * w ≤ length (first ++ drop slotWords words) = omega arith in
+    let slot : take slotWords (put (nextAt * w) (nextEnd * w) (first ++ drop slotWords words) ys) ≡ root =
+    put-first (nextAt * w) (nextEnd * w) (first ++ drop slotWords words) ys low room same slotWords (omega arith) ∙ take-at first (drop slotWords words) slotWords lf ∙ eq in
     record {
-      held = subst (Indexed outline w 0) (sym (put-in (20 * w) (46 * w) (first ++ drop slotWords words) ys low room same)) (em .held outline);
-      target-alone = ap (λ (n : Node State ℕ). n ∷ []) (ap (nodeAt bytes (pathBy (put (20 * w) (46 * w) (first ++ drop slotWords words) ys) w 0) 0) slot ∙ target-node (pathBy (put (20 * w) (46 * w) (first ++ drop slotWords words) ys) w 0) state h o l e refl);
+      held = λ outline. subst (Indexed outline w 0) (sym (put-in (nextAt * w) (nextEnd * w) (first ++ drop slotWords words) ys low room same)) (em .held outline);
+      root-alone = λ bytes. ap (λ (n : List ℕ). rootOf bytes n ∷ []) slot;
     }

@@ -3,9 +3,9 @@
 ghost use mathlib.Core.Path.{_≡_};
 ghost use mathlib.Core.List.{_++_, reverse};
 ghost use Prim.Native.Nat.{_≤_, _<_};
-ghost use lib.ListN.{length, drop};
-ghost use Rattle.search_paths.specs.Routes.{backIn, pathBy};
-use crate::BACKS_AT;
+ghost use lib.ListN.{drop};
+ghost use Rattle.search_paths.specs.Routes.{backIn, pathBy, Traceable};
+use beam_order::slots::BACKS_AT;
 
 // The back pointer of slot i of layer k, or 0 where there is none.
 fn back_at(words: &[u64], w: usize, k: usize, i: usize) -> u64
@@ -18,7 +18,7 @@ fn back_at(words: &[u64], w: usize, k: usize, i: usize) -> u64
 
 // Writes the path to slot i of layer k, the first step first.
 pub fn trace(words: &[u64], w: usize, k: usize, i: usize, plan: &mut [u8])
-    requires { ⌜ (0 < w) × ((w ≤ 4096) × ((k ≤ 256) × (k ≤ length (now plan)))) ⌝ }
+    requires { ⌜ Traceable (now plan) w k ⌝ }
     ensures { λ _. ⌜ now (plan .exit) ≡ reverse (pathBy (now (words .entry)) w k i) ++ drop k (now (plan .entry)) ⌝ }
 {
     let mut slot = i;

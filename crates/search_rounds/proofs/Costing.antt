@@ -1,5 +1,6 @@
--- Costs of a layer: where each node of layer k costs at most k times the end of the numbers' range, so do the children, k + 1 times.
-use Prim.Native.Nat.{ℕ, suc}
+-- Costs of a layer: where each node costs at most k times the end of the numbers' range, so do the children, k + 1 times. In layer k of
+-- a round the steps before its root count too.
+use Prim.Native.Nat.{ℕ, suc, _+_}
 use mathlib.Core.Path.{_≡_, sym, subst}
 use mathlib.Core.Bool.{not}
 use mathlib.Core.List.{List, [], _∷_}
@@ -78,10 +79,17 @@ costing bytes budget width =
     }
 
 -- the nodes that a layer from none leaves at its end
-pub end-within : (bytes : List ℕ) (budget width k left : ℕ) (ns : List (Node State ℕ)) (r r′ x : Round State ℕ) → All (Within k) ns → r .kept ≡ [] → layer (costsIn bytes) (systemIn bytes) budget width left ns r ≡ on r′
+left-within : (bytes : List ℕ) (budget width k left : ℕ) (ns : List (Node State ℕ)) (r r′ x : Round State ℕ) → All (Within k) ns → r .kept ≡ [] → layer (costsIn bytes) (systemIn bytes) budget width left ns r ≡ on r′
     → layerEnd (costsIn bytes) (systemIn bytes) r′ ≡ x → All (Within (suc k)) (x .kept)
-end-within bytes budget width k left ns r r′ x a none same end =
+left-within bytes budget width k left ns r r′ x a none same end =
     subst (λ (y : Round State ℕ). All (Within (suc k)) (y .kept)) end
     (costing bytes budget width .layer-ends {k = k} {left = left} {r = r′}
     (subst (Holds (Costing k left (taking [])) (λ s. Unit {0})) same
     (layer-holds (costsIn bytes) (systemIn bytes) budget width Costing (λ s. Unit {0}) (costing bytes budget width) {k = k} {left = left} {r = r} ns (subst (All (Within (suc k))) (sym none) tt, a))) .0)
+
+-- in layer k, behind `before` steps
+pub end-within : (bytes : List ℕ) (budget width before k left : ℕ) (ns : List (Node State ℕ)) (r r′ x : Round State ℕ) → All (Within (before + k)) ns → r .kept ≡ []
+    → layer (costsIn bytes) (systemIn bytes) budget width left ns r ≡ on r′ → layerEnd (costsIn bytes) (systemIn bytes) r′ ≡ x → All (Within (before + suc k)) (x .kept)
+end-within bytes budget width before k left ns r r′ x a none same end =
+    let one-more : suc (before + k) ≡ before + suc k = omega arith in
+    subst (λ (j : ℕ). All (Within j) (x .kept)) one-more (left-within bytes budget width (before + k) left ns r r′ x a none same end)

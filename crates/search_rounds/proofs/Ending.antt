@@ -11,7 +11,7 @@ use Rattle.laws.specs.Lists.{filter}
 use Rattle.laws.proofs.Bools.{not-both}
 use Rattle.model.specs.Meaning.{State}
 use Rattle.search.specs.Search.{Node, Route, belowBest, raisedLow, layerEnd}
-use Rattle.beam_order.specs.Slots.{slotWords, fAt}
+use Rattle.beam_order.specs.Slots.{slotWords, fAt, layerWords, nextAt, nextEnd}
 use Rattle.steps.specs.InBytes.{systemIn}
 use Rattle.steps.specs.Follow.{costsIn}
 use Rattle.beam.specs.Layers.{nodesOf, Layer, Below}
@@ -19,6 +19,7 @@ use Rattle.beam.proofs.Ends.{filter-no-best}
 use Rattle.beam.proofs.Moves.{place-below}
 use Rattle.beam.proofs.Nodes.{nodes-none, raised-low}
 use Rattle.search_expansion.specs.Expansion.{BestIs}
+use Rattle.search_expansion.specs.declared.trials.Best.{Best}
 use Rattle.search_paths.specs.Routes.{pathBy, nextOf}
 use Rattle.search_visits.specs.Work.{bestOf, progressOf, roundOf, roundIn}
 use Rattle.search_visits.proofs.Visiting.{best-is}
@@ -29,17 +30,17 @@ use Rattle.search_visits.specs.declared.work.Round.{Round}
 -- ---- what remains
 
 module _ {layer : List ℕ} {w n : ℕ} where
-  pub remains-below : (has : Bool) (best count : ℕ) → has ≡ true → Below w n count best layer → Remains layer w has best n count
-  remains-below has best count found b = record { fewer = b .fewer; still = b .layer; left = by-best }
+  pub remains-below : (best : Best) (count : ℕ) → best .found ≡ true → Below w n count (best .cost) layer → Remains layer w best n count
+  remains-below best count found b = record { fewer = b .fewer; still = b .layer; left = by-best }
     where
-      by-best : (bytes : List ℕ) (path : ℕ → List ℕ) (o : Option (Route ℕ)) → BestIs has best o → nodesOf w layer bytes path count ≡ filter (λ m. belowBest (costsIn bytes) (systemIn bytes) (m .f) o) (nodesOf w layer bytes path n)
+      by-best : (bytes : List ℕ) (path : ℕ → List ℕ) (o : Option (Route ℕ)) → BestIs best o → nodesOf w layer bytes path count ≡ filter (λ m. belowBest (costsIn bytes) (systemIn bytes) (m .f) o) (nodesOf w layer bytes path n)
       by-best bytes path none is = absurd (not-both found is)
       by-best bytes path (some r) is = b .left bytes path r (is .1)
 
-  pub remains-all : (has : Bool) (best : ℕ) → has ≡ false → Layer w n layer → Remains layer w has best n n
-  remains-all has best missing la = record { fewer = omega arith; still = la; left = by-best }
+  pub remains-all : (best : Best) → best .found ≡ false → Layer w n layer → Remains layer w best n n
+  remains-all best missing la = record { fewer = omega arith; still = la; left = by-best }
     where
-      by-best : (bytes : List ℕ) (path : ℕ → List ℕ) (o : Option (Route ℕ)) → BestIs has best o → nodesOf w layer bytes path n ≡ filter (λ m. belowBest (costsIn bytes) (systemIn bytes) (m .f) o) (nodesOf w layer bytes path n)
+      by-best : (bytes : List ℕ) (path : ℕ → List ℕ) (o : Option (Route ℕ)) → BestIs best o → nodesOf w layer bytes path n ≡ filter (λ m. belowBest (costsIn bytes) (systemIn bytes) (m .f) o) (nodesOf w layer bytes path n)
       by-best bytes path none is = sym (filter-no-best bytes (nodesOf w layer bytes path n))
       by-best bytes path (some r) is = absurd (not-both (is .0) missing)
 
@@ -60,7 +61,7 @@ raises-none layer w n low marked none-left = record { same = λ bytes path. rw n
 module _ {layer : List ℕ} {w n : ℕ} (la : Layer w n layer) (low : ℕ) (marked : Bool) (unmarked : marked ≡ false) (pos : 0 < n) where
   -- f of the first
   abbrev first : ℕ
-  first = getD layer (getD layer (20 * w) 0 * slotWords + fAt) 0
+  first = getD layer (getD layer (nextAt * w) 0 * slotWords + fAt) 0
 
   pub raises-first : low < first → Raises layer w marked n low first
   raises-first h = record { same = λ bytes path. rw unmarked (raised-low bytes path la low pos ∙ rw (lt-leb first low h)) }
@@ -70,7 +71,7 @@ module _ {layer : List ℕ} {w n : ℕ} (la : Layer w n layer) (low : ℕ) (mark
 
 -- ---- the layer's end
 
-pub layer-ends : (words : List ℕ) (w : ℕ) (x : Round) (count low : ℕ) → Remains (nextOf w words) w (x .progress .best .found) (x .progress .best .cost) (x .count) count
+pub layer-ends : (words : List ℕ) (w : ℕ) (x : Round) (count low : ℕ) → Remains (nextOf w words) w (x .progress .best) (x .count) count
     → Raises (nextOf w words) w (x .marks .width) count (x .progress .low) low
     → LayerEnds words w x (record { count = count; marks = x .marks; improved = x .improved; progress = record { best = x .progress .best; low = low; tally = x .progress .tally } })
 layer-ends words w x count low remains raises = record { fewer = remains .fewer; layer = remains .still; best-same = refl; round-same = refl; same = ends }
@@ -84,11 +85,11 @@ layer-ends words w x count low remains raises = record { fewer = remains .fewer;
         (raises .same bytes (pathBy words w k))
 
 -- the slot of the first
-pub first-below : {layer : List ℕ} {w n : ℕ} → Layer w n layer → 0 < n → getD layer (20 * w) 0 < w
+pub first-below : {layer : List ℕ} {w n : ℕ} → Layer w n layer → 0 < n → getD layer (nextAt * w) 0 < w
 first-below {layer} {w} la pos =
-    let z : 20 * w + 0 ≡ 20 * w = omega arith in
+    let z : nextAt * w + 0 ≡ nextAt * w = omega arith in
     subst (λ (i : ℕ). getD layer i 0 < w) z (place-below la 0 pos)
 
 -- the words hold the layer in the making
-pub words-long : (w : ℕ) (words : List ℕ) → 26 * w ≤ length (nextOf w words) → 0 < w → 46 * w ≤ length words
-words-long w words h pos = omega (arith, length-take (46 * w - 20 * w) (drop (20 * w) words), length-drop (20 * w) words)
+pub words-long : (w : ℕ) (words : List ℕ) → layerWords * w ≤ length (nextOf w words) → 0 < w → nextEnd * w ≤ length words
+words-long w words h pos = omega (arith, length-take (nextEnd * w - nextAt * w) (drop (nextAt * w) words), length-drop (nextAt * w) words)

@@ -28,6 +28,7 @@ use Rattle.search_visits.specs.declared.work.Visited.{Visited}
 use Rattle.search_rounds.specs.declared.ends.Passed.{Passed}
 use Rattle.search_paths.proofs.Gathering.{paths-kept}
 use Rattle.search_rounds.proofs.Costing.{end-within}
+use Rattle.beam_order.specs.Slots.{backsAt}
 
 -- ---- the definition, by its parts
 
@@ -155,10 +156,10 @@ module _ (budget : ℕ) {bytes outline words words₁ plan plan₁ : List ℕ} {
         ∙ ap (λ (q : Result (S.Round State ℕ) ℕ). andThen q (λ r′. behindEnd bytes w budget (limit - k) (layerEnd (costsIn bytes) (systemIn bytes) r′))) layer-same
         ∙ ap (behindEnd bytes w budget (limit - k)) (end .same bytes plan₁ k)
 
-    kept-within : x .count ≡ 0 → All (Within (suc k)) (roundIn bytes words₁ plan₁ w k z .kept)
+    kept-within : x .count ≡ 0 → All (Within (ready .before + suc k)) (roundIn bytes words₁ plan₁ w k z .kept)
     unfolding roundOf
     kept-within none-yet =
-        end-within bytes budget w k (limit - k) (currentOf bytes words w k n) (roundIn bytes words plan w k x) (roundIn bytes words₁ plan₁ w k (v .round)) (roundIn bytes words₁ plan₁ w k z) (ready .costs)
+        end-within bytes budget w (ready .before) k (limit - k) (currentOf bytes words w k n) (roundIn bytes words plan w k x) (roundIn bytes words₁ plan₁ w k (v .round)) (roundIn bytes words₁ plan₁ w k z) (ready .costs)
         (rw none-yet (nodes-none w (nextOf w words) bytes (pathBy words w k)))
         layer-same (end .same bytes plan₁ k)
 
@@ -185,6 +186,7 @@ module _ (budget : ℕ) {bytes outline words words₁ plan plan₁ : List ℕ} {
             held = rw (o .none-yet) (o .taken .held outline);
             narrow = ready .narrow;
             depth = omega (arith, o .further);
+            before = ready .before;
             few-steps = ready .few-steps;
             plan-room = omega (arith, ready .plan-room);
             best-fits = fits;
@@ -195,7 +197,7 @@ module _ (budget : ℕ) {bytes outline words words₁ plan plan₁ : List ℕ} {
         )
 
 -- the back pointers of layer k + 1 have room
-pub rows-fit : (w limit k l : ℕ) → k < limit → 64 * w + w * (limit + 1) ≤ l → 64 * w + (k + 2) * w ≤ l
+pub rows-fit : (w limit k l : ℕ) → k < limit → backsAt * w + w * (limit + 1) ≤ l → backsAt * w + (k + 2) * w ≤ l
 rows-fit w limit k l less h =
     let a : k + 2 ≤ limit + 1 = omega arith in
     let b : w ≤ w = omega arith in

@@ -1,5 +1,5 @@
--- A round: the target alone, then turn after turn; what is left of it is the same whole round.
-use Prim.Native.Nat.{ℕ, suc, _+_, _-_, _*_, _≤_, _<_}
+-- A round: the root alone, then turn after turn; what is left of it is the same whole round.
+use Prim.Native.Nat.{ℕ, suc, _+_, _-_, _≤_, _<_}
 use mathlib.Core.Path.{_≡_, refl, sym, ap, subst, _∙_}
 use mathlib.Core.Bool.{Bool, true, false}
 use mathlib.Core.List.{List}
@@ -7,16 +7,17 @@ use native.Mathlib.Omega.{arith}
 use native.Mathlib.Numerals.{add-one}
 use lib.ListN.{length}
 use Rattle.laws.specs.Lists.{All}
+use Rattle.model.specs.System.{Origin}
 use Rattle.model.specs.Meaning.{State}
-use Rattle.search.specs.Search.{Result, freshRound, root}
+use Rattle.search.specs.Search.{Result, freshRound}
 use Rattle.search.specs.Search as S
-use Rattle.steps.specs.InBytes.{Outlined, systemIn, originIn}
+use Rattle.steps.specs.InBytes.{systemIn}
 use Rattle.steps.specs.Follow.{costsIn}
-use Rattle.steps.proofs.Promises.{origin-spent}
+use Rattle.beam.specs.Nodes.{nodeAt}
 use Rattle.beam.proofs.Nodes.{nodes-none}
-use Rattle.search_paths.specs.Routes.{pathBy, nextOf, Started}
+use Rattle.search_paths.specs.Routes.{pathBy, nextOf, rootOf, RootIs, RootFits, Startable, Started}
 use Rattle.search_visits.specs.Work.{Within, Ready, progressOf, roundOf, roundBegun, roundIn, resultOf, Inside}
-use Rattle.search_rounds.specs.Rounds.{RoomFor, layersFrom, PassesLayer, RoundEnds}
+use Rattle.search_rounds.specs.Rounds.{Roundable, layersFrom, PassesLayer, RoundEnds}
 use Rattle.search_visits.specs.declared.work.Progress.{Progress}
 use Rattle.search_visits.specs.declared.work.Round.{Round}
 use Rattle.search_rounds.specs.declared.ends.Passed.{Passed}
@@ -77,41 +78,50 @@ ready-next {bytes} {outline} {words = words} {plan} {w = w} {limit = limit} {k =
 abbrev fresh : Progress → Round
 fresh p = record { count = 0; marks = record { width = false; length = false }; improved = false; progress = p }
 
-root-within : (bytes : List ℕ) (h : ℕ) → Within 0 (root (costsIn bytes) (systemIn bytes) (originIn bytes) h)
-unfolding root
-root-within bytes h = omega (arith, origin-spent bytes)
+-- the root's g is what the steps before it may have cost
+root-within : (bytes : List ℕ) {root : List ℕ} {limit : ℕ} (fits : RootFits root limit) → Within (fits .before + 0) (rootOf bytes root)
+unfolding nodeAt
+root-within bytes fits = omega (arith, fits .cost)
 
-module _ (plan : List ℕ) (limit : ℕ) (p : Progress) {bytes outline words : List ℕ} {w h : ℕ} (started : Started bytes outline words w h) where
-  pub ready-first : {words₀ : List ℕ} → Outlined bytes outline → RoomFor words₀ plan w limit → p .best .length ≤ limit → Ready bytes outline words plan w limit 0 1 (fresh p)
-  ready-first outlined room fits =
+module _ {bytes outline root words₀ words plan : List ℕ} {w limit : ℕ} {p : Progress} (able : Roundable bytes outline root words₀ plan w limit p) (started : Started root words w) where
+  pub ready-first : Ready bytes outline words plan w limit 0 1 (fresh p)
+  ready-first =
       record {
-        outlined = outlined;
-        held = started .held;
-        narrow = room .narrow;
+        outlined = able .outlined;
+        held = started .held outline;
+        narrow = able .room .narrow;
         depth = omega arith;
-        few-steps = room .few-steps;
-        plan-room = room .plan-room;
-        best-fits = fits;
-        few-nodes = omega (arith, room .some-width);
-        costs = subst (All (Within 0)) (sym (started .target-alone)) (root-within bytes h, tt);
+        before = able .root-fits .before;
+        few-steps = able .root-fits .few-steps;
+        plan-room = able .room .plan-room;
+        best-fits = able .best-fits;
+        few-nodes = omega (arith, able .room .some-width);
+        costs = subst (All (Within (able .root-fits .before + 0))) (sym (started .root-alone bytes)) (root-within bytes (able .root-fits), tt);
       }
 
-  round-same : (budget : ℕ) → S.round (costsIn bytes) (systemIn bytes) budget limit w (root (costsIn bytes) (systemIn bytes) (originIn bytes) h) (progressOf plan p) ≡ layersFrom bytes words plan w budget limit 0 1 (fresh p)
+  round-same : (budget : ℕ) (o : Origin State ℕ) (h : ℕ) → RootIs bytes root o h
+      → S.round (costsIn bytes) (systemIn bytes) budget limit w (S.root (costsIn bytes) (systemIn bytes) o h) (progressOf plan p) ≡ layersFrom bytes words plan w budget limit 0 1 (fresh p)
   unfolding S.round freshRound roundOf
-  round-same budget =
+  round-same budget o h is =
       let z : limit - 0 ≡ limit = omega arith in
-      sym (rw (z, started .target-alone, nodes-none w (nextOf w words) bytes (pathBy words w 0)))
+      sym (rw (z, started .root-alone bytes, is .node, nodes-none w (nextOf w words) bytes (pathBy words w 0)))
 
   pub round-ends : (budget : ℕ) {words₁ plan₁ words₂ plan₂ : List ℕ} {x y : Passed} {k : ℕ} → PassesLayer bytes outline words words₁ plan plan₁ w budget limit 0 1 (fresh p) x
-      → Going bytes outline words₁ plan₁ words₂ plan₂ w budget limit 0 k x y → y .more ≡ false → RoundEnds bytes outline words₂ plan plan₂ w budget limit h p (record { round = y .round; next = y .next; layer = k })
+      → Going bytes outline words₁ plan₁ words₂ plan₂ w budget limit 0 k x y → y .more ≡ false → RoundEnds bytes root words₂ plan plan₂ w budget limit p (record { round = y .round; next = y .next; layer = k })
   round-ends budget {words₂ = words₂} {plan₂} {y = y} {k} t g m =
       record {
         best-fits = g .now .best-fits;
         round-same = g .round-same ∙ t .round-same;
         inside = g .now .inside;
         counted = g .now .counted;
-        same = round-same budget ∙ rest-same t ∙ g .same ∙ ap (λ (b : Bool). rest bytes words₂ plan₂ w budget limit k b y) m ∙ (unfold rest in refl);
+        same = λ o h is. round-same budget o h is ∙ rest-same t ∙ g .same ∙ ap (λ (b : Bool). rest bytes words₂ plan₂ w budget limit k b y) m ∙ (unfold rest in refl);
       }
 
-pub start-fits : {words plan : List ℕ} {w limit : ℕ} → RoomFor words plan w limit → 64 * w ≤ length words
-start-fits room = omega (arith, room .words-room)
+pub startable : {bytes outline root words plan : List ℕ} {w limit : ℕ} {p : Progress} → Roundable bytes outline root words plan w limit p → Startable root words w
+startable able =
+    record {
+      long = able .root-fits .long;
+      some-width = able .room .some-width;
+      narrow = able .room .narrow;
+      room = omega (arith, able .room .words-room);
+    }

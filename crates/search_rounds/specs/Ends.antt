@@ -14,15 +14,16 @@ use Rattle.search_expansion.specs.Expansion.{BestIs}
 use Rattle.search_paths.specs.Routes.{nextOf, Taken}
 use Rattle.search_visits.specs.Work.{roundBegun, roundIn}
 use Rattle.search_rounds.specs.Rounds.{layersFrom}
+use Rattle.search_expansion.specs.declared.trials.Best.{Best}
 use Rattle.search_visits.specs.declared.work.Round.{Round}
 use Rattle.search_visits.specs.declared.work.Next.the-variants as N
 use Rattle.search_rounds.specs.declared.ends.Passed.{Passed}
 
 -- rule 6: of the first n nodes of a layer count are left, those with f below the best
-pub record Remains (layer : List ℕ) (w : ℕ) (has : Bool) (best n count : ℕ) : Type 0 where
+pub record Remains (layer : List ℕ) (w : ℕ) (best : Best) (n count : ℕ) : Type 0 where
   pub fewer : count ≤ n
   pub still : Layer w count layer
-  pub left : (bytes : List ℕ) (path : ℕ → List ℕ) (b : Option (S.Route ℕ)) → BestIs has best b
+  pub left : (bytes : List ℕ) (path : ℕ → List ℕ) (b : Option (S.Route ℕ)) → BestIs best b
       → nodesOf w layer bytes path count ≡ filter (λ m. S.belowBest (costsIn bytes) (systemIn bytes) (m .f) b) (nodesOf w layer bytes path n)
 
 -- rule 6: low rises

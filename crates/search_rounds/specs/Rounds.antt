@@ -5,18 +5,19 @@ use mathlib.Core.Bool.{true, false}
 use mathlib.Core.List.{List}
 use lib.ListN.{length}
 use Rattle.model.specs.Numbers.{mostSteps}
+use Rattle.model.specs.System.{Origin}
 use Rattle.model.specs.Meaning.{State}
-use Rattle.search.specs.Search.{root}
 use Rattle.search.specs.Search as S
-use Rattle.steps.specs.InBytes.{systemIn, originIn}
+use Rattle.steps.specs.InBytes.{Outlined, systemIn}
 use Rattle.steps.specs.Follow.{costsIn}
 use Rattle.beam.specs.Layers.{Layer}
-use Rattle.search_paths.specs.Routes.{pathBy, nextOf, currentOf}
+use Rattle.search_paths.specs.Routes.{RootIs, RootFits, pathBy, nextOf, currentOf}
 use Rattle.search_visits.specs.declared.work.Progress.{Progress}
 use Rattle.search_visits.specs.declared.work.Round.{Round}
 use Rattle.search_visits.specs.Work.{progressOf, roundBegun, resultOf, roundIn, Ready, Inside}
 use Rattle.search_rounds.specs.declared.ends.Passed.{Passed}
 use Rattle.search_rounds.specs.declared.Ended.{Ended}
+use Rattle.beam_order.specs.Slots.{backsAt}
 
 -- what a run of width w and this length limit needs of the words and of the bytes for the best plan
 pub record RoomFor (words plan : List ℕ) (w limit : ℕ) : Type 0 where
@@ -24,7 +25,23 @@ pub record RoomFor (words plan : List ℕ) (w limit : ℕ) : Type 0 where
   pub narrow : w ≤ 4096
   pub few-steps : limit ≤ mostSteps
   pub plan-room : limit ≤ length plan
-  pub words-room : 64 * w + w * (limit + 1) ≤ length words
+  pub words-room : backsAt * w + w * (limit + 1) ≤ length words
+
+-- what a round needs: a model that was read, room, the root's words, a best plan within the limit
+pub record Roundable (bytes outline root words plan : List ℕ) (w limit : ℕ) (p : Progress) : Type 0 where
+  pub outlined : Outlined bytes outline
+  pub room : RoomFor words plan w limit
+  pub root-fits : RootFits root limit
+  pub best-fits : p .best .length ≤ limit
+
+-- what the end of layer k needs, where count nodes are in the making
+pub record Enterable (words : List ℕ) (w limit k count : ℕ) : Type 0 where
+  pub layer : Layer w count (nextOf w words)
+  pub some-width : 0 < w
+  pub narrow : w ≤ 4096
+  pub depth : k ≤ limit
+  pub few-steps : limit ≤ mostSteps
+  pub words-room : backsAt * w + w * (limit + 1) ≤ length words
 
 -- rule 6, in every layer
 pub record LayerEnds (words : List ℕ) (w : ℕ) (x y : Round) : Type 0 where
@@ -50,11 +67,11 @@ pub record PassesLayer (bytes outline words words′ plan plan′ : List ℕ) (w
       × (layersFrom bytes words plan w budget limit k n x ≡ layersFrom bytes words′ plan′ w budget limit (suc k) (y .nodes) (y .round))
   pub ends : y .more ≡ false → layersFrom bytes words plan w budget limit k n x ≡ resultOf (pathBy words′ w k) (y .next) (roundIn bytes words′ plan′ w k (y .round))
 
--- a round from the target on, begun with p: its layers, then on to rule 7, or the run is over in it
-pub record RoundEnds (bytes outline words′ plan plan′ : List ℕ) (w budget limit h : ℕ) (p : Progress) (y : Ended) : Type 0 where
+-- a round from the root on, begun with p: its layers, then on to rule 7, or the run is over in it
+pub record RoundEnds (bytes root words′ plan plan′ : List ℕ) (w budget limit : ℕ) (p : Progress) (y : Ended) : Type 0 where
   pub best-fits : y .round .progress .best .length ≤ limit
   pub round-same : roundBegun (y .round .progress) ≡ roundBegun p
   pub inside : Inside w limit (y .layer) (y .next)
   pub counted : length (roundIn bytes words′ plan′ w (y .layer) (y .round) .kept) ≡ y .round .count
-  pub same : S.round (costsIn bytes) (systemIn bytes) budget limit w (root (costsIn bytes) (systemIn bytes) (originIn bytes) h) (progressOf plan p)
+  pub same : (o : Origin State ℕ) (h : ℕ) → RootIs bytes root o h → S.round (costsIn bytes) (systemIn bytes) budget limit w (S.root (costsIn bytes) (systemIn bytes) o h) (progressOf plan p)
       ≡ resultOf (pathBy words′ w (y .layer)) (y .next) (roundIn bytes words′ plan′ w (y .layer) (y .round))

@@ -3,20 +3,23 @@
 ghost use mathlib.Core.Path.{_≡_};
 ghost use Prim.Native.Nat.{_+_, _*_, _≤_, _<_};
 ghost use lib.ListN.{length};
-ghost use Rattle.model.specs.Numbers.{mostSteps};
 ghost use Rattle.beam.specs.Layers.{Layer};
 ghost use Rattle.search_paths.specs.Routes.{nextOf};
 ghost use Rattle.search_visits.specs.Work.{Ready};
-ghost use Rattle.search_rounds.specs.Rounds.{LayerEnds, PassesLayer};
+ghost use Rattle.search_rounds.specs.Rounds.{Enterable, LayerEnds, PassesLayer};
 ghost use Rattle.search_rounds.specs.Ends.{Remains, Raises, EntersNext};
-use beam::layer::ORDER_AT;
+ghost use Rattle.beam_order.specs.Slots.{backsAt};
 use beam::layer::keep_below;
-use beam_order::F_AT;
-use beam_order::SLOT_WORDS;
-use search_paths::NEXT_AT;
-use search_paths::NEXT_END;
+use beam_order::slots::F_AT;
+use beam_order::slots::NEXT_AT;
+use beam_order::slots::NEXT_END;
+use beam_order::slots::ORDER_AT;
+use beam_order::slots::SLOT_WORDS;
+use outline::layout::PREPARED_WORDS;
+use search_expansion::trials::Best;
 use search_paths::current::next_layer;
 use search_visits::layers::layer;
+use search_visits::work::Limits;
 use search_visits::work::Next;
 use search_visits::work::Progress;
 use search_visits::work::Round;
@@ -31,12 +34,12 @@ pub struct Passed {
 }
 
 // How many of the first nodes of the layer are left, those with f below the best.
-fn remaining(layer: &[u64], w: usize, found: bool, best: u64, count: usize) -> usize
+fn remaining(layer: &[u64], w: usize, best: Best, count: usize) -> usize
     requires { ⌜ Layer w count (now layer) ⌝ }
-    ensures { λ r. ⌜ Remains (now (layer .entry)) w found best count r ⌝ }
+    ensures { λ r. ⌜ Remains (now (layer .entry)) w best count r ⌝ }
 {
-    if found {
-        keep_below(layer, w, count, best)
+    if best.found {
+        keep_below(layer, w, count, best.cost)
     } else {
         count
     }
@@ -69,10 +72,8 @@ fn layer_end(words: &[u64], w: usize, round: Round) -> Round
     let best = progress.best;
     let tally = progress.tally;
     let marks = round.marks;
-    let found = best.found;
-    let cost = best.cost;
     let count = round.count;
-    let left = remaining(&words[a..e], w, found, cost, count);
+    let left = remaining(&words[a..e], w, best, count);
     let marked = marks.width;
     let low = progress.low;
     let higher = raised(&words[a..e], w, marked, left, low);
@@ -90,7 +91,7 @@ fn layer_end(words: &[u64], w: usize, round: Round) -> Round
 
 // Behind the end of layer k: makes the layer behind it current, unless the round is at its end.
 fn enter_next(words: &mut [u64], w: usize, limit: usize, k: usize, round: Round) -> Passed
-    requires { ⌜ Layer w (round .count) (nextOf w (now words)) × ((0 < w) × ((w ≤ 4096) × ((k ≤ limit) × ((limit ≤ mostSteps) × (64 * w + w * (limit + 1) ≤ length (now words)))))) ⌝ }
+    requires { ⌜ Enterable (now words) w limit k (round .count) ⌝ }
     ensures { λ r. ⌜ EntersNext (now (words .entry)) (now (words .exit)) w limit k round r ⌝ }
 {
     let count = round.count;
@@ -124,24 +125,23 @@ pub fn pass_layer(
     words: &mut [u64],
     plan: &mut [u8],
     model: &[u8],
-    outline: &[u64],
-    w: usize,
-    budget: u64,
-    limit: usize,
+    outline: &[u64; PREPARED_WORDS],
+    limits: Limits,
     k: usize,
     n: usize,
     round: Round,
 ) -> Passed
-    requires { ⌜ Ready (now model) (now outline) (now words) (now plan) w limit k n round × ((round .count ≡ 0) × (64 * w + w * (limit + 1) ≤ length (now words))) ⌝ }
-    ensures { λ r. ⌜ PassesLayer (now (model .entry)) (now (outline .entry)) (now (words .entry)) (now (words .exit)) (now (plan .entry)) (now (plan .exit)) w budget limit k n round r ⌝ }
+    requires { ⌜ Ready (now model) (now outline) (now words) (now plan) (limits .width) (limits .length) k n round × ((round .count ≡ 0) × (backsAt * limits .width + limits .width * (limits .length + 1) ≤ length (now words))) ⌝ }
+    ensures { λ r. ⌜ PassesLayer (now (model .entry)) (now (outline .entry)) (now (words .entry)) (now (words .exit)) (now (plan .entry)) (now (plan .exit)) (limits .width) (limits .budget) (limits .length) k n round r ⌝ }
 {
-    let x = layer(words, plan, model, outline, w, budget, limit, k, n, round);
+    let w = limits.width;
+    let x = layer(words, plan, model, outline, limits, k, n, round);
     let after = x.round;
     let next = x.next;
     match next {
         Next::On => {
             let end = layer_end(words, w, after);
-            enter_next(words, w, limit, k, end)
+            enter_next(words, w, limits.length, k, end)
         }
         Next::Over(e) => Passed {
             round: after,

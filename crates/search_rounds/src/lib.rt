@@ -1,13 +1,13 @@
-// A round: the target alone, then layer behind layer (rules 1 and 6).
+// A round: the root alone, then layer behind layer (rules 1 and 6).
 
 pub mod ends;
 
-ghost use Prim.Native.Nat.{_+_, _≤_};
-ghost use lib.ListN.{length};
-ghost use Rattle.steps.specs.InBytes.{Outlined};
-ghost use Rattle.search_rounds.specs.Rounds.{RoomFor, RoundEnds};
+ghost use Rattle.search_rounds.specs.Rounds.{Roundable, RoundEnds};
 use crate::ends::pass_layer;
+use beam_order::slots::SLOT_WORDS;
+use outline::layout::PREPARED_WORDS;
 use search_paths::current::start_round;
+use search_visits::work::Limits;
 use search_visits::work::Marks;
 use search_visits::work::Next;
 use search_visits::work::Progress;
@@ -20,22 +20,20 @@ pub struct Ended {
     pub layer: usize,
 }
 
-// A round of width w from the target, whose bound is h.
+// A round from the root.
 pub fn round(
     words: &mut [u64],
     plan: &mut [u8],
     model: &[u8],
-    outline: &[u64],
-    w: usize,
-    budget: u64,
-    limit: usize,
-    h: u64,
+    outline: &[u64; PREPARED_WORDS],
+    limits: Limits,
+    root: &[u64; SLOT_WORDS],
     progress: Progress,
 ) -> Ended
-    requires { ⌜ Outlined (now model) (now outline) × (RoomFor (now words) (now plan) w limit × (progress .best .length ≤ limit)) ⌝ }
-    ensures { λ r. ⌜ RoundEnds (now (model .entry)) (now (outline .entry)) (now (words .exit)) (now (plan .entry)) (now (plan .exit)) w budget limit h progress r ⌝ }
+    requires { ⌜ Roundable (now model) (now outline) (now root) (now words) (now plan) (limits .width) (limits .length) progress ⌝ }
+    ensures { λ r. ⌜ RoundEnds (now (model .entry)) (now (root .entry)) (now (words .exit)) (now (plan .entry)) (now (plan .exit)) (limits .width) (limits .budget) (limits .length) progress r ⌝ }
 {
-    start_round(words, model, outline, w, h);
+    start_round(words, root, limits.width);
     let fresh = Round {
         count: 0,
         marks: Marks {
@@ -45,24 +43,13 @@ pub fn round(
         improved: false,
         progress: progress,
     };
-    let mut x = pass_layer(words, plan, model, outline, w, budget, limit, 0, 1, fresh);
+    let mut x = pass_layer(words, plan, model, outline, limits, 0, 1, fresh);
     let mut k: usize = 0;
     while x.more {
         let before = x.round;
         let nodes = x.nodes;
         k += 1;
-        x = pass_layer(
-            words,
-            plan,
-            model,
-            outline,
-            w,
-            budget,
-            limit,
-            k,
-            nodes,
-            before,
-        );
+        x = pass_layer(words, plan, model, outline, limits, k, nodes, before);
     }
     let round = x.round;
     let next = x.next;

@@ -5,7 +5,7 @@ use mathlib.Core.Bool.{Bool, true, false, _&&_}
 use mathlib.Core.List.{List, [], _∷_}
 use mathlib.Core.Option.{none}
 use lib.Dec.{eqb, leb}
-use lib.ListN.{length}
+use lib.ListN.{length, getD}
 use native.Mathlib.Omega.{arith}
 use native.Mathlib.Nat.{mul-le-mul-right}
 use native.Mathlib.Numerals.{add-one}
@@ -13,13 +13,15 @@ use borrow.Author.Tests.{eqb-true, leb-true, ne-eqb}
 use Rattle.laws.specs.Lists.{isEmpty, All}
 use Rattle.laws.proofs.Bools.{and-both}
 use Rattle.laws.proofs.Lists.{some-all, any-some}
-use Rattle.model.specs.System.{Costs, System}
+use Rattle.model.specs.System.{Costs, System, Origin}
 use Rattle.model.specs.Meaning.{State}
 use Rattle.search.specs.Answer as A
 use Rattle.search.specs.Search as S
 use Rattle.search.specs.Run.{widerWidths, isWidth, widerUpTo}
-use Rattle.steps.specs.InBytes.{systemIn, originIn}
+use Rattle.steps.specs.InBytes.{systemIn}
 use Rattle.steps.specs.Follow.{costsIn}
+use Rattle.beam_order.specs.Slots.{fAt}
+use Rattle.beam.specs.Nodes.{nodeAt}
 use Rattle.beam.specs.Layers.{nodesOf}
 use Rattle.search_visits.specs.declared.work.Verdict.{Verdict}
 use Rattle.search_visits.specs.declared.work.Verdict.the-variants as W
@@ -31,7 +33,7 @@ use Rattle.search_rounds.specs.declared.Ended.{Ended}
 use Rattle.search_runs.specs.declared.judges.Judgement.{Judgement}
 use Rattle.search_runs.specs.declared.judges.Judgement.the-variants as J
 use Rattle.search_runs.specs.declared.Judged.{Judged}
-use Rattle.search_paths.specs.Routes.{pathBy, nextOf}
+use Rattle.search_paths.specs.Routes.{RootIs, pathBy, nextOf}
 use Rattle.search_visits.specs.Work.{verdictOf, bestOf, progressOf, roundOf, roundIn, endingOf, resultOf}
 use Rattle.search_rounds.specs.Rounds.{RoomFor, RoundEnds}
 use Rattle.search_runs.specs.Runs.{Judges, judgementOf, Runs}
@@ -39,16 +41,16 @@ use Rattle.search_runs.specs.Widths.{widthBehind, beginsAt, afterOf, Rou
 
 -- ---- a round that is judged
 
-module _ {bytes outline words′ plan plan′ : List ℕ} {w budget limit h : ℕ} {p : Progress} {y : Ended} (r : RoundEnds bytes outline words′ plan plan′ w budget limit h p y) where
+module _ {bytes root words′ plan plan′ : List ℕ} {w budget limit : ℕ} {p : Progress} {y : Ended} (r : RoundEnds bytes root words′ plan plan′ w budget limit p y) where
   -- the run was over in the round
-  pub round-over : {widest : ℕ} {e : Ending} → y .next ≡ N.Over e → RoundJudged bytes words′ plan plan′ widest budget limit h w p (record { next = N.Over e; progress = y .round .progress; layer = y .layer })
+  pub round-over : {widest : ℕ} {e : Ending} → y .next ≡ N.Over e → RoundJudged bytes root words′ plan plan′ widest budget limit w p (record { next = N.Over e; progress = y .round .progress; layer = y .layer })
   unfolding S.afterRound resultOf roundOf afterOf
   round-over over =
       record {
         best-fits = r .best-fits;
         round-same = r .round-same;
         inside = rw over at (r .inside);
-        same = rw (r .same, over);
+        same = λ o h is. rw (r .same o h is, over);
       }
 
   judge-same : {b : Bool} {j : Judgement} → Judges b (y .round) j
@@ -58,26 +60,26 @@ module _ {bytes outline words′ plan plan′ : List ℕ} {w budget limit h : �
 
   -- another round follows
   pub round-again : {widest : ℕ} {j : Judgement} → y .next ≡ N.On → Judges (eqb w widest) (y .round) j → j ≡ J.Again
-      → RoundJudged bytes words′ plan plan′ widest budget limit h w p (record { next = N.On; progress = y .round .progress; layer = y .layer })
+      → RoundJudged bytes root words′ plan plan′ widest budget limit w p (record { next = N.On; progress = y .round .progress; layer = y .layer })
   unfolding S.afterRound resultOf afterOf judgementOf
   round-again on judged again =
       record {
         best-fits = r .best-fits;
         round-same = r .round-same;
         inside = tt;
-        same = rw (r .same, on, judge-same judged, again);
+        same = λ o h is. rw (r .same o h is, on, judge-same judged, again);
       }
 
   -- a verdict
   pub round-ended : {widest : ℕ} {j : Judgement} {v : Verdict} → y .next ≡ N.On → Judges (eqb w widest) (y .round) j → j ≡ J.Ended v
-      → RoundJudged bytes words′ plan plan′ widest budget limit h w p (record { next = N.Over (E.Decided v); progress = y .round .progress; layer = y .layer })
+      → RoundJudged bytes root words′ plan plan′ widest budget limit w p (record { next = N.Over (E.Decided v); progress = y .round .progress; layer = y .layer })
   unfolding S.afterRound resultOf afterOf judgementOf endingOf
   round-ended on judged ended =
       record {
         best-fits = r .best-fits;
         round-same = r .round-same;
         inside = tt;
-        same = rw (r .same, on, judge-same judged, ended);
+        same = λ o h is. rw (r .same o h is, on, judge-same judged, ended);
       }
 
 -- ---- the widths
@@ -144,12 +146,12 @@ room-for {widest = widest} {limit = limit} {w = w} r a b pos le =
 -- ---- the loop over the rounds
 
 -- the rounds from round k on, the widths behind this one being `wider`
-abbrev roundsFrom : (bytes plan : List ℕ) (budget limit h most width : ℕ) (wider : List ℕ) (k : ℕ) → Progress → A.Answer ℕ
-roundsFrom bytes plan budget limit h most width wider k p =
-    S.rounds (costsIn bytes) (systemIn bytes) most budget limit width wider k (S.root (costsIn bytes) (systemIn bytes) (originIn bytes) h) (progressOf plan p)
+abbrev roundsFrom : (bytes plan : List ℕ) (budget limit : ℕ) (o : Origin State ℕ) (h most width : ℕ) (wider : List ℕ) (k : ℕ) → Progress → A.Answer ℕ
+roundsFrom bytes plan budget limit o h most width wider k p =
+    S.rounds (costsIn bytes) (systemIn bytes) most budget limit width wider k (S.root (costsIn bytes) (systemIn bytes) o h) (progressOf plan p)
 
 -- in the round that the tally tells, the rounds that are left give the run's answer
-pub record Widening (bytes words₀ words plan₀ plan : List ℕ) (widest budget limit h : ℕ) (p : Progress) (most : ℕ) : Type 0 where
+pub record Widening (bytes root words₀ words plan₀ plan : List ℕ) (widest budget limit : ℕ) (p : Progress) (most : ℕ) : Type 0 where
   pub same-words : length words ≡ length words₀
   pub same-plan : length plan ≡ length plan₀
   pub best-fits : p .best .length ≤ limit
@@ -158,15 +160,20 @@ pub record Widening (bytes words₀ words plan₀ plan : List ℕ) (widest budge
   pub counted : p .tally .rounds + most ≡ budget + 2
   pub wider : List ℕ
   pub ladder : climbs widest (p .tally .width) wider ≡ true
-  pub same : S.rounds (costsIn bytes) (systemIn bytes) (suc budget) budget limit 1 (widerUpTo widest) 1 (S.root (costsIn bytes) (systemIn bytes) (originIn bytes) h) (record { best = none; low = h; expansions = 0 })
-      ≡ roundsFrom bytes plan budget limit h most (p .tally .width) wider (p .tally .rounds) p
+  pub same : (o : Origin State ℕ) (h : ℕ) → RootIs bytes root o h
+      → S.rounds (costsIn bytes) (systemIn bytes) (suc budget) budget limit 1 (widerUpTo widest) 1 (S.root (costsIn bytes) (systemIn bytes) o h) (record { best = none; low = costsIn bytes .combine (o .spent) h; expansions = 0 })
+      ≡ roundsFrom bytes plan budget limit o h most (p .tally .width) wider (p .tally .rounds) p
 
--- before any round
-abbrev unbegun : (h : ℕ) → Progress
-unbegun h = record { best = record { found = false; cost = 0; length = 0 }; low = h; tally = record { expansions = 0; rounds = 0; width = 0 } }
+-- before any round: low is the root's f
+abbrev unbegun : (root : List ℕ) → Progress
+unbegun root = record { best = record { found = false; cost = 0; length = 0 }; low = getD root fAt 0; tally = record { expansions = 0; rounds = 0; width = 0 } }
 
-pub widening-first : {bytes words plan : List ℕ} {widest budget limit h : ℕ} {p : Progress} → RoomFor words plan widest limit → isWidth widest ≡ true → p ≡ beginsAt 1 (unbegun h)
-    → Widening bytes words words plan plan widest budget limit h p (budget + 1)
+root-f : {bytes root : List ℕ} {o : Origin State ℕ} {h : ℕ} → RootIs bytes root o h → costsIn bytes .combine (o .spent) h ≡ getD root fAt 0
+unfolding nodeAt S.root
+root-f is = sym (ap (λ (n : S.Node State ℕ). n .f) (is .node))
+
+pub widening-first : {bytes root words plan : List ℕ} {widest budget limit : ℕ} {p : Progress} → RoomFor words plan widest limit → isWidth widest ≡ true → p ≡ beginsAt 1 (unbegun root)
+    → Widening bytes root words words plan plan widest budget limit p (budget + 1)
 unfolding progressOf bestOf
 widening-first {widest = widest} {budget = budget} room d e =
     rw e
@@ -179,10 +186,10 @@ widening-first {widest = widest} {budget = budget} room d e =
       counted = omega arith;
       wider = widerUpTo widest;
       ladder = doubling-climbs widest d;
-      same = rw (add-one budget);
+      same = λ o h is. rw (root-f is, add-one budget);
     })
 
-module _ {bytes words₀ words plan₀ plan : List ℕ} {widest budget limit h : ℕ} {p : Progress} {most : ℕ} (s : Widening bytes words₀ words plan₀ plan widest budget limit h p most) where
+module _ {bytes root words₀ words plan₀ plan : List ℕ} {widest budget limit : ℕ} {p : Progress} {most : ℕ} (s : Widening bytes root words₀ words plan₀ plan widest budget limit p most) where
   abbrev width : ℕ
   width = p .tally .width
 
@@ -193,23 +200,23 @@ module _ {bytes words₀ words plan₀ plan : List ℕ} {widest budget limit h :
   room r = room-for r (s .same-words) (s .same-plan) (s .some-width) (s .narrow)
 
   -- round k, then those behind it
-  one-more : {words′ plan′ : List ℕ} {left : ℕ} {y : Judged} → most ≡ suc left → RoundJudged bytes words′ plan plan′ widest budget limit h width p y
-      → roundsFrom bytes plan budget limit h most width (s .wider) k p
+  one-more : {words′ plan′ : List ℕ} {left : ℕ} {y : Judged} → most ≡ suc left → RoundJudged bytes root words′ plan plan′ widest budget limit width p y → (o : Origin State ℕ) (h : ℕ) → RootIs bytes root o h
+      → roundsFrom bytes plan budget limit o h most width (s .wider) k p
       ≡ S.unlessOver (costsIn bytes) (systemIn bytes) k width (afterOf (costsIn bytes) (systemIn bytes) (pathBy words′ width (y .layer)) (y .next) (progressOf plan′ (y .progress)))
-      (λ q. S.rounds (costsIn bytes) (systemIn bytes) left budget limit (S.nextWidth (costsIn bytes) (systemIn bytes) width (s .wider)) (S.laterWidths (costsIn bytes) (systemIn bytes) (s .wider)) (suc k) (S.root (costsIn bytes) (systemIn bytes) (originIn bytes) h) q)
+      (λ q. S.rounds (costsIn bytes) (systemIn bytes) left budget limit (S.nextWidth (costsIn bytes) (systemIn bytes) width (s .wider)) (S.laterWidths (costsIn bytes) (systemIn bytes) (s .wider)) (suc k) (S.root (costsIn bytes) (systemIn bytes) o h) q)
   unfolding S.rounds
-  one-more e r = rw (e, last-empty (costsIn bytes) (systemIn bytes) widest width (s .wider) (s .ladder) (s .some-width), r .same)
+  one-more e r o h is = rw (e, last-empty (costsIn bytes) (systemIn bytes) widest width (s .wider) (s .ladder) (s .some-width), r .same o h is)
 
   -- the round has left its number and its width in the tally
-  module _ {words′ plan′ : List ℕ} {y : Judged} (r : RoundJudged bytes words′ plan plan′ widest budget limit h width p y) where
+  module _ {words′ plan′ : List ℕ} {y : Judged} (r : RoundJudged bytes root words′ plan plan′ widest budget limit width p y) where
     pub number-same : y .progress .tally .rounds ≡ k
     number-same = ap (λ (q : ℕ × ℕ). q .0) (r .round-same)
 
     width-same : y .progress .tally .width ≡ width
     width-same = ap (λ (q : ℕ × ℕ). q .1) (r .round-same)
 
-  pub widening-more : {words′ plan′ : List ℕ} {y : Judged} {next : ℕ} {p′ : Progress} → 0 < most → RoundJudged bytes words′ plan plan′ widest budget limit h width p y → y .next ≡ N.On → next ≡ widthBehind widest width → p′ ≡ beginsAt next (y .progress)
-      → length words′ ≡ length words → length plan′ ≡ length plan → Widening bytes words₀ words′ plan₀ plan′ widest budget limit h p′ (most - 1)
+  pub widening-more : {words′ plan′ : List ℕ} {y : Judged} {next : ℕ} {p′ : Progress} → 0 < most → RoundJudged bytes root words′ plan plan′ widest budget limit width p y → y .next ≡ N.On → next ≡ widthBehind widest width → p′ ≡ beginsAt next (y .progress)
+      → length words′ ≡ length words → length plan′ ≡ length plan → Widening bytes root words₀ words′ plan₀ plan′ widest budget limit p′ (most - 1)
   unfolding S.unlessOver afterOf progressOf
   widening-more {y = y} {next = next} pos r on e begins a b =
       let K = costsIn bytes in
@@ -227,11 +234,11 @@ module _ {bytes words₀ words plan₀ plan : List ℕ} {widest budget limit h :
         counted = omega (arith, s .counted, number-same r);
         wider = S.laterWidths K M (s .wider);
         ladder = rw is at (next-climbs K M widest width (s .wider) (s .ladder));
-        same = s .same ∙ one-more one r ∙ rw (on, is, number-same r, add-one k);
+        same = λ o h root-is. s .same o h root-is ∙ one-more one r o h root-is ∙ rw (on, is, number-same r, add-one k);
       })
 
-  pub widening-over : {words′ plan′ : List ℕ} {y : Judged} {e : Ending} → 0 < most → RoundJudged bytes words′ plan plan′ widest budget limit h width p y → y .next ≡ N.Over e
-      → Runs bytes words′ plan′ widest budget limit h (record { ending = e; progress = y .progress; layer = y .layer })
+  pub widening-over : {words′ plan′ : List ℕ} {y : Judged} {e : Ending} → 0 < most → RoundJudged bytes root words′ plan plan′ widest budget limit width p y → y .next ≡ N.Over e
+      → Runs bytes root words′ plan′ widest budget limit (record { ending = e; progress = y .progress; layer = y .layer })
   unfolding S.unlessOver S.answer afterOf progressOf
   widening-over pos r over =
       let one : most ≡ suc (most - 1) = omega arith in
@@ -240,11 +247,11 @@ module _ {bytes words₀ words plan₀ plan : List ℕ} {widest budget limit h :
         some-width = rw (width-same r) (s .some-width);
         narrow = rw (width-same r) (s .narrow);
         inside = rw (width-same r) (rw over at (r .inside));
-        same = rw (number-same r, width-same r) (s .same ∙ one-more one r ∙ rw over);
+        same = λ o h is. rw (number-same r, width-same r) (s .same o h is ∙ one-more one r o h is ∙ rw over);
       }
 
   -- the definition's own last clause, which no run comes to
-  pub widening-spent : most ≡ 0 → Runs bytes words plan widest budget limit h (record { ending = E.Decided W.BudgetSpent; progress = p; layer = 0 })
+  pub widening-spent : most ≡ 0 → Runs bytes root words plan widest budget limit (record { ending = E.Decided W.BudgetSpent; progress = p; layer = 0 })
   unfolding S.rounds S.answer endingOf verdictOf
   widening-spent e =
       record {
@@ -252,5 +259,5 @@ module _ {bytes words₀ words plan₀ plan : List ℕ} {widest budget limit h :
         some-width = s .some-width;
         narrow = s .narrow;
         inside = tt;
-        same = s .same ∙ rw e;
+        same = λ o h is. s .same o h is ∙ rw e;
       }

@@ -4,13 +4,13 @@ use mathlib.Core.Path.{_≡_}
 use mathlib.Core.Bool.{Bool, cond, not, _&&_}
 use mathlib.Core.List.{List}
 use lib.Dec.{eqb}
-use Rattle.model.specs.System.{Costs, System}
+use Rattle.model.specs.System.{Costs, System, Origin}
 use Rattle.model.specs.Meaning.{State}
-use Rattle.search.specs.Search.{After, again, ended, root}
+use Rattle.search.specs.Search.{After, again, ended}
 use Rattle.search.specs.Search as S
-use Rattle.steps.specs.InBytes.{systemIn, originIn}
+use Rattle.steps.specs.InBytes.{systemIn}
 use Rattle.steps.specs.Follow.{costsIn}
-use Rattle.search_paths.specs.Routes.{pathBy}
+use Rattle.search_paths.specs.Routes.{RootIs, pathBy}
 use Rattle.search_tally.specs.Tally.{begunAt}
 use Rattle.search_visits.specs.declared.work.Progress.{Progress}
 use Rattle.search_visits.specs.declared.work.Round.{Round}
@@ -37,9 +37,10 @@ afterOf K M path N.On p = again p
 afterOf K M path (N.Over e) p = ended (record { ending = endingOf path e; progress = p })
 
 -- a round of this width from the progress p, and what follows it
-pub record RoundJudged (bytes words′ plan plan′ : List ℕ) (widest budget limit h width : ℕ) (p : Progress) (y : Judged) : Type 0 where
+pub record RoundJudged (bytes root words′ plan plan′ : List ℕ) (widest budget limit width : ℕ) (p : Progress) (y : Judged) : Type 0 where
   pub best-fits : y .progress .best .length ≤ limit
   pub round-same : roundBegun (y .progress) ≡ roundBegun p
   pub inside : Inside width limit (y .layer) (y .next)
-  pub same : S.afterRound (costsIn bytes) (systemIn bytes) (eqb width widest) (S.round (costsIn bytes) (systemIn bytes) budget limit width (root (costsIn bytes) (systemIn bytes) (originIn bytes) h) (progressOf plan p))
+  pub same : (o : Origin State ℕ) (h : ℕ) → RootIs bytes root o h
+      → S.afterRound (costsIn bytes) (systemIn bytes) (eqb width widest) (S.round (costsIn bytes) (systemIn bytes) budget limit width (S.root (costsIn bytes) (systemIn bytes) o h) (progressOf plan p))
       ≡ afterOf (costsIn bytes) (systemIn bytes) (pathBy words′ width (y .layer)) (y .next) (progressOf plan′ (y .progress))

@@ -3,20 +3,21 @@
 pub mod judges;
 
 ghost use mathlib.Core.Path.{_≡_};
-ghost use mathlib.Core.Bool.{true};
 ghost use Prim.Native.Nat.{_+_, _≤_, _<_, _^_};
-ghost use Rattle.search.specs.Run.{isWidth};
-ghost use Rattle.steps.specs.InBytes.{Outlined};
-ghost use Rattle.search_rounds.specs.Rounds.{RoomFor};
-ghost use Rattle.search_runs.specs.Runs.{Runs};
+ghost use Rattle.search_rounds.specs.Rounds.{Roundable};
+ghost use Rattle.search_runs.specs.Runs.{Runnable, Runs};
 ghost use Rattle.search_runs.specs.Widths.{widthBehind, beginsAt, RoundJudged};
 use crate::judges::Judgement;
 use crate::judges::judge;
+use beam_order::slots::F_AT;
+use beam_order::slots::SLOT_WORDS;
+use outline::layout::PREPARED_WORDS;
+use search_expansion::trials::Best;
 use search_rounds::round;
 use search_tally::Tally;
 use search_tally::begun;
-use search_visits::work::Best;
 use search_visits::work::Ending;
+use search_visits::work::Limits;
 use search_visits::work::Next;
 use search_visits::work::Progress;
 use search_visits::work::Verdict;
@@ -63,28 +64,16 @@ fn judged_round(
     words: &mut [u64],
     plan: &mut [u8],
     model: &[u8],
-    outline: &[u64],
+    outline: &[u64; PREPARED_WORDS],
+    limits: Limits,
     widest: usize,
-    budget: u64,
-    limit: usize,
-    h: u64,
-    width: usize,
+    root: &[u64; SLOT_WORDS],
     progress: Progress,
 ) -> Judged
-    requires { ⌜ Outlined (now model) (now outline) × (RoomFor (now words) (now plan) width limit × (progress .best .length ≤ limit)) ⌝ }
-    ensures { λ r. ⌜ RoundJudged (now (model .entry)) (now (words .exit)) (now (plan .entry)) (now (plan .exit)) widest budget limit h width progress r ⌝ }
+    requires { ⌜ Roundable (now model) (now outline) (now root) (now words) (now plan) (limits .width) (limits .length) progress ⌝ }
+    ensures { λ r. ⌜ RoundJudged (now (model .entry)) (now (root .entry)) (now (words .exit)) (now (plan .entry)) (now (plan .exit)) widest (limits .budget) (limits .length) (limits .width) progress r ⌝ }
 {
-    let x = round(
-        words,
-        plan,
-        model,
-        outline,
-        width,
-        budget,
-        limit,
-        h,
-        progress,
-    );
+    let x = round(words, plan, model, outline, limits, root, progress);
     let ended = x.round;
     let after = ended.progress;
     let next = x.next;
@@ -95,7 +84,7 @@ fn judged_round(
             progress: after,
             layer: layer,
         },
-        Next::On => match judge(ended, width == widest) {
+        Next::On => match judge(ended, limits.width == widest) {
             Judgement::Again => Judged {
                 next: Next::On,
                 progress: after,
@@ -110,27 +99,26 @@ fn judged_round(
     }
 }
 
-// The rounds from the target on, whose bound is h.
+// The rounds from the root on, at widths up to the widest, the width of the limits.
 pub fn rounds(
     words: &mut [u64],
     plan: &mut [u8],
     model: &[u8],
-    outline: &[u64],
-    widest: usize,
-    budget: u64,
-    limit: usize,
-    h: u64,
+    outline: &[u64; PREPARED_WORDS],
+    limits: Limits,
+    root: &[u64; SLOT_WORDS],
 ) -> Stop
-    requires { ⌜ Outlined (now model) (now outline) × (RoomFor (now words) (now plan) widest limit × ((isWidth widest ≡ true) × (budget < 2 ^ 32))) ⌝ }
-    ensures { λ r. ⌜ Runs (now (model .entry)) (now (words .exit)) (now (plan .exit)) widest budget limit h r ⌝ }
+    requires { ⌜ Runnable (now model) (now outline) (now root) (now words) (now plan) (limits .width) (limits .length) (limits .budget) ⌝ }
+    ensures { λ r. ⌜ Runs (now (model .entry)) (now (root .entry)) (now (words .exit)) (now (plan .exit)) (limits .width) (limits .budget) (limits .length) r ⌝ }
 {
+    let widest = limits.width;
     let first = Progress {
         best: Best {
             found: false,
             cost: 0,
             length: 0,
         },
-        low: h,
+        low: root[F_AT],
         tally: Tally {
             expansions: 0,
             rounds: 0,
@@ -138,21 +126,15 @@ pub fn rounds(
         },
     };
     let mut progress = begin(first, 1);
-    let mut most = budget + 1;
+    let mut most = limits.budget + 1;
     while 0 < most {
         let width = progress.tally.width as usize;
-        let x = judged_round(
-            words,
-            plan,
-            model,
-            outline,
-            widest,
-            budget,
-            limit,
-            h,
-            width,
-            progress,
-        );
+        let now = Limits {
+            width: width,
+            length: limits.length,
+            budget: limits.budget,
+        };
+        let x = judged_round(words, plan, model, outline, now, widest, root, progress);
         let after = x.progress;
         let next = x.next;
         let layer = x.layer;

@@ -9,7 +9,7 @@ use Rattle.laws.specs.Lists.{All}
 use Rattle.model.specs.Meaning.{State}
 use Rattle.search.specs.Search.{Node, Result, andThen, visit, layer}
 use Rattle.search.specs.Search as S
-use Rattle.beam_order.specs.Slots.{wordsIn}
+use Rattle.beam_order.specs.Slots.{wordsIn, nextAt, nextEnd}
 use Rattle.steps.specs.InBytes.{systemIn}
 use Rattle.steps.specs.Follow.{costsIn}
 use Rattle.beam.specs.Nodes.{nodeAt}
@@ -30,8 +30,8 @@ pub record Halfway (bytes outline words plan words′ plan′ : List ℕ) (w bud
   pub round-same : roundBegun (x′ .progress) ≡ roundBegun (x .progress)
   pub room-same : length words′ ≡ length words
   pub plan-same : length plan′ ≡ length plan
-  pub current : take (20 * w) words′ ≡ take (20 * w) words
-  pub rows : drop (46 * w) words′ ≡ drop (46 * w) words
+  pub current : take (nextAt * w) words′ ≡ take (nextAt * w) words
+  pub rows : drop (nextEnd * w) words′ ≡ drop (nextEnd * w) words
   pub same : layer (costsIn bytes) (systemIn bytes) budget w (limit - k) (currentOf bytes words w k n) (roundIn bytes words plan w k x)
       ≡ layer (costsIn bytes) (systemIn bytes) budget w (limit - k) (nodesFrom bytes (pathBy words w k) words (n - i) i) (roundIn bytes words′ plan′ w k x′)
 
@@ -73,7 +73,7 @@ module _ {bytes outline words plan words′ plan′ : List ℕ} {w budget limit 
       some-width = width-positive (h .ready .held)
 
       slots : wordsIn words′ i ≡ wordsIn words i
-      slots = slot-first words words′ (20 * w) i (h .current) (omega (arith, h .ready .few-nodes))
+      slots = slot-first words words′ (nextAt * w) i (h .current) (omega (arith, h .ready .few-nodes))
 
       visited : visit (costsIn bytes) (systemIn bytes) budget w (limit - k) (systemIn bytes .status (next-node .state)) next-node (roundIn bytes words′ plan′ w k x′) ≡ resultOf (pathBy words w k) (y .next) (roundIn bytes words″ plan″ w k (y .round))
       visited =
@@ -98,11 +98,12 @@ module _ {bytes outline words plan words′ plan′ : List ℕ} {w budget limit 
             held = l .held;
             narrow = h .ready .narrow;
             depth = h .ready .depth;
+            before = h .ready .before;
             few-steps = h .ready .few-steps;
             plan-room = omega (arith, h .ready .plan-room, plan-long);
             best-fits = l .best-fits;
             few-nodes = h .ready .few-nodes;
-            costs = subst (All (Within k)) (sym (current-kept words′ words″ w some-width (l .current) (l .rows) bytes k n (h .ready .few-nodes))) (h .ready .costs);
+            costs = subst (All (Within (h .ready .before + k))) (sym (current-kept words′ words″ w some-width (l .current) (l .rows) bytes k n (h .ready .few-nodes))) (h .ready .costs);
           }
 
       pub halfway-more : y .next ≡ N.On → Halfway bytes outline words plan words″ plan″ w budget limit k n (i + 1) x (y .round)

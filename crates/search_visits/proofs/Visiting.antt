@@ -9,20 +9,21 @@ use native.Mathlib.Omega.{arith}
 use native.Mathlib.Numerals.{add-one}
 use borrow.Author.Tests.{lt-ltb, le-ltb, le-leb, lt-leb}
 use lib.ListN.{length, take, drop, getD, length-reverse, length-drop, length-take}
-use lib.Seq.{length-take-le, take-at}
+use lib.Dec.{ltb}
+use lib.Seq.{length-take-le, take-at, take-all}
 use Rattle.laws.specs.Lists.{All}
 use Rattle.model.specs.Numbers.{rangeEnd}
 use Rattle.model.specs.Meaning.{State}
 use Rattle.search.specs.Search.{Node, Result, on, less, belowBest, expand, newBest, improvedBy, routeTo, reached, atLimit, counted, advance, refuse, visit}
 use Rattle.search.specs.Search as S
-use Rattle.beam_order.specs.Slots.{slotWords, gAt, fAt, wordsIn}
+use Rattle.beam_order.specs.Slots.{slotWords, gAt, hAt, fAt, stateAt, wordsIn, nextAt, nextEnd}
 use Rattle.steps.specs.declared.answers.StatusAnswer.the-variants as A
 use Rattle.steps.specs.Answers.{statusAnswer}
 use Rattle.steps.specs.InBytes.{systemIn, stateIn}
 use Rattle.steps.specs.Follow.{costsIn}
 use Rattle.steps.proofs.Promises.{cost-order}
 use Rattle.steps.proofs.Following.{is-base, is-unfinished, no-status}
-use Rattle.beam.specs.Nodes.{nodeAt}
+use Rattle.beam.specs.Nodes.{stateWords, nodeAt}
 use Rattle.beam.specs.Layers.{nodesOf, Indexed, roundWith}
 use Rattle.beam.proofs.Mapped.{not-at-most}
 use Rattle.beam.proofs.Whole.{put, put-in}
@@ -38,7 +39,8 @@ use Rattle.search_expansion.specs.declared.trials.Trial.the-variants as T
 use Rattle.search_tally.specs.declared.Tally.{Tally}
 use Rattle.search_expansion.specs.declared.trials.Expanded.{Expanded}
 use Rattle.search_visits.specs.declared.work.Verdict.the-variants as W
-use Rattle.search_visits.specs.declared.work.Best.{Best}
+use Rattle.search_expansion.specs.declared.trials.Best.{Best}
+use Rattle.search_expansion.specs.declared.trials.Parent.{Parent}
 use Rattle.search_visits.specs.declared.work.Round.{Round}
 use Rattle.search_visits.specs.declared.work.Ending.the-variants as E
 use Rattle.search_visits.specs.declared.work.Next.the-variants as N
@@ -46,22 +48,22 @@ use Rattle.search_visits.specs.declared.work.Visited.{Visited}
 
 -- ---- the best plan
 
-below-best-by : (bytes : List ℕ) (found : Bool) (c f : ℕ) (p : List ℕ) → belowBest (costsIn bytes) (systemIn bytes) f (cond found (some (record { cost = c; path = p })) none) ≡ belowCost found c f
-unfolding belowBest less belowCost
+below-best-by : (bytes : List ℕ) (found : Bool) (c f : ℕ) (p : List ℕ) → belowBest (costsIn bytes) (systemIn bytes) f (cond found (some (record { cost = c; path = p })) none) ≡ cond found (ltb f c) true
+unfolding belowBest less
 below-best-by bytes true c f p = rw (cost-order bytes c f) (not-at-most f c)
 below-best-by bytes false c f p = refl
 
-pub below-best-is : (bytes plan : List ℕ) (b : Best) (f : ℕ) → belowBest (costsIn bytes) (systemIn bytes) f (bestOf plan b) ≡ belowCost (b .found) (b .cost) f
-unfolding bestOf
+pub below-best-is : (bytes plan : List ℕ) (b : Best) (f : ℕ) → belowBest (costsIn bytes) (systemIn bytes) f (bestOf plan b) ≡ belowCost b f
+unfolding bestOf belowCost
 below-best-is bytes plan b f = below-best-by bytes (b .found) (b .cost) f (reverse (take (b .length) plan))
 
-best-by : (found : Bool) (c : ℕ) (p : List ℕ) → BestIs found c (cond found (some (record { cost = c; path = p })) none)
-best-by true c p = (refl, refl)
-best-by false c p = refl
-
-pub best-is : (plan : List ℕ) (b : Best) → BestIs (b .found) (b .cost) (bestOf plan b)
+pub best-is : (plan : List ℕ) (b : Best) → BestIs b (bestOf plan b)
 unfolding bestOf
-best-is plan b = best-by (b .found) (b .cost) (reverse (take (b .length) plan))
+best-is plan b = by-found (b .found) refl
+  where
+    by-found : (t : Bool) → b .found ≡ t → BestIs b (cond t (some (record { cost = b .cost; path = reverse (take (b .length) plan) })) none)
+    by-found true e = (e, refl)
+    by-found false e = e
 
 -- ---- rule 2: a new best
 
@@ -84,7 +86,7 @@ module _ (k g : ℕ) (x : Round) where
 
 -- ---- rule 3: at the limit, counting, and the answer of an expansion
 
-pub limited : (f : ℕ) (x : Round) (t : Bool) → t ≡ (x .marks .length || belowCost (x .progress .best .found) (x .progress .best .cost) f)
+pub limited : (f : ℕ) (x : Round) (t : Bool) → t ≡ (x .marks .length || belowCost (x .progress .best) f)
     → Limited f x (record { count = x .count; marks = record { width = x .marks .width; length = t }; improved = x .improved; progress = x .progress })
 unfolding atLimit roundOf progressOf
 limited f x t e = record { count = refl; steps = refl; round-same = refl; same = λ bytes kept plan n q. rw (e, q, below-best-is bytes plan (x .progress .best) f) }
@@ -112,10 +114,10 @@ module _ (g i : ℕ) (z : Expanded) (x : Round) (t : Bool) (m : t ≡ (x .marks 
 -- ---- rule 2: a base state
 
 module _ (words plan : List ℕ) (w k i g : ℕ) (x : Round) where
-  test : (bytes : List ℕ) (n : Node State ℕ) → n .g ≡ g → {t : Bool} → t ≡ belowCost (x .progress .best .found) (x .progress .best .cost) g → belowBest (costsIn bytes) (systemIn bytes) (n .g) (bestOf plan (x .progress .best)) ≡ t
-  test bytes n p b = below-best-is bytes plan (x .progress .best) (n .g) ∙ ap (belowCost (x .progress .best .found) (x .progress .best .cost)) p ∙ sym b
+  test : (bytes : List ℕ) (n : Node State ℕ) → n .g ≡ g → {t : Bool} → t ≡ belowCost (x .progress .best) g → belowBest (costsIn bytes) (systemIn bytes) (n .g) (bestOf plan (x .progress .best)) ≡ t
+  test bytes n p b = below-best-is bytes plan (x .progress .best) (n .g) ∙ ap (belowCost (x .progress .best)) p ∙ sym b
 
-  pub reached-best : (plan′ : List ℕ) (y : Visited) → true ≡ belowCost (x .progress .best .found) (x .progress .best .cost) g → take k plan′ ≡ reverse (pathBy words w k i) → NewBest k g x y → Reached words plan plan′ w k i g x y
+  pub reached-best : (plan′ : List ℕ) (y : Visited) → true ≡ belowCost (x .progress .best) g → take k plan′ ≡ reverse (pathBy words w k i) → NewBest k g x y → Reached words plan plan′ w k i g x y
   unfolding reached roundOf progressOf
   reached-best plan′ y b e h =
       record {
@@ -128,7 +130,7 @@ module _ (words plan : List ℕ) (w k i g : ℕ) (x : Round) where
             (h .same bytes kept plan plan′ (pathBy words w k) n p (q ∙ sym (ap reverse e ∙ reverse-reverse (pathBy words w k i))));
       }
 
-  pub reached-worse : false ≡ belowCost (x .progress .best .found) (x .progress .best .cost) g → Reached words plan plan w k i g x (record { round = x; next = N.On })
+  pub reached-worse : false ≡ belowCost (x .progress .best) g → Reached words plan plan w k i g x (record { round = x; next = N.On })
   unfolding reached roundOf progressOf resultOf
   reached-worse b =
       record {
@@ -142,8 +144,16 @@ module _ (words plan : List ℕ) (w k i g : ℕ) (x : Round) where
 -- ---- the working words
 
 -- a held layer in the making has its room
-pub room : {outline : List ℕ} {w n : ℕ} (words : List ℕ) → Indexed outline w n (nextOf w words) → 46 * w ≤ length words
-room {outline} {w} {n} words h = omega (arith, h .long, width-positive h, length-take (46 * w - 20 * w) (drop (20 * w) words), length-drop (20 * w) words)
+pub room : {outline : List ℕ} {w n : ℕ} (words : List ℕ) → Indexed outline w n (nextOf w words) → nextEnd * w ≤ length words
+room {outline} {w} {n} words h = omega (arith, h .long, width-positive h, length-take (nextEnd * w - nextAt * w) (drop (nextAt * w) words), length-drop (nextAt * w) words)
+
+-- and so has each slot
+pub slot-room : {outline : List ℕ} {w n : ℕ} (words : List ℕ) → Indexed outline w n (nextOf w words) → (i : ℕ) → i < w → i * slotWords + slotWords ≤ length words
+slot-room words h i less = omega (arith, room words h)
+
+-- a node's state, copied out of its words
+pub state-copied : (node state : List ℕ) → length node ≡ slotWords → state ≡ take (length node - stateAt) (drop stateAt node) → state ≡ stateWords node
+state-copied node state l e = e ∙ take-all (length node - stateAt) (drop stateAt node) (omega (arith, length-drop stateAt node))
 
 -- ---- what is left of the working words and the round, by each way of a visit
 
@@ -188,12 +198,17 @@ module _ (bytes outline words node : List ℕ) (w limit k i : ℕ) (x : Round) (
       record { leaves = λ plan. let l = h .leaves plan in record { held = l .held; best-fits = l .best-fits; round-same = l .round-same; inside = l .inside; current = l .current; rows = l .rows; same = rw (z, lt-ltb (x .progress .tally .expansions) budget b) (l .same) } }
 
   -- rule 4: what an expansion leaves
-  module _ (ys : List ℕ) (less : k < limit) (l : length ys ≡ length (nextOf w words)) (z : Expanded)
-      (grows : Grows bytes outline w (x .count) i (x .progress .best .found) (x .progress .best .cost) node (nextOf w words) ys z (λ n q. expand (costsIn bytes) (systemIn bytes) w (systemIn bytes .transitions) 0 n q))
+  abbrev parent : Parent
+  parent = record { slot = i; g = getD node gAt 0; width = w; best = x .progress .best }
+
+  abbrev Growing : (state ys : List ℕ) → Expanded → Type 0
+  Growing state ys z = Grows bytes outline (x .count) parent state (nextOf w words) ys z (λ n q. expand (costsIn bytes) (systemIn bytes) w (systemIn bytes .transitions) 0 n q)
+
+  module _ (state ys : List ℕ) (copied : state ≡ stateWords node) (less : k < limit) (l : length ys ≡ length (nextOf w words)) (z : Expanded) (grows : Growing state ys z)
       (x′ : Round) (one : Counted x x′) (y : Visited) (told : Told (getD node gAt 0) i z x′ y)
     where
       abbrev words′ : List ℕ
-      words′ = put (20 * w) (46 * w) words ys
+      words′ = put (nextAt * w) (nextEnd * w) words ys
 
       abbrev path : ℕ → List ℕ
       path = pathBy words w k
@@ -205,18 +220,18 @@ module _ (bytes outline words node : List ℕ) (w limit k i : ℕ) (x : Round) (
       kept′ = nodesOf w ys bytes path (z .count)
 
       inside-it : nextOf w words′ ≡ ys
-      inside-it = put-in (20 * w) (46 * w) words ys (omega arith) (room words (m .held)) l
+      inside-it = put-in (nextAt * w) (nextEnd * w) words ys (omega arith) (room words (m .held)) l
 
-      current′ : take (20 * w) words′ ≡ take (20 * w) words
+      current′ : take (nextAt * w) words′ ≡ take (nextAt * w) words
       current′ = making-first words ys w (room words (m .held)) l
 
-      rows′ : drop (46 * w) words′ ≡ drop (46 * w) words
+      rows′ : drop (nextEnd * w) words′ ≡ drop (nextEnd * w) words
       rows′ = making-last words ys w (room words (m .held)) l
 
       grown : (plan : List ℕ) → expand (costsIn bytes) (systemIn bytes) w (systemIn bytes .transitions) 0 here (counted (costsIn bytes) (systemIn bytes) (roundOf kept plan x)) ≡ resultOf path (y .next) (roundOf kept′ plan (y .round))
       unfolding counted roundOf progressOf nodeAt
       grown plan =
-          grows .same path (counted (costsIn bytes) (systemIn bytes) (roundOf kept plan x)) refl (best-is plan (x .progress .best))
+          subst (λ (s : List ℕ). Growing s ys z) copied grows .same path (getD node hAt 0) (getD node fAt 0) (counted (costsIn bytes) (systemIn bytes) (roundOf kept plan x)) refl (best-is plan (x .progress .best))
           ∙ ap (λ (r : S.Round State ℕ). trialResult (z .trial) here (roundWith kept′ (z .cut) r)) (one .same bytes kept plan)
           ∙ told .same kept kept′ plan path here refl refl
 
@@ -241,20 +256,20 @@ module _ (bytes outline words node : List ℕ) (w limit k i : ℕ) (x : Round) (
   abbrev rest : (budget : ℕ) → S.Round State ℕ → Result (S.Round State ℕ) ℕ
   rest budget = visit (costsIn bytes) (systemIn bytes) budget w (limit - k) (systemIn bytes .status (here .state)) here
 
-  pub base-leaves : (budget : ℕ) (plan plan′ : List ℕ) (y : Visited) → A.Base ≡ statusAnswer (systemIn bytes .status (stateIn bytes (take 16 node))) → Reached words plan plan′ w k i (getD node gAt 0) x y → Leaves bytes outline words words plan plan′ w limit k x y (rest budget)
+  pub base-leaves : (budget : ℕ) (plan plan′ : List ℕ) (y : Visited) → A.Base ≡ statusAnswer (systemIn bytes .status (stateIn bytes (stateWords node))) → Reached words plan plan′ w k i (getD node gAt 0) x y → Leaves bytes outline words words plan plan′ w limit k x y (rest budget)
   unfolding visit nodeAt
   base-leaves budget plan plan′ y e h =
       stays plan plan′ y (rest budget) (h .count) (h .steps limit (m .depth) (m .best-fits)) (h .round-same) (h .inside w limit k)
       (rw (is-base _ (sym e)) (h .same bytes (nodesOf w (nextOf w words) bytes (pathBy words w k) (x .count)) here refl refl))
 
-  pub advance-leaves : (budget : ℕ) (words′ plan : List ℕ) (y : Visited) → A.Unfinished ≡ statusAnswer (systemIn bytes .status (stateIn bytes (take 16 node)))
+  pub advance-leaves : (budget : ℕ) (words′ plan : List ℕ) (y : Visited) → A.Unfinished ≡ statusAnswer (systemIn bytes .status (stateIn bytes (stateWords node)))
       → Keeps bytes outline words words′ w limit k x y (advance (costsIn bytes) (systemIn bytes) budget w (limit - k) here) → Leaves bytes outline words words′ plan plan w limit k x y (rest budget)
   unfolding visit nodeAt
   advance-leaves budget words′ plan y e h =
       let l = h .leaves plan in
       record { held = l .held; best-fits = l .best-fits; round-same = l .round-same; inside = l .inside; current = l .current; rows = l .rows; same = rw (is-unfinished _ (sym e)) (l .same) }
 
-  pub trouble-leaves : (budget : ℕ) (plan : List ℕ) {t : ℕ} → A.Trouble t ≡ statusAnswer (systemIn bytes .status (stateIn bytes (take 16 node))) → Leaves bytes outline words words plan plan w limit k x (record { round = x; next = N.Over (E.At t (getD node gAt 0) i) }) (rest budget)
+  pub trouble-leaves : (budget : ℕ) (plan : List ℕ) {t : ℕ} → A.Trouble t ≡ statusAnswer (systemIn bytes .status (stateIn bytes (stateWords node))) → Leaves bytes outline words words plan plan w limit k x (record { round = x; next = N.Over (E.At t (getD node gAt 0) i) }) (rest budget)
   unfolding visit refuse routeTo nodeAt resultOf endingOf roundOf
   trouble-leaves budget plan {t} e = stays plan plan (record { round = x; next = N.Over (E.At t (getD node gAt 0) i) }) (rest budget) refl (m .best-fits) refl (m .slot, m .depth) (rw (no-status _ (sym e)))
 
@@ -279,31 +294,30 @@ module _ (bytes : List ℕ) (path : ℕ → List ℕ) (words : List ℕ) where
           rw z (a .0)
 
 module _ {bytes outline words plan : List ℕ} {w limit k n : ℕ} {x : Round} (r : Ready bytes outline words plan w limit k n x) (i : ℕ) (h : i < n) where
-  pub slot-room : i * slotWords + slotWords ≤ length words
-  slot-room = omega (arith, room words (r .held), r .few-nodes)
-
   slot-long : length (wordsIn words i) ≡ slotWords
   unfolding wordsIn
-  slot-long = length-take-le slotWords (drop (i * slotWords) words) (omega (arith, slot-room, length-drop (i * slotWords) words))
+  slot-long =
+      length-take-le slotWords (drop (i * slotWords) words)
+      (omega (arith, slot-room words (r .held) i (omega (arith, r .few-nodes)), length-drop (i * slotWords) words))
 
   slot-small : getD (wordsIn words i) gAt 0 < 2 ^ 63
   unfolding nodeAt
   slot-small =
-      let s : getD (wordsIn words i) gAt 0 ≤ k * rangeEnd = all-from bytes (pathBy words w k) words (Within k) n 0 i (omega arith) (omega arith) (r .costs) in
+      let s : getD (wordsIn words i) gAt 0 ≤ (r .before + k) * rangeEnd = all-from bytes (pathBy words w k) words (Within (r .before + k)) n 0 i (omega arith) (omega arith) (r .costs) in
       omega (arith, s, r .depth, r .few-steps)
 
-  pub met-at : (node : List ℕ) → node ≡ wordsIn words i → Met bytes outline words node w limit k i x
-  met-at node e =
+  pub met-at : Met bytes outline words (wordsIn words i) w limit k i x
+  met-at =
       record {
         outlined = r .outlined;
         held = r .held;
         narrow = r .narrow;
         depth = r .depth;
-        few-steps = r .few-steps;
+        few-steps = omega (arith, r .few-steps);
         best-fits = r .best-fits;
         slot = omega (arith, r .few-nodes);
-        long = rw e slot-long;
-        small = rw e slot-small;
+        long = slot-long;
+        small = slot-small;
       }
 
 pub visited-at : (bytes outline words words′ plan plan′ : List ℕ) (w budget limit k i : ℕ) (x : Round) (y : Visited) (node : List ℕ) → node ≡ wordsIn words i

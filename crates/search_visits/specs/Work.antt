@@ -1,5 +1,5 @@
 -- The definition's records and results that the code's stand for.
-use Prim.Native.Nat.{ℕ, _*_, _≤_, _<_}
+use Prim.Native.Nat.{ℕ, _+_, _*_, _≤_, _<_}
 use mathlib.Core.Path.{_≡_}
 use mathlib.Core.Bool.{cond}
 use mathlib.Core.List.{List, _∷_, reverse}
@@ -19,7 +19,7 @@ use Rattle.search_expansion.specs.Expansion.{expandIn}
 use Rattle.search_paths.specs.Routes.{pathBy, nextOf, currentOf}
 use Rattle.search_visits.specs.declared.work.Verdict.{Verdict}
 use Rattle.search_visits.specs.declared.work.Verdict.the-variants as W
-use Rattle.search_visits.specs.declared.work.Best.{Best}
+use Rattle.search_expansion.specs.declared.trials.Best.{Best}
 use Rattle.search_visits.specs.declared.work.Progress.{Progress}
 use Rattle.search_visits.specs.declared.work.Round.{Round}
 use Rattle.search_visits.specs.declared.work.Ending.{Ending}
@@ -27,6 +27,7 @@ use Rattle.search_visits.specs.declared.work.Ending.the-variants as E
 use Rattle.search_visits.specs.declared.work.Next.{Next}
 use Rattle.search_visits.specs.declared.work.Next.the-variants as N
 use Rattle.search_visits.specs.declared.work.Visited.{Visited}
+use Rattle.beam_order.specs.Slots.{nextAt, nextEnd}
 
 unfoldable pub verdictOf : Verdict → A.Verdict
 verdictOf W.Cheapest = A.cheapest
@@ -82,21 +83,22 @@ visitIn bytes budget w left n = S.visit (costsIn bytes) (systemIn bytes) budget 
 abbrev pub layerIn : (bytes : List ℕ) (budget w left : ℕ) → List (Node State ℕ) → S.Round State ℕ → Result (S.Round State ℕ) ℕ
 layerIn bytes budget w left = S.layer (costsIn bytes) (systemIn bytes) budget w left
 
--- g of the node: each of k steps has added less than the end of the numbers' range
+-- g of the node: each of k steps, those before the root included, has added less than the end of the numbers' range
 abbrev pub Within : (k : ℕ) → Node State ℕ → Type 0
 Within k m = m .g ≤ k * rangeEnd
 
--- what the code needs of a round in layer k, which has n nodes
+-- what the code needs of a round in layer k, which has n nodes. before: the steps made before the root
 pub record Ready (bytes outline words plan : List ℕ) (w limit k n : ℕ) (x : Round) : Type 0 where
   pub outlined : Outlined bytes outline
   pub held : Indexed outline w (x .count) (nextOf w words)
   pub narrow : w ≤ 4096
   pub depth : k ≤ limit
-  pub few-steps : limit ≤ mostSteps
+  pub before : ℕ
+  pub few-steps : before + limit ≤ mostSteps
   pub plan-room : limit ≤ length plan
   pub best-fits : x .progress .best .length ≤ limit
   pub few-nodes : n ≤ w
-  pub costs : All (Within k) (currentOf bytes words w k n)
+  pub costs : All (Within (before + k)) (currentOf bytes words w k n)
 
 -- where the route to a refusal ends: in a slot of layer k, or one step further, within the limit
 abbrev pub EndsInside : (w limit k : ℕ) → Ending → Type 0
@@ -115,6 +117,6 @@ pub record Leaves (bytes outline words words′ plan plan′ : List ℕ) (w limi
   pub best-fits : y .round .progress .best .length ≤ limit
   pub round-same : roundBegun (y .round .progress) ≡ roundBegun (x .progress)
   pub inside : Inside w limit k (y .next)
-  pub current : take (20 * w) words′ ≡ take (20 * w) words
-  pub rows : drop (46 * w) words′ ≡ drop (46 * w) words
+  pub current : take (nextAt * w) words′ ≡ take (nextAt * w) words
+  pub rows : drop (nextEnd * w) words′ ≡ drop (nextEnd * w) words
   pub same : rule (roundIn bytes words plan w k x) ≡ resultOf (pathBy words w k) (y .next) (roundIn bytes words′ plan′ w k (y .round))

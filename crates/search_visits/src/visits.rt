@@ -3,25 +3,34 @@
 ghost use Prim.Native.Nat.{_+_, _-_, _≤_, _<_, _^_};
 ghost use lib.ListN.{length};
 ghost use Rattle.beam_order.specs.Slots.{wordsIn};
-ghost use Rattle.search_visits.specs.Work.{nodeIn, countedIn, advanceIn, visitIn, Ready, Leaves};
+ghost use Rattle.search_paths.specs.Routes.{Traceable};
+ghost use Rattle.search_visits.specs.Work.{nodeIn, countedIn, advanceIn, visitIn, Leaves};
 ghost use Rattle.search_visits.specs.Visits.{NewBest, Reached, Limited, Counted, Told, Met, Keeps};
-use crate::work::Best;
 use crate::work::Ending;
+use crate::work::Limits;
 use crate::work::Marks;
 use crate::work::Next;
 use crate::work::Progress;
 use crate::work::Round;
+use crate::work::Spot;
 use crate::work::Verdict;
 use crate::work::Visited;
-use beam_order::F_AT;
-use beam_order::G_AT;
+use beam_order::slots::F_AT;
+use beam_order::slots::G_AT;
+use beam_order::slots::NEXT_AT;
+use beam_order::slots::NEXT_END;
+use beam_order::slots::SLOT_WORDS;
+use beam_order::slots::STATE_AT;
+use laws::copy_words;
+use outline::layout::PREPARED_WORDS;
+use outline::layout::STATE_WORDS;
 use search_expansion::children::below_best;
 use search_expansion::children::either;
 use search_expansion::children::expand;
+use search_expansion::trials::Best;
 use search_expansion::trials::Expanded;
+use search_expansion::trials::Parent;
 use search_expansion::trials::Trial;
-use search_paths::NEXT_AT;
-use search_paths::NEXT_END;
 use search_paths::current::copy_node;
 use search_paths::trace::trace;
 use search_tally::counted;
@@ -67,23 +76,15 @@ fn new_best(k: usize, g: u64, round: Round) -> Visited
     }
 }
 
-// Rule 2: the base state in slot i of layer k, its path costing g; the plan is written if it is best.
-fn reached(
-    words: &[u64],
-    plan: &mut [u8],
-    w: usize,
-    k: usize,
-    i: usize,
-    g: u64,
-    round: Round,
-) -> Visited
-    requires { ⌜ (i < w) × ((w ≤ 4096) × ((k ≤ 256) × (k ≤ length (now plan)))) ⌝ }
-    ensures { λ r. ⌜ Reached (now (words .entry)) (now (plan .entry)) (now (plan .exit)) w k i g round r ⌝ }
+// Rule 2: the base state at a spot, its path costing g; the plan is written if it is best.
+fn reached(words: &[u64], plan: &mut [u8], w: usize, spot: Spot, g: u64, round: Round) -> Visited
+    requires { ⌜ Traceable (now plan) w (spot .layer) × (spot .slot < w) ⌝ }
+    ensures { λ r. ⌜ Reached (now (words .entry)) (now (plan .entry)) (now (plan .exit)) w (spot .layer) (spot .slot) g round r ⌝ }
 {
-    let found = round.progress.best.found;
-    let cost = round.progress.best.cost;
-    if below_best(found, cost, g) {
-        trace(words, w, k, i, plan);
+    let best = round.progress.best;
+    let k = spot.layer;
+    if below_best(best, g) {
+        trace(words, w, k, spot.slot, plan);
         return new_best(k, g, round);
     }
     Visited {
@@ -98,7 +99,7 @@ fn at_limit(f: u64, round: Round) -> Round
 {
     let best = round.progress.best;
     let progress = round.progress;
-    let below = below_best(best.found, best.cost, f);
+    let below = below_best(best, f);
     let mark = either(round.marks.length, below);
     Round {
         count: round.count,
@@ -164,56 +165,59 @@ fn told(g: u64, i: usize, x: Expanded, round: Round) -> Visited
     }
 }
 
-// Rule 4: counts one expansion, and expands the node in slot i of layer k.
+// Rule 4: counts one expansion, and expands the node at a spot.
 fn expand_node(
     words: &mut [u64],
     model: &[u8],
-    outline: &[u64],
-    w: usize,
-    limit: usize,
-    k: usize,
-    i: usize,
+    outline: &[u64; PREPARED_WORDS],
+    limits: Limits,
+    spot: Spot,
     node: &[u64],
     round: Round,
 ) -> Visited
-    requires { ⌜ Met (now model) (now outline) (now words) (now node) w limit k i round × ((k < limit) × (round .progress .tally .expansions + 1 < 2 ^ 64)) ⌝ }
-    ensures { λ r. ⌜ Keeps (now (model .entry)) (now (outline .entry)) (now (words .entry)) (now (words .exit)) w limit k round r (countedIn (now (model .entry)) w (nodeIn (now (model .entry)) (now (words .entry)) w k i (now (node .entry)))) ⌝ }
+    requires { ⌜ Met (now model) (now outline) (now words) (now node) (limits .width) (limits .length) (spot .layer) (spot .slot) round × ((spot .layer < limits .length) × (round .progress .tally .expansions + 1 < 2 ^ 64)) ⌝ }
+    ensures { λ r. ⌜ Keeps (now (model .entry)) (now (outline .entry)) (now (words .entry)) (now (words .exit)) (limits .width) (limits .length) (spot .layer) round r (countedIn (now (model .entry)) (limits .width) (nodeIn (now (model .entry)) (now (words .entry)) (limits .width) (spot .layer) (spot .slot) (now (node .entry)))) ⌝ }
 {
+    let w = limits.width;
+    let i = spot.slot;
     let n = round.count;
     let best = round.progress.best;
-    let found = best.found;
-    let cost = best.cost;
     let g = node[G_AT];
+    let mut state = [0u64; STATE_WORDS];
+    copy_words(&node[STATE_AT..], &mut state);
+    let parent = Parent {
+        slot: i,
+        g: g,
+        width: w,
+        best: best,
+    };
     let a = NEXT_AT * w;
     let e = NEXT_END * w;
-    let x = expand(&mut words[a..e], model, outline, w, n, found, cost, node, i);
+    let x = expand(&mut words[a..e], model, outline, n, &state, parent);
     told(g, i, x, count_one(round))
 }
 
-// Rule 3: the unfinished state in slot i of layer k.
+// Rule 3: the unfinished state at a spot.
 fn advance(
     words: &mut [u64],
     model: &[u8],
-    outline: &[u64],
-    w: usize,
-    budget: u64,
-    limit: usize,
-    k: usize,
-    i: usize,
+    outline: &[u64; PREPARED_WORDS],
+    limits: Limits,
+    spot: Spot,
     node: &[u64],
     round: Round,
 ) -> Visited
-    requires { ⌜ Met (now model) (now outline) (now words) (now node) w limit k i round ⌝ }
-    ensures { λ r. ⌜ Keeps (now (model .entry)) (now (outline .entry)) (now (words .entry)) (now (words .exit)) w limit k round r (advanceIn (now (model .entry)) budget w (limit - k) (nodeIn (now (model .entry)) (now (words .entry)) w k i (now (node .entry)))) ⌝ }
+    requires { ⌜ Met (now model) (now outline) (now words) (now node) (limits .width) (limits .length) (spot .layer) (spot .slot) round ⌝ }
+    ensures { λ r. ⌜ Keeps (now (model .entry)) (now (outline .entry)) (now (words .entry)) (now (words .exit)) (limits .width) (limits .length) (spot .layer) round r (advanceIn (now (model .entry)) (limits .budget) (limits .width) (limits .length - spot .layer) (nodeIn (now (model .entry)) (now (words .entry)) (limits .width) (spot .layer) (spot .slot) (now (node .entry)))) ⌝ }
 {
-    if k == limit {
+    if spot.layer == limits.length {
         return Visited {
             round: at_limit(node[F_AT], round),
             next: Next::On,
         };
     }
-    if round.progress.tally.expansions < budget {
-        return expand_node(words, model, outline, w, limit, k, i, node, round);
+    if round.progress.tally.expansions < limits.budget {
+        return expand_node(words, model, outline, limits, spot, node, round);
     }
     Visited {
         round: round,
@@ -221,66 +225,47 @@ fn advance(
     }
 }
 
-// Rules 2 and 3: the node with these words, in slot i of layer k.
+// Rules 2 and 3: the node with these words, at a spot.
 fn visit_node(
     words: &mut [u64],
     plan: &mut [u8],
     model: &[u8],
-    outline: &[u64],
-    w: usize,
-    budget: u64,
-    limit: usize,
-    k: usize,
-    i: usize,
+    outline: &[u64; PREPARED_WORDS],
+    limits: Limits,
+    spot: Spot,
     node: &[u64],
     round: Round,
 ) -> Visited
-    requires { ⌜ Met (now model) (now outline) (now words) (now node) w limit k i round × (limit ≤ length (now plan)) ⌝ }
-    ensures { λ r. ⌜ Leaves (now (model .entry)) (now (outline .entry)) (now (words .entry)) (now (words .exit)) (now (plan .entry)) (now (plan .exit)) w limit k round r (visitIn (now (model .entry)) budget w (limit - k) (nodeIn (now (model .entry)) (now (words .entry)) w k i (now (node .entry)))) ⌝ }
+    requires { ⌜ Met (now model) (now outline) (now words) (now node) (limits .width) (limits .length) (spot .layer) (spot .slot) round × (limits .length ≤ length (now plan)) ⌝ }
+    ensures { λ r. ⌜ Leaves (now (model .entry)) (now (outline .entry)) (now (words .entry)) (now (words .exit)) (now (plan .entry)) (now (plan .exit)) (limits .width) (limits .length) (spot .layer) round r (visitIn (now (model .entry)) (limits .budget) (limits .width) (limits .length - spot .layer) (nodeIn (now (model .entry)) (now (words .entry)) (limits .width) (spot .layer) (spot .slot) (now (node .entry)))) ⌝ }
 {
     let g = node[G_AT];
-    match status(model, outline, &node[..16]) {
-        StatusAnswer::Base => reached(words, plan, w, k, i, g, round),
-        StatusAnswer::Unfinished => {
-            advance(words, model, outline, w, budget, limit, k, i, node, round)
-        }
+    let mut state = [0u64; STATE_WORDS];
+    copy_words(&node[STATE_AT..], &mut state);
+    match status(model, outline, &state) {
+        StatusAnswer::Base => reached(words, plan, limits.width, spot, g, round),
+        StatusAnswer::Unfinished => advance(words, model, outline, limits, spot, node, round),
         StatusAnswer::Trouble(e) => Visited {
             round: round,
-            next: Next::Over(Ending::At(e, g, i)),
+            next: Next::Over(Ending::At(e, g, spot.slot)),
         },
     }
 }
 
-// Rules 2 and 3: takes the node in slot i of layer k.
+// Rules 2 and 3: takes the node at a spot.
 pub fn visit(
     words: &mut [u64],
     plan: &mut [u8],
     model: &[u8],
-    outline: &[u64],
-    w: usize,
-    budget: u64,
-    limit: usize,
-    k: usize,
-    n: usize,
-    i: usize,
+    outline: &[u64; PREPARED_WORDS],
+    limits: Limits,
+    spot: Spot,
     round: Round,
 ) -> Visited
-    requires { ⌜ Ready (now model) (now outline) (now words) (now plan) w limit k n round × (i < n) ⌝ }
-    ensures { λ r. ⌜ Leaves (now (model .entry)) (now (outline .entry)) (now (words .entry)) (now (words .exit)) (now (plan .entry)) (now (plan .exit)) w limit k round r (visitIn (now (model .entry)) budget w (limit - k) (nodeIn (now (model .entry)) (now (words .entry)) w k i (wordsIn (now (words .entry)) i))) ⌝ }
+    requires { ⌜ Met (now model) (now outline) (now words) (wordsIn (now words) (spot .slot)) (limits .width) (limits .length) (spot .layer) (spot .slot) round × (limits .length ≤ length (now plan)) ⌝ }
+    ensures { λ r. ⌜ Leaves (now (model .entry)) (now (outline .entry)) (now (words .entry)) (now (words .exit)) (now (plan .entry)) (now (plan .exit)) (limits .width) (limits .length) (spot .layer) round r (visitIn (now (model .entry)) (limits .budget) (limits .width) (limits .length - spot .layer) (nodeIn (now (model .entry)) (now (words .entry)) (limits .width) (spot .layer) (spot .slot) (wordsIn (now (words .entry)) (spot .slot)))) ⌝ }
 {
-    let mut node = [0u64; 20];
-    copy_node(words, i, &mut node);
-    visit_node(
-        words,
-        plan,
-        model,
-        outline,
-        w,
-        budget,
-        limit,
-        k,
-        i,
-        &node,
-        round,
-    )
+    let mut node = [0u64; SLOT_WORDS];
+    copy_node(words, spot.slot, &mut node);
+    visit_node(words, plan, model, outline, limits, spot, &node, round)
 }

@@ -1,5 +1,6 @@
 // What a round and a run bring forward, beside the working words and the bytes of the best plan.
 
+use search_expansion::trials::Best;
 use search_tally::Tally;
 
 // Document 01's verdicts.
@@ -12,18 +13,24 @@ pub enum Verdict {
     Contradicted,
 }
 
-// The best plan, if one was found: its cost and its length.
-pub struct Best {
-    pub found: bool,
-    pub cost: u64,
-    pub length: usize,
-}
-
 // What lasts over rounds: the best plan, low, the tally of the run.
 pub struct Progress {
     pub best: Best,
     pub low: u64,
     pub tally: Tally,
+}
+
+// The width of a round, the length limit and the budget.
+pub struct Limits {
+    pub width: usize,
+    pub length: usize,
+    pub budget: u64,
+}
+
+// A slot of a layer.
+pub struct Spot {
+    pub layer: usize,
+    pub slot: usize,
 }
 
 // The width mark and the length mark.

@@ -2,7 +2,7 @@
 use Prim.Native.Nat.{ℕ, suc, _+_, _*_, _≤_, _<_}
 use mathlib.Core.Path.{_≡_, refl, sym, ap, _∙_, subst}
 use mathlib.Core.Bool.{Bool, true, false, _&&_, _||_}
-use mathlib.Core.List.{List, [], _∷_}
+use mathlib.Core.List.{List, [], _∷_, _++_}
 use mathlib.Core.Option.{none}
 use native.Mathlib.Nat.{mul-le-mul}
 use native.Mathlib.Numerals.{add-one}
@@ -10,10 +10,9 @@ use native.Mathlib.Omega.{arith}
 use lib.ListN.{length, drop, getD}
 use lib.Dec.{eqb, leb}
 use lib.Seq.{drop-cons}
-use borrow.Author.Tests.{lt-ltb, le-ltb, le-leb, lt-leb, leb-true, eq-eqb, ne-eqb, eqb-true}
-use Rattle.laws.specs.Lists.{any, All}
+use borrow.Author.Tests.{lt-ltb, le-ltb, le-leb, lt-leb, leb-true, eq-eqb, ne-eqb}
+use Rattle.laws.specs.Lists.{any}
 use Rattle.laws.proofs.Bools.{and-both}
-use Rattle.laws.proofs.Lists.{some-all, any-some}
 use Rattle.model.specs.Numbers.{mostSteps}
 use Rattle.model.specs.Values.{Value, value, trouble}
 use Rattle.model.specs.Meaning.{State}
@@ -22,7 +21,8 @@ use Rattle.search.specs.Answer.{noPlan, verdict, byState, byInput, bufferAfter}
 use Rattle.search.specs.Search as S
 use Rattle.search.specs.Search.{root, search, searchWithin, enter, begin}
 use Rattle.search.specs.Demands.{Demands}
-use Rattle.search.specs.Run.{widerWidths, isWidth, widerUpTo, settingsFit, wordsNeeded, lentFits, refusedByInput, searchModel, runRead, run}
+use Rattle.search.specs.Run.{upTo, plain, widerWidths, isWidth, widerUpTo, settingsFit, wordsNeeded, lentFits, refusedByInput, searchModel, runRead, run}
+use Rattle.search.proofs.Settings.{beam-fits, form-fits, widest-within, limit-within}
 use Rattle.search.proofs.Targets.{broken-start, troubled-start, unbounded-start}
 use Rattle.search.proofs.Counts.{never-by-input}
 use Rattle.search.proofs.Mission.{run-meets-demands, steps-fit-buffer, refusal-changes-no-buffer}
@@ -33,6 +33,8 @@ use Rattle.steps.specs.declared.answers.HeldAnswer.{HeldAnswer}
 use Rattle.steps.specs.declared.answers.HeldAnswer.the-variants as H
 use Rattle.steps.specs.declared.answers.BoundAnswer.{BoundAnswer}
 use Rattle.steps.specs.declared.answers.BoundAnswer.the-variants as B
+use Rattle.beam.specs.Nodes.{headerOf, nodeAt}
+use Rattle.search_paths.specs.Routes.{RootIs}
 use Rattle.search_runs.specs.Runs.{Runs}
 use Rattle.search_report.specs.Answers.{AnswerIs, stopAnswer, Reports, numbersOf}
 use Rattle.solver.specs.Searches.{SearchSays, settings, lentOf, lent, runOf, Searched, enteredOf, endedAtTarget}
@@ -84,39 +86,28 @@ and-yes false = refl
 module _ (w l b : ℕ) where
   pub fit-short : l < 1 → settingsFit (settings w l b) ≡ false
   unfolding settingsFit
-  fit-short h = rw (lt-leb 1 l h, and-no (among w widths))
+  fit-short h = rw (lt-leb 1 l h) (and-no (among w widths))
 
   pub fit-long : mostSteps < l → settingsFit (settings w l b) ≡ false
   unfolding settingsFit
-  fit-long h = rw (lt-leb l mostSteps h) (and-no (among w widths && leb 1 l))
+  fit-long h = rw (lt-leb l mostSteps h, and-no (leb 1 l)) (and-no (among w widths))
 
   pub fit-width : 1 ≤ l → l ≤ mostSteps → settingsFit (settings w l b) ≡ isWidth w
   unfolding settingsFit
-  fit-width h k = rw (le-leb 1 l h, le-leb l mostSteps k, and-yes (among w widths)) (and-yes (among w widths))
+  fit-width h k = rw (le-leb 1 l h, le-leb l mostSteps k) (and-yes (among w widths))
 
   pub fit-whatever : (c : ℕ) → settingsFit (settings w l b) ≡ settingsFit (settings w l c)
   unfolding settingsFit
   fit-whatever c = refl
 
-  listed : settingsFit (settings w l b) ≡ true → (among w widths && leb 1 l) ≡ true
-  unfolding settingsFit
-  listed e = and-both (among w widths && leb 1 l) (leb l mostSteps) e .0
-
   pub width-fits : settingsFit (settings w l b) ≡ true → isWidth w ≡ true
-  width-fits e = and-both (among w widths) (leb 1 l) (listed e) .0
+  width-fits e = beam-fits (settings w l b) e
+
+  pub narrow : settingsFit (settings w l b) ≡ true → (0 < w) × (w ≤ 4096)
+  narrow e = widest-within (upTo w) (width-fits e)
 
   pub some-steps : settingsFit (settings w l b) ≡ true → l ≤ mostSteps
-  unfolding settingsFit
-  some-steps e = leb-true l mostSteps (and-both (among w widths && leb 1 l) (leb l mostSteps) e .1)
-
-narrow-each : All (λ v. (0 < v) × (v ≤ 4096)) widths
-narrow-each =
-    ((omega arith, omega arith), ((omega arith, omega arith), ((omega arith, omega arith), ((omega arith, omega arith), ((omega arith, omega arith), ((omega arith, omega arith), ((omega arith, omega arith), ((omega arith, omega arith), ((omega arith, omega arith), ((omega arith, omega arith), ((omega arith, omega arith), ((omega arith, omega arith), ((omega arith, omega arith), tt)))))))))))))
-
-pub narrow : (w : ℕ) → isWidth w ≡ true → (0 < w) × (w ≤ 4096)
-narrow w e =
-    some-all widths narrow-each (any-some (λ v. eqb v w) widths e)
-    (λ v within h. subst (λ (x : ℕ). (0 < x) × (x ≤ 4096)) (eqb-true v w h) within)
+  some-steps e = limit-within (plain l) (form-fits (settings w l b) e) .1
 
 -- ---- what is lent
 
@@ -195,10 +186,15 @@ module _ (bytes : List ℕ) (widest limit budget : ℕ) where
   nothing-spent : (h : ℕ) → costsIn bytes .combine 0 h ≡ h
   nothing-spent h = ap (λ (c : ℕ). costsIn bytes .combine c h) (sym (cost-empty bytes)) ∙ cost-laws bytes .left-unit h
 
+  -- the words of the target, as the root
+  pub target-root : (target : List ℕ) (h : ℕ) → stateIn bytes target ≡ targetIn bytes → RootIs bytes (headerOf 0 h h 0 ++ target) (originIn bytes) h
+  unfolding nodeAt root
+  target-root target h e = record { node = rw (e, origin-start bytes, origin-spent bytes, nothing-spent h) }
+
   with-bound : (a : Value Bool) (b : Value ℕ) (h : ℕ) → admitted bytes ≡ a → bounded bytes ≡ b → enteredOf a b ≡ E.Bounded h
-      → searched ≡ S.rounds (costsIn bytes) (systemIn bytes) (suc budget) budget limit 1 (widerUpTo widest) 1 (root (costsIn bytes) (systemIn bytes) (originIn bytes) h) (record { best = none; low = h; expansions = 0 })
+      → searched ≡ S.rounds (costsIn bytes) (systemIn bytes) (suc budget) budget limit 1 (widerUpTo widest) 1 (root (costsIn bytes) (systemIn bytes) (originIn bytes) h) (record { best = none; low = costsIn bytes .combine (originIn bytes .spent) h; expansions = 0 })
   unfolding enteredOf search searchWithin enter begin
-  with-bound (value true) (value x) h p q e = let same : x ≡ h = cc in rw (origin-start bytes, origin-spent bytes, p, q, same, nothing-spent h)
+  with-bound (value true) (value x) h p q e = let same : x ≡ h = cc in rw (origin-start bytes, p, q, same)
   with-bound (value true) (trouble t) h p q e = let z : _≡_ {A = ℕ} 0 1 = cc in absurd (omega arith)
   with-bound (value false) b h p q e = let z : _≡_ {A = ℕ} 0 1 = cc in absurd (omega arith)
   with-bound (trouble t) b h p q e = let z : _≡_ {A = ℕ} 0 1 = cc in absurd (omega arith)
@@ -222,9 +218,9 @@ module _ (bytes : List ℕ) (widest limit budget : ℕ) where
 
   module _ (plan plan′ : List ℕ) (x : Answer) (q : Entered) (entered : q ≡ enteredOf (admitted bytes) (bounded bytes)) where
     pub says-run : (h : ℕ) → q ≡ E.Bounded h
-        → (words best : List ℕ) (stop : Stop) → Runs bytes words best widest budget limit h stop → Reports words best plan plan′ stop x → SearchSays bytes plan plan′ widest limit budget x
-    says-run h e words best stop runs r =
-        let same : searched ≡ stopAnswer bytes words best stop = with-bound (admitted bytes) (bounded bytes) h refl refl (sym entered ∙ e) ∙ runs .same in
+        → (first words best : List ℕ) (stop : Stop) → RootIs bytes first (originIn bytes) h → Runs bytes first words best widest budget limit stop → Reports words best plan plan′ stop x → SearchSays bytes plan plan′ widest limit budget x
+    says-run h e first words best stop at-root runs r =
+        let same : searched ≡ stopAnswer bytes words best stop = with-bound (admitted bytes) (bounded bytes) h refl refl (sym entered ∙ e) ∙ runs .same (originIn bytes) h at-root in
         record { answer = answer-same x same (r .answer bytes); plan-after = r .plan-after bytes ∙ ap (λ (a : A.Answer ℕ). bufferAfter a plan) (sym same) }
 
     says-ended : (o : A.Outcome) → searched ≡ endedAtTarget o → plan′ ≡ plan → AnswerIs (endedAtTarget o) x → SearchSays bytes plan plan′ widest limit budget x

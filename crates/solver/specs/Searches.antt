@@ -1,5 +1,5 @@
 -- What the search on bytes says: the definition's run, field by field; the plan buffer and the working words; the mission's demands.
-use Prim.Native.Nat.{ℕ}
+use Prim.Native.Nat.{ℕ, _^_, _<_}
 use mathlib.Core.Path.{_≡_}
 use mathlib.Core.Bool.{Bool, true, false}
 use mathlib.Core.List.{List, []}
@@ -8,10 +8,11 @@ use Rattle.model.specs.Values.{Value, value, trouble}
 use Rattle.search.specs.Answer as A
 use Rattle.search.specs.Answer.{byInput, bufferAfter}
 use Rattle.search.specs.Search.{search}
-use Rattle.search.specs.Run.{Settings, Lent, widerUpTo, run}
+use Rattle.search.specs.Run.{Settings, upTo, plain, Lent, isWidth, widerUpTo, run}
 use Rattle.search.specs.Demands.{Demands}
-use Rattle.steps.specs.InBytes.{systemIn, originIn}
+use Rattle.steps.specs.InBytes.{Outlined, systemIn, originIn}
 use Rattle.steps.specs.Follow.{costsIn}
+use Rattle.search_rounds.specs.Rounds.{RoomFor}
 use Rattle.search_report.specs.Answers.{AnswerIs, FieldsAre, answerIn}
 use Rattle.search_report.specs.declared.answers.Answer.{Answer}
 use Rattle.search_report.specs.declared.answers.Fields.{Fields}
@@ -29,6 +30,13 @@ enteredOf (trouble t) bound = E.Trouble t
 abbrev pub endedAtTarget : A.Outcome → A.Answer ℕ
 endedAtTarget o = record { outcome = o; flag = false; cost = 0; bound = 0; steps = []; tally = record { expansions = 0; rounds = 1; width = 1 } }
 
+-- what the search of a model needs: that it was read, room, settings in their ranges
+pub record Searchable (bytes outline words plan : List ℕ) (widest limit budget : ℕ) : Type 0 where
+  pub outlined : Outlined bytes outline
+  pub room : RoomFor words plan widest limit
+  pub width : isWidth widest ≡ true
+  pub small-budget : budget < 2 ^ 32
+
 -- the search of the model that stands in the bytes
 pub record SearchSays (bytes plan plan′ : List ℕ) (widest limit budget : ℕ) (x : Answer) : Type 0 where
   pub answer : AnswerIs (search (costsIn bytes) (systemIn bytes) budget limit 1 (widerUpTo widest) (originIn bytes)) x
@@ -36,7 +44,7 @@ pub record SearchSays (bytes plan plan′ : List ℕ) (widest limit budget : ℕ
 
 -- the settings and what is lent
 abbrev pub settings : (widest limit budget : ℕ) → Settings
-settings w limit budget = record { widest = w; limit = limit; budget = budget }
+settings w limit budget = record { beam = upTo w; form = plain limit; budget = budget }
 
 abbrev pub lentOf : (planBytes words : ℕ) → Lent
 lentOf p n = record { planBytes = p; words = n }

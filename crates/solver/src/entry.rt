@@ -4,10 +4,13 @@ ghost use mathlib.Core.Path.{_≡_};
 ghost use mathlib.Core.Bool.{true};
 ghost use Prim.Native.Nat.{_≤_, _<_, _^_};
 ghost use Rattle.search.specs.Run.{isWidth, settingsFit, lentFits, refusedByInput};
-ghost use Rattle.steps.specs.InBytes.{Outlined, systemIn, targetIn};
-ghost use Rattle.search_rounds.specs.Rounds.{RoomFor};
+ghost use Rattle.steps.specs.InBytes.{Outlined, stateIn, systemIn, targetIn};
 ghost use Rattle.search_report.specs.Answers.{AnswerIs, numbersOf, outcomeOf};
-ghost use Rattle.solver.specs.Searches.{Searched, settings, lentOf, SearchSays, enteredOf, endedAtTarget};
+ghost use Rattle.solver.specs.Searches.{Searchable, Searched, settings, lentOf, SearchSays, enteredOf, endedAtTarget};
+use crate::roots::write_root;
+use beam_order::slots::SLOT_WORDS;
+use outline::layout::PREPARED_WORDS;
+use outline::layout::STATE_WORDS;
 use prepare::read_and_prepare;
 use search::length_fits;
 use search_report::answers::Answer;
@@ -16,6 +19,7 @@ use search_report::report::report;
 use search_runs::rounds;
 use search_tally::Tally;
 use search_tally::begun;
+use search_visits::work::Limits;
 use search_visits::work::Verdict;
 use steps::answers::BoundAnswer;
 use steps::answers::HeldAnswer;
@@ -34,14 +38,12 @@ pub enum Entered {
 }
 
 // Tries the target: its constraints, then its bounds.
-fn enter(model: &[u8], outline: &[u64]) -> Entered
-    requires { ⌜ Outlined (now model) (now outline) ⌝ }
+fn enter(model: &[u8], outline: &[u64; PREPARED_WORDS], target: &[u64; STATE_WORDS]) -> Entered
+    requires { ⌜ Outlined (now model) (now outline) × (stateIn (now model) (now target) ≡ targetIn (now model)) ⌝ }
     ensures { λ r. ⌜ r ≡ enteredOf (systemIn (now (model .entry)) .admits (targetIn (now (model .entry)))) (systemIn (now (model .entry)) .bound (targetIn (now (model .entry)))) ⌝ }
 {
-    let mut target = [0u64; 16];
-    start(model, outline, &mut target);
-    match constraints_hold(model, outline, &target) {
-        HeldAnswer::All(_) => match bound(model, outline, &target) {
+    match constraints_hold(model, outline, target) {
+        HeldAnswer::All(_) => match bound(model, outline, target) {
             BoundAnswer::Value(h) => Entered::Bounded(h),
             BoundAnswer::Trouble(t) => Entered::Trouble(t),
         },
@@ -50,24 +52,26 @@ fn enter(model: &[u8], outline: &[u64]) -> Entered
     }
 }
 
-// The run of a model that was read.
+// The run of a model that was read, at widths up to that of the limits.
 fn search_model(
     model: &[u8],
-    outline: &[u64],
-    widest: usize,
-    limit: usize,
-    budget: u64,
+    outline: &[u64; PREPARED_WORDS],
+    limits: Limits,
     plan: &mut [u8],
     words: &mut [u64],
 ) -> Answer
-    requires { ⌜ Outlined (now model) (now outline) × (RoomFor (now words) (now plan) widest limit × ((isWidth widest ≡ true) × (budget < 2 ^ 32))) ⌝ }
-    ensures { λ r. ⌜ SearchSays (now (model .entry)) (now (plan .entry)) (now (plan .exit)) widest limit budget r ⌝ }
+    requires { ⌜ Searchable (now model) (now outline) (now words) (now plan) (limits .width) (limits .length) (limits .budget) ⌝ }
+    ensures { λ r. ⌜ SearchSays (now (model .entry)) (now (plan .entry)) (now (plan .exit)) (limits .width) (limits .length) (limits .budget) r ⌝ }
 {
-    match enter(model, outline) {
+    let mut target = [0u64; STATE_WORDS];
+    start(model, outline, &mut target);
+    match enter(model, outline, &target) {
         Entered::Bounded(h) => {
+            let mut root = [0u64; SLOT_WORDS];
+            write_root(&target, h, &mut root);
             let mut best = [0u8; 256];
-            let stop = rounds(words, &mut best, model, outline, widest, budget, limit, h);
-            report(plan, words, &best, limit, stop)
+            let stop = rounds(words, &mut best, model, outline, limits, &root);
+            report(plan, words, &best, limits.length, stop)
         }
         Entered::Broken => ended_at_target(Outcome::Verdict(Verdict::NoPlan)),
         Entered::Trouble(t) => ended_at_target(Outcome::ByState(t)),
@@ -170,10 +174,15 @@ pub fn search_up_to(
         let w = width as usize;
         let l = limit as usize;
         if lent_fits(w, l, plan.len(), words.len()) {
-            let mut outline = [0u64; 2601];
+            let mut outline = [0u64; PREPARED_WORDS];
             let number = read_and_prepare(model, &mut outline);
             if number == 0 {
-                return search_model(model, &outline, w, l, budget as u64, plan, words);
+                let limits = Limits {
+                    width: w,
+                    length: l,
+                    budget: budget as u64,
+                };
+                return search_model(model, &outline, limits, plan, words);
             }
             return refusal(number);
         }

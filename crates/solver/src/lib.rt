@@ -2,3 +2,4 @@
 
 pub mod buffers;
 pub mod entry;
+pub mod roots;

@@ -189,40 +189,37 @@ module _ (bytes : List ℕ) (s : State) (g : ℕ) where
 -- ---- the whole plan
 
 -- i steps of the plan are taken from s, at the cost g, to the state
-pub record Followed (bytes plan : List ℕ) (s : State) (state child : List ℕ) (g i : ℕ) : Type 0 where
-  pub long : length state ≡ 16
-  pub child-long : length child ≡ 16
+pub record Followed (bytes plan : List ℕ) (s : State) (state : List ℕ) (g i : ℕ) : Type 0 where
   pub within : i ≤ length plan
   pub small : g ≤ i * rangeEnd
   pub left : followIn bytes plan s 0 ≡ followIn bytes (drop i plan) (stateIn bytes state) g
 
-module _ (bytes plan : List ℕ) (s : State) (state child : List ℕ) where
-  pub followed-first : length state ≡ 16 → length child ≡ 16 → stateIn bytes state ≡ s → Followed bytes plan s state child 0 0
-  followed-first l k e = record { long = l; child-long = k; within = omega arith; small = omega arith; left = rw e }
+pub followed-first : (bytes plan state : List ℕ) → Followed bytes plan (stateIn bytes state) state 0 0
+followed-first bytes plan state = record { within = omega arith; small = omega arith; left = refl }
 
-  module _ (g i : ℕ) (so-far : Followed bytes plan s state child g i) where
-    pub cost-small : length plan ≤ 256 → g < 2 ^ 63
-    cost-small h = omega (arith, so-far .small, so-far .within)
+module _ (bytes plan : List ℕ) (s : State) (state : List ℕ) (g i : ℕ) (so-far : Followed bytes plan s state g i) where
+  pub cost-small : length plan ≤ 256 → g < 2 ^ 63
+  cost-small h = omega (arith, so-far .small, so-far .within)
 
-    pub followed-last : length plan ≤ i → (r : Checked) → CheckedIs (finished bytes (stateIn bytes state) g) r → CheckedIs (followIn bytes plan s 0) r
-    unfolding follow
-    followed-last h r c = rw (so-far .left, drop-of-length-le plan h) c
+  pub followed-last : length plan ≤ i → (r : Checked) → CheckedIs (finished bytes (stateIn bytes state) g) r → CheckedIs (followIn bytes plan s 0) r
+  unfolding follow
+  followed-last h r c = rw (so-far .left, drop-of-length-le plan h) c
 
-    module _ (h : i < length plan) (after : List ℕ) (r : FollowAnswer) (turned : FollowsOn bytes (λ rest. followIn bytes (getD plan i 0 ∷ rest) (stateIn bytes state) g) after g r) where
-      next-step : followIn bytes plan s 0 ≡ followIn bytes (getD plan i 0 ∷ drop (i + 1) plan) (stateIn bytes state) g
-      next-step = so-far .left ∙ ap (λ (l : List ℕ). followIn bytes l (stateIn bytes state) g) (drop-cons plan i 0 h ∙ ap (λ (k : ℕ). getD plan i 0 ∷ drop k plan) (sym (add-one i)))
+  module _ (h : i < length plan) (after : List ℕ) (r : FollowAnswer) (turned : FollowsOn bytes (λ rest. followIn bytes (getD plan i 0 ∷ rest) (stateIn bytes state) g) after g r) where
+    next-step : followIn bytes plan s 0 ≡ followIn bytes (getD plan i 0 ∷ drop (i + 1) plan) (stateIn bytes state) g
+    next-step = so-far .left ∙ ap (λ (l : List ℕ). followIn bytes l (stateIn bytes state) g) (drop-cons plan i 0 h ∙ ap (λ (k : ℕ). getD plan i 0 ∷ drop k plan) (sym (add-one i)))
 
-      pub followed-more : {k : ℕ} → r ≡ T.On k → length after ≡ 16 → Followed bytes plan s after after k (i + 1)
-      followed-more {k} e l =
-          let t = rw e at turned in
-          let m : (i + 1) * rangeEnd ≡ i * rangeEnd + rangeEnd = omega arith in
-          record { long = l; child-long = l; within = omega arith; small = omega (arith, so-far .small, t .1); left = next-step ∙ t .0 (drop (i + 1) plan) }
+    pub followed-more : {k : ℕ} → r ≡ T.On k → Followed bytes plan s after k (i + 1)
+    followed-more {k} e =
+        let t = rw e at turned in
+        let m : (i + 1) * rangeEnd ≡ i * rangeEnd + rangeEnd = omega arith in
+        record { within = omega arith; small = omega (arith, so-far .small, t .1); left = next-step ∙ t .0 (drop (i + 1) plan) }
 
-      pub followed-ended : {n : ℕ} → r ≡ T.Ended n → CheckedIs (followIn bytes plan s 0) (record { answer = n; cost = 0 })
-      unfolding answerNumber answerCost
-      followed-ended {n} e =
-          let t : followIn bytes plan s 0 ≡ trouble n = next-step ∙ (rw e at turned) (drop (i + 1) plan) in
-          record { number = rw t; cost = rw t }
+    pub followed-ended : {n : ℕ} → r ≡ T.Ended n → CheckedIs (followIn bytes plan s 0) (record { answer = n; cost = 0 })
+    unfolding answerNumber answerCost
+    followed-ended {n} e =
+        let t : followIn bytes plan s 0 ≡ trouble n = next-step ∙ (rw e at turned) (drop (i + 1) plan) in
+        record { number = rw t; cost = rw t }
 
 -- ---- the target's constraints, then the plan
 

@@ -112,15 +112,15 @@ module _ (bytes : List ℕ) (at : ℕ) (state : List ℕ) (q : CostAnswer) (says
     pub effects-begin : TakenRead bytes at → EffectsRead bytes (at + used)
     effects-begin r = let p = cost-is _ (r .cost-used) (sym (says (r .cost) (r .cost-used) (r .reads-cost)) ∙ e) in rw (p .1) at (r .effects-read)
 
-    module _ (before child : List ℕ) (copied : stateIn bytes before ≡ stateIn bytes state) (r : EffectsAnswer) (effected : EffectsSays bytes (at + used) state before child r) where
+    -- the effects go into a copy of the state
+    module _ (child : List ℕ) (r : EffectsAnswer) (effected : EffectsSays bytes (at + used) state state child r) where
       pub take-done : r ≡ E.Done → TakenSays bytes at state child (A.Taken c)
       unfolding _>>=_
       take-done d x n l k h g =
           let p = cost-is _ n (sym (says x n h) ∙ e) in
           let s = effected l k (rw (p .1) at g) in
           let w = effects-done _ (sym (s .answer) ∙ d) in
-          let same : effects rangeEnd (modelOf bytes) l (stateIn bytes state) (stateIn bytes state) ≡ value (w .0) = ap (effects rangeEnd (modelOf bytes) l (stateIn bytes state)) (sym copied) ∙ w .1 in
-          says-taken bytes child _ (cost-then (numberValue rangeEnd (modelOf bytes .tables) x (stateIn bytes state)) (λ c. effects rangeEnd (modelOf bytes) l (stateIn bytes state) (stateIn bytes state) >>= λ new. value (taken c new)) (p .0) ∙ ap (λ (v : Value State). v >>= λ new. value (taken c new)) same) (s .written (w .0) (w .1))
+          says-taken bytes child _ (cost-then (numberValue rangeEnd (modelOf bytes .tables) x (stateIn bytes state)) (λ c. effects rangeEnd (modelOf bytes) l (stateIn bytes state) (stateIn bytes state) >>= λ new. value (taken c new)) (p .0) ∙ ap (λ (v : Value State). v >>= λ new. value (taken c new)) (w .1)) (s .written (w .0) (w .1))
 
       pub take-troubles : {t : ℕ} → r ≡ E.Trouble t → TakenSays bytes at state child (A.Trouble t)
       unfolding _>>=_
@@ -128,8 +128,7 @@ module _ (bytes : List ℕ) (at : ℕ) (state : List ℕ) (q : CostAnswer) (says
           let p = cost-is _ n (sym (says x n h) ∙ e) in
           let s = effected l k (rw (p .1) at g) in
           let w = effects-trouble _ (sym (s .answer) ∙ d) in
-          let same : effects rangeEnd (modelOf bytes) l (stateIn bytes state) (stateIn bytes state) ≡ trouble t = ap (effects rangeEnd (modelOf bytes) l (stateIn bytes state)) (sym copied) ∙ w in
-          says-trouble bytes child _ (cost-then (numberValue rangeEnd (modelOf bytes .tables) x (stateIn bytes state)) (λ c. effects rangeEnd (modelOf bytes) l (stateIn bytes state) (stateIn bytes state) >>= λ new. value (taken c new)) (p .0) ∙ ap (λ (v : Value State). v >>= λ new. value (taken c new)) same)
+          says-trouble bytes child _ (cost-then (numberValue rangeEnd (modelOf bytes .tables) x (stateIn bytes state)) (λ c. effects rangeEnd (modelOf bytes) l (stateIn bytes state) (stateIn bytes state) >>= λ new. value (taken c new)) (p .0) ∙ ap (λ (v : Value State). v >>= λ new. value (taken c new)) w)
 
 -- ---- conditions, then the rest
 

@@ -1,4 +1,4 @@
--- What an outline says of states: the start's words, and words copied.
+-- What an outline says of states: the start's words.
 use Prim.Native.Nat.{ℕ, _+_, _≤_, _<_}
 use mathlib.Core.Path.{_≡_, ap, _∙_}
 use mathlib.Core.List.{List, _++_}
@@ -8,9 +8,9 @@ use lib.Seq.{length-take-le, getD-take, getD-drop}
 use Rattle.model.specs.Steps.{target}
 use Rattle.words.specs.States.{valueOf}
 use Rattle.outline.specs.Outline.{modelOf}
-use Rattle.steps.specs.InBytes.{Outlined, StateRoom, stateIn}
+use Rattle.steps.specs.InBytes.{Outlined, stateIn}
 use Rattle.laws.proofs.Lists.{found-below}
-use Rattle.steps.proofs.StateWords.{state-alike, state-started}
+use Rattle.steps.proofs.StateWords.{state-started}
 
 front-word : (ws us : List ℕ) (v : ℕ) → 16 ≤ length ws → v < 16 → getD (take 16 ws ++ us) v 0 ≡ getD ws v 0
 front-word ws us v h l =
@@ -18,10 +18,6 @@ front-word ws us v h l =
     List·getD-append (take 16 ws) us 0 v (omega arith) ∙ getD-take 16 ws v 0 l
 
 module _ (bytes words : List ℕ) (o : Outlined bytes words) where
-  -- the first sixteen words are all of a state
-  pub copied-state : (ws us : List ℕ) → StateRoom ws → stateIn bytes (take 16 ws ++ us) ≡ stateIn bytes ws
-  copied-state ws us h = state-alike (modelOf bytes .variables) (take 16 ws ++ us) ws (λ v l. front-word ws us v h (omega (arith, o .outlines .few-variables)))
-
   pub start-state : (us : List ℕ) → stateIn bytes (take 16 (drop 48 words) ++ us) ≡ target (modelOf bytes)
   unfolding target
   start-state us = state-started (modelOf bytes .variables) (take 16 (drop 48 words) ++ us) (λ v x e. ap (valueOf (x .kind)) (start-word v (found-below (modelOf bytes .variables) v e)) ∙ o .outlines .variables v x e .start)

@@ -18,7 +18,7 @@ use Rattle.model.proofs.Costs as costs
 use Rattle.model.proofs.Ranges as ranges
 use Rattle.model.proofs.Reading.{model-refusal}
 use Rattle.outline.specs.Outline.{modelOf, readModel, refusalOf}
-use Rattle.prepare.specs.Steps.{Ready}
+use Rattle.prepare.specs.Promised.{Ready}
 use Rattle.steps.specs.InBytes.{refusalIn, Outlined, systemIn, stateIn, targetIn, originIn}
 use Rattle.steps.specs.Follow.{costsIn}
 use Rattle.steps.specs.Hashes.{hashOf}

@@ -10,6 +10,8 @@ use crate::parts::number_at;
 use eval_sets::answers::NumberValue;
 use outline::layout::BOUND_COUNT;
 use outline::layout::BOUNDS;
+use outline::layout::PREPARED_WORDS;
+use outline::layout::STATE_WORDS;
 use outline::word_at;
 
 // The greater of h and a bound's number.
@@ -24,7 +26,11 @@ fn raise(h: u64, z: i64) -> u64
 }
 
 // Evaluates the bounds in their order.
-pub fn bound(model: &[u8], outline: &[u64], state: &[u64]) -> BoundAnswer
+pub fn bound(
+    model: &[u8],
+    outline: &[u64; PREPARED_WORDS],
+    state: &[u64; STATE_WORDS],
+) -> BoundAnswer
     requires { ⌜ Outlined (now model) (now outline) ⌝ }
     ensures { λ r. ⌜ r ≡ boundAnswer (systemIn (now (model .entry)) .bound (stateIn (now (model .entry)) (now (state .entry)))) ⌝ }
 {

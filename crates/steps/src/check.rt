@@ -5,7 +5,7 @@ ghost use mathlib.Core.List.{_∷_};
 ghost use Prim.Native.Nat.{_+_, _≤_, _<_, _^_};
 ghost use lib.ListN.{length};
 ghost use Rattle.model.specs.Values.{trouble};
-ghost use Rattle.steps.specs.InBytes.{Outlined, StateRoom, stateIn, targetIn};
+ghost use Rattle.steps.specs.InBytes.{Outlined, stateIn, targetIn};
 ghost use Rattle.steps.specs.Follow.{costsIn, followIn, followFromIn, stepTried, finished, FollowsOn, CheckedIs};
 use crate::answers::Checked;
 use crate::answers::FollowAnswer;
@@ -16,13 +16,14 @@ use crate::answers::StatusAnswer;
 use crate::conditions::constraints_hold;
 use crate::conditions::status;
 use crate::moves::step;
-use crate::states::copy_state;
 use crate::states::start;
+use outline::layout::PREPARED_WORDS;
 use outline::layout::RULE;
+use outline::layout::STATE_WORDS;
 use outline::word_at;
 
 // The cost of a path and of a step behind it, by the cost rule.
-pub fn combine(model: &[u8], outline: &[u64], g: u64, c: u64) -> u64
+pub fn combine(model: &[u8], outline: &[u64; PREPARED_WORDS], g: u64, c: u64) -> u64
     requires { ⌜ Outlined (now model) (now outline) × (g + c < 2 ^ 64) ⌝ }
     ensures { λ r. ⌜ r ≡ costsIn (now (model .entry)) .combine g c ⌝ }
 {
@@ -35,13 +36,13 @@ pub fn combine(model: &[u8], outline: &[u64], g: u64, c: u64) -> u64
 // Tries one transition of a plan.
 fn tried_step(
     model: &[u8],
-    outline: &[u64],
-    state: &[u64],
+    outline: &[u64; PREPARED_WORDS],
+    state: &[u64; STATE_WORDS],
     t: u8,
     g: u64,
-    child: &mut [u64],
+    child: &mut [u64; STATE_WORDS],
 ) -> FollowAnswer
-    requires { ⌜ Outlined (now model) (now outline) × StateRoom (now state) × StateRoom (now child) × (g < 2 ^ 63) ⌝ }
+    requires { ⌜ Outlined (now model) (now outline) × (g < 2 ^ 63) ⌝ }
     ensures { λ r. ⌜ FollowsOn (now (model .entry)) (stepTried (now (model .entry)) (stateIn (now (model .entry)) (now (state .entry))) t g) (now (child .exit)) g r ⌝ }
 {
     match step(model, outline, state, t as usize, child) {
@@ -55,13 +56,13 @@ fn tried_step(
 // One step of a plan: no base state before the end, then the transition.
 fn checked_step(
     model: &[u8],
-    outline: &[u64],
-    state: &[u64],
+    outline: &[u64; PREPARED_WORDS],
+    state: &[u64; STATE_WORDS],
     t: u8,
     g: u64,
-    child: &mut [u64],
+    child: &mut [u64; STATE_WORDS],
 ) -> FollowAnswer
-    requires { ⌜ Outlined (now model) (now outline) × StateRoom (now state) × StateRoom (now child) × (g < 2 ^ 63) ⌝ }
+    requires { ⌜ Outlined (now model) (now outline) × (g < 2 ^ 63) ⌝ }
     ensures { λ r. ⌜ FollowsOn (now (model .entry)) (λ plan. followIn (now (model .entry)) (t ∷ plan) (stateIn (now (model .entry)) (now (state .entry))) g) (now (child .exit)) g r ⌝ }
 {
     match status(model, outline, state) {
@@ -72,7 +73,12 @@ fn checked_step(
 }
 
 // The final state, g being spent.
-fn finish(model: &[u8], outline: &[u64], state: &[u64], g: u64) -> Checked
+fn finish(
+    model: &[u8],
+    outline: &[u64; PREPARED_WORDS],
+    state: &[u64; STATE_WORDS],
+    g: u64,
+) -> Checked
     requires { ⌜ Outlined (now model) (now outline) ⌝ }
     ensures { λ r. ⌜ CheckedIs (finished (now (model .entry)) (stateIn (now (model .entry)) (now (state .entry))) g) r ⌝ }
 {
@@ -87,13 +93,17 @@ fn finish(model: &[u8], outline: &[u64], state: &[u64], g: u64) -> Checked
 }
 
 // Follows the steps of a plan from a state, whatever its own constraints: 0 and their cost, or the number of the first trouble.
-fn follow_steps(model: &[u8], outline: &[u64], from: &[u64], plan: &[u8]) -> Checked
-    requires { ⌜ Outlined (now model) (now outline) × StateRoom (now from) × (length (now plan) ≤ 256) ⌝ }
+fn follow_steps(
+    model: &[u8],
+    outline: &[u64; PREPARED_WORDS],
+    from: &[u64; STATE_WORDS],
+    plan: &[u8],
+) -> Checked
+    requires { ⌜ Outlined (now model) (now outline) × (length (now plan) ≤ 256) ⌝ }
     ensures { λ r. ⌜ CheckedIs (followIn (now (model .entry)) (now (plan .entry)) (stateIn (now (model .entry)) (now (from .entry))) 0) r ⌝ }
 {
-    let mut state = [0u64; 16];
-    let mut child = [0u64; 16];
-    copy_state(from, &mut state);
+    let mut state = *from;
+    let mut child = [0u64; STATE_WORDS];
     let mut g: u64 = 0;
     let mut i: usize = 0;
     while i < plan.len() {
@@ -120,11 +130,11 @@ fn refused_plan(number: u8) -> Checked
 }
 
 // Follows a plan from the target, which has to meet the constraints first: 0 and its cost, or the number of the first trouble.
-pub fn follow(model: &[u8], outline: &[u64], plan: &[u8]) -> Checked
+pub fn follow(model: &[u8], outline: &[u64; PREPARED_WORDS], plan: &[u8]) -> Checked
     requires { ⌜ Outlined (now model) (now outline) × (length (now plan) ≤ 256) ⌝ }
     ensures { λ r. ⌜ CheckedIs (followFromIn (now (model .entry)) (now (plan .entry)) (targetIn (now (model .entry))) 0) r ⌝ }
 {
-    let mut target = [0u64; 16];
+    let mut target = [0u64; STATE_WORDS];
     start(model, outline, &mut target);
     match constraints_hold(model, outline, &target) {
         HeldAnswer::All(_) => follow_steps(model, outline, &target, plan),

@@ -14,14 +14,21 @@ use eval_sets::answers::ConditionValue;
 use laws::byte_at;
 use outline::layout::BASE_CASE_COUNT;
 use outline::layout::BASE_CASES;
+use outline::layout::CONJUNCT_COUNT;
+use outline::layout::CONJUNCTS;
+use outline::layout::PREPARED_WORDS;
+use outline::layout::STATE_WORDS;
 use outline::word_at;
 use prepare::guards::passes;
-use prepare::layout::CONJUNCT_COUNT;
-use prepare::layout::CONJUNCTS;
 use quick::condition;
 
 // Tries the conditions 08 from a place on.
-pub fn conditions_hold(model: &[u8], at: usize, outline: &[u64], state: &[u64]) -> HeldAnswer
+pub fn conditions_hold(
+    model: &[u8],
+    at: usize,
+    outline: &[u64; PREPARED_WORDS],
+    state: &[u64; STATE_WORDS],
+) -> HeldAnswer
     requires { ⌜ Outlined (now model) (now outline) ⌝ }
     ensures { λ r. ⌜ HeldSays (now (model .entry)) at (now (state .entry)) r ⌝ }
 {
@@ -42,7 +49,12 @@ pub fn conditions_hold(model: &[u8], at: usize, outline: &[u64], state: &[u64]) 
 }
 
 // Tries the condition at a place: in place where that decides it, else by the evaluators.
-fn condition_holds(model: &[u8], at: usize, outline: &[u64], state: &[u64]) -> HeldAnswer
+fn condition_holds(
+    model: &[u8],
+    at: usize,
+    outline: &[u64; PREPARED_WORDS],
+    state: &[u64; STATE_WORDS],
+) -> HeldAnswer
     requires { ⌜ Outlined (now model) (now outline) × (at ≤ length (now model)) ⌝ }
     ensures { λ r. ⌜ TestedSays (now (model .entry)) at (now (state .entry)) r ⌝ }
 {
@@ -66,7 +78,12 @@ fn condition_holds(model: &[u8], at: usize, outline: &[u64], state: &[u64]) -> H
 }
 
 // Tries conjunct k of the state constraints: where its guard does not pass, it holds.
-fn conjunct_holds(model: &[u8], outline: &[u64], k: usize, state: &[u64]) -> HeldAnswer
+fn conjunct_holds(
+    model: &[u8],
+    outline: &[u64; PREPARED_WORDS],
+    k: usize,
+    state: &[u64; STATE_WORDS],
+) -> HeldAnswer
     requires { ⌜ Outlined (now model) (now outline) × (k < getD (now outline) conjunctCountAt 0) ⌝ }
     ensures { λ r. ⌜ ConjunctSays (now (model .entry)) (now (outline .entry)) k (now (state .entry)) r ⌝ }
 {
@@ -78,7 +95,11 @@ fn conjunct_holds(model: &[u8], outline: &[u64], k: usize, state: &[u64]) -> Hel
 }
 
 // Tries the state constraints, conjunct by conjunct.
-pub fn constraints_hold(model: &[u8], outline: &[u64], state: &[u64]) -> HeldAnswer
+pub fn constraints_hold(
+    model: &[u8],
+    outline: &[u64; PREPARED_WORDS],
+    state: &[u64; STATE_WORDS],
+) -> HeldAnswer
     requires { ⌜ Outlined (now model) (now outline) ⌝ }
     ensures { λ r. ⌜ r ≡ heldAnswer (systemIn (now (model .entry)) .admits (stateIn (now (model .entry)) (now (state .entry)))) 0 ⌝ }
 {
@@ -97,7 +118,11 @@ pub fn constraints_hold(model: &[u8], outline: &[u64], state: &[u64]) -> HeldAns
 }
 
 // Tries the base cases to the first that holds.
-pub fn status(model: &[u8], outline: &[u64], state: &[u64]) -> StatusAnswer
+pub fn status(
+    model: &[u8],
+    outline: &[u64; PREPARED_WORDS],
+    state: &[u64; STATE_WORDS],
+) -> StatusAnswer
     requires { ⌜ Outlined (now model) (now outline) ⌝ }
     ensures { λ r. ⌜ r ≡ statusAnswer (systemIn (now (model .entry)) .status (stateIn (now (model .entry)) (now (state .entry)))) ⌝ }
 {

@@ -6,9 +6,10 @@ ghost use Rattle.model.specs.Numbers.{mostVariables};
 ghost use Rattle.prepare.specs.Prepared.{MasksAt};
 ghost use Rattle.steps.specs.InBytes.{Outlined};
 ghost use Rattle.steps.specs.Hashes.{mix as Hashes·mix, mixWord, mixAt, hashOf};
+use outline::layout::MASKS;
+use outline::layout::PREPARED_WORDS;
 use outline::layout::VARIABLE_COUNT;
 use outline::word_at;
-use prepare::layout::MASKS;
 use words::sizes::WORD_END;
 
 // 32 bits of x mixed into m.
@@ -27,7 +28,7 @@ fn mix_word(m: u64, x: u64) -> u64
 }
 
 // The word of variable v mixed into m.
-fn mix_at(outline: &[u64], state: &[u64], v: usize, m: u64) -> u64
+fn mix_at(outline: &[u64; PREPARED_WORDS], state: &[u64], v: usize, m: u64) -> u64
     requires { ⌜ (v < mostVariables) × MasksAt (now outline) v ⌝ }
     ensures { λ r. ⌜ r ≡ mixAt (now (outline .entry)) (now (state .entry)) v m ⌝ }
 {
@@ -35,7 +36,7 @@ fn mix_at(outline: &[u64], state: &[u64], v: usize, m: u64) -> u64
 }
 
 // The hash of a state; one that dominates another has the same.
-pub fn hash(model: &[u8], outline: &[u64], state: &[u64]) -> u64
+pub fn hash(model: &[u8], outline: &[u64; PREPARED_WORDS], state: &[u64]) -> u64
     requires { ⌜ Outlined (now model) (now outline) ⌝ }
     ensures { λ r. ⌜ r ≡ hashOf (now (outline .entry)) (now (state .entry)) ⌝ }
 {

@@ -21,19 +21,25 @@ use crate::conditions::constraints_hold;
 use crate::parts::element_at;
 use crate::parts::number_at;
 use crate::parts::set_at;
-use crate::states::copy_state;
 use eval_sets::answers::NumberValue;
 use laws::byte_at;
+use outline::layout::GUARDS;
 use outline::layout::KINDS;
+use outline::layout::PREPARED_WORDS;
+use outline::layout::STATE_WORDS;
 use outline::layout::TRANSITION_COUNT;
 use outline::word_at;
 use prepare::guards::passes;
-use prepare::layout::GUARDS;
 use words::arithmetic::biased;
 use words::sizes::MOST_OBJECTS;
 
 // The cost at a place; a negative one is trouble.
-fn cost_at(model: &[u8], at: usize, outline: &[u64], state: &[u64]) -> CostAnswer
+fn cost_at(
+    model: &[u8],
+    at: usize,
+    outline: &[u64; PREPARED_WORDS],
+    state: &[u64; STATE_WORDS],
+) -> CostAnswer
     requires { ⌜ Outlined (now model) (now outline) × (at ≤ length (now model)) ⌝ }
     ensures { λ r. ⌜ CostSays (now (model .entry)) at (now (state .entry)) r × CostWithin (length (now (model .entry)) - at) r ⌝ }
 {
@@ -49,7 +55,12 @@ fn cost_at(model: &[u8], at: usize, outline: &[u64], state: &[u64]) -> CostAnswe
 }
 
 // The word for a number variable.
-fn number_word(model: &[u8], at: usize, outline: &[u64], state: &[u64]) -> WordAnswer
+fn number_word(
+    model: &[u8],
+    at: usize,
+    outline: &[u64; PREPARED_WORDS],
+    state: &[u64; STATE_WORDS],
+) -> WordAnswer
     requires { ⌜ Outlined (now model) (now outline) × (at ≤ length (now model)) ⌝ }
     ensures { λ r. ⌜ NumberWordSays (now (model .entry)) at (now (state .entry)) r × WordWithin (length (now (model .entry)) - at) r ⌝ }
 {
@@ -60,7 +71,13 @@ fn number_word(model: &[u8], at: usize, outline: &[u64], state: &[u64]) -> WordA
 }
 
 // The word for variable v, by its kind.
-fn word_for(model: &[u8], at: usize, outline: &[u64], state: &[u64], v: usize) -> WordAnswer
+fn word_for(
+    model: &[u8],
+    at: usize,
+    outline: &[u64; PREPARED_WORDS],
+    state: &[u64; STATE_WORDS],
+    v: usize,
+) -> WordAnswer
     requires { ⌜ Outlined (now model) (now outline) × (at ≤ length (now model)) × (v < mostVariables) ⌝ }
     ensures { λ r. ⌜ WordSays (now (model .entry)) at (now (state .entry)) v r × WordWithin (length (now (model .entry)) - at) r ⌝ }
 {
@@ -80,9 +97,9 @@ fn word_for(model: &[u8], at: usize, outline: &[u64], state: &[u64], v: usize) -
 fn effects(
     model: &[u8],
     at: usize,
-    outline: &[u64],
-    state: &[u64],
-    child: &mut [u64],
+    outline: &[u64; PREPARED_WORDS],
+    state: &[u64; STATE_WORDS],
+    child: &mut [u64; STATE_WORDS],
 ) -> EffectsAnswer
     requires { ⌜ Outlined (now model) (now outline) × EffectsRead (now model) at × StateRoom (now child) ⌝ }
     ensures { λ r. ⌜ EffectsSays (now (model .entry)) at (now (state .entry)) (now (child .entry)) (now (child .exit)) r ⌝ }
@@ -102,13 +119,19 @@ fn effects(
 }
 
 // Cost and effects of a step whose conditions hold.
-fn take(model: &[u8], at: usize, outline: &[u64], state: &[u64], child: &mut [u64]) -> AttemptAnswer
-    requires { ⌜ Outlined (now model) (now outline) × TakenRead (now model) at × StateRoom (now state) × StateRoom (now child) ⌝ }
+fn take(
+    model: &[u8],
+    at: usize,
+    outline: &[u64; PREPARED_WORDS],
+    state: &[u64; STATE_WORDS],
+    child: &mut [u64; STATE_WORDS],
+) -> AttemptAnswer
+    requires { ⌜ Outlined (now model) (now outline) × TakenRead (now model) at × StateRoom (now state) ⌝ }
     ensures { λ r. ⌜ TakenSays (now (model .entry)) at (now (state .entry)) (now (child .exit)) r ⌝ }
 {
     match cost_at(model, at, outline, state) {
         CostAnswer::Cost(cost, used) => {
-            copy_state(state, child);
+            *child = *state;
             match effects(model, at + used, outline, state, child) {
                 EffectsAnswer::Done => AttemptAnswer::Taken(cost),
                 EffectsAnswer::Trouble(t) => AttemptAnswer::Trouble(t),
@@ -122,11 +145,11 @@ fn take(model: &[u8], at: usize, outline: &[u64], state: &[u64], child: &mut [u6
 fn attempt(
     model: &[u8],
     at: usize,
-    outline: &[u64],
-    state: &[u64],
-    child: &mut [u64],
+    outline: &[u64; PREPARED_WORDS],
+    state: &[u64; STATE_WORDS],
+    child: &mut [u64; STATE_WORDS],
 ) -> AttemptAnswer
-    requires { ⌜ Outlined (now model) (now outline) × TransitionRead (now model) at × StateRoom (now state) × StateRoom (now child) ⌝ }
+    requires { ⌜ Outlined (now model) (now outline) × TransitionRead (now model) at × StateRoom (now state) ⌝ }
     ensures { λ r. ⌜ AttemptSays (now (model .entry)) at (now (state .entry)) (now (child .exit)) r ⌝ }
 {
     match conditions_hold(model, at, outline, state) {
@@ -137,7 +160,12 @@ fn attempt(
 }
 
 // The constraints of a new state, reached at a cost.
-fn constrained(model: &[u8], outline: &[u64], child: &[u64], cost: u64) -> MoveAnswer
+fn constrained(
+    model: &[u8],
+    outline: &[u64; PREPARED_WORDS],
+    child: &[u64; STATE_WORDS],
+    cost: u64,
+) -> MoveAnswer
     requires { ⌜ Outlined (now model) (now outline) ⌝ }
     ensures { λ r. ⌜ r ≡ moveAnswer (steps.constrained rangeEnd (modelOf (now (model .entry))) cost (stateIn (now (model .entry)) (now (child .entry))) (systemIn (now (model .entry)) .admits (stateIn (now (model .entry)) (now (child .entry))))) ⌝ }
 {
@@ -151,10 +179,10 @@ fn constrained(model: &[u8], outline: &[u64], child: &[u64], cost: u64) -> MoveA
 // The move that was tried: where it is taken, the new state has to meet the constraints.
 fn settle(
     model: &[u8],
-    outline: &[u64],
-    state: &[u64],
+    outline: &[u64; PREPARED_WORDS],
+    state: &[u64; STATE_WORDS],
     t: usize,
-    child: &[u64],
+    child: &[u64; STATE_WORDS],
     tried: AttemptAnswer,
 ) -> MoveAnswer
     requires { ⌜ Outlined (now model) (now outline) × Tried (now model) (now state) t (now child) tried ⌝ }
@@ -168,7 +196,7 @@ fn settle(
 }
 
 // How many transitions there are.
-pub fn transitions(model: &[u8], outline: &[u64]) -> usize
+pub fn transitions(model: &[u8], outline: &[u64; PREPARED_WORDS]) -> usize
     requires { ⌜ Outlined (now model) (now outline) ⌝ }
     ensures { λ r. ⌜ r ≡ systemIn (now (model .entry)) .transitions ⌝ }
 {
@@ -176,7 +204,12 @@ pub fn transitions(model: &[u8], outline: &[u64]) -> usize
 }
 
 // Whether the guard of transition t passes in a state: where it does not, the transition is blocked.
-pub fn allowed(model: &[u8], outline: &[u64], state: &[u64], t: usize) -> bool
+pub fn allowed(
+    model: &[u8],
+    outline: &[u64; PREPARED_WORDS],
+    state: &[u64; STATE_WORDS],
+    t: usize,
+) -> bool
     requires { ⌜ Outlined (now model) (now outline) × (t < systemIn (now model) .transitions) ⌝ }
     ensures { λ r. ⌜ AllowedSays (now (model .entry)) (now (state .entry)) t r ⌝ }
 {
@@ -184,8 +217,14 @@ pub fn allowed(model: &[u8], outline: &[u64], state: &[u64], t: usize) -> bool
 }
 
 // Tries transition t in a state, and writes the new state's words. A number that is not declared is blocked.
-pub fn step(model: &[u8], outline: &[u64], state: &[u64], t: usize, child: &mut [u64]) -> MoveAnswer
-    requires { ⌜ Outlined (now model) (now outline) × StateRoom (now state) × StateRoom (now child) ⌝ }
+pub fn step(
+    model: &[u8],
+    outline: &[u64; PREPARED_WORDS],
+    state: &[u64; STATE_WORDS],
+    t: usize,
+    child: &mut [u64; STATE_WORDS],
+) -> MoveAnswer
+    requires { ⌜ Outlined (now model) (now outline) ⌝ }
     ensures { λ r. ⌜ MoveSays (now (model .entry)) (now (state .entry)) t (now (child .exit)) r ⌝ }
 {
     if transitions(model, outline) <= t {

@@ -14,9 +14,16 @@ use eval_sets::answers::SetValue;
 use eval_sets::sets::element;
 use eval_sets::sets::set;
 use eval_tests::test;
+use outline::layout::PREPARED_WORDS;
+use outline::layout::STATE_WORDS;
 
 // Whether the condition at a place holds, and its bytes where it does.
-pub fn condition_at(model: &[u8], at: usize, outline: &[u64], state: &[u64]) -> ConditionValue
+pub fn condition_at(
+    model: &[u8],
+    at: usize,
+    outline: &[u64; PREPARED_WORDS],
+    state: &[u64; STATE_WORDS],
+) -> ConditionValue
     requires { ⌜ Outlined (now model) (now outline) × (at ≤ length (now model)) ⌝ }
     ensures { λ r. ⌜ ConditionSays (now (model .entry)) at (now (state .entry)) r × ConditionWithin (length (now (model .entry)) - at) r ⌝ }
 {
@@ -24,7 +31,12 @@ pub fn condition_at(model: &[u8], at: usize, outline: &[u64], state: &[u64]) -> 
 }
 
 // The value of the number at a place.
-pub fn number_at(model: &[u8], at: usize, outline: &[u64], state: &[u64]) -> NumberValue
+pub fn number_at(
+    model: &[u8],
+    at: usize,
+    outline: &[u64; PREPARED_WORDS],
+    state: &[u64; STATE_WORDS],
+) -> NumberValue
     requires { ⌜ Outlined (now model) (now outline) × (at ≤ length (now model)) ⌝ }
     ensures { λ r. ⌜ NumberSays (now (model .entry)) at (now (state .entry)) r × NumberWithin (length (now (model .entry)) - at) r ⌝ }
 {
@@ -32,7 +44,12 @@ pub fn number_at(model: &[u8], at: usize, outline: &[u64], state: &[u64]) -> Num
 }
 
 // The object of the element at a place.
-pub fn element_at(model: &[u8], at: usize, outline: &[u64], state: &[u64]) -> ElementValue
+pub fn element_at(
+    model: &[u8],
+    at: usize,
+    outline: &[u64; PREPARED_WORDS],
+    state: &[u64; STATE_WORDS],
+) -> ElementValue
     requires { ⌜ Outlined (now model) (now outline) × (at ≤ length (now model)) ⌝ }
     ensures { λ r. ⌜ ElementSays (now (model .entry)) at (now (state .entry)) r × ((r .object < mostObjects) × (r .used ≤ length (now (model .entry)) - at)) ⌝ }
 {
@@ -40,7 +57,12 @@ pub fn element_at(model: &[u8], at: usize, outline: &[u64], state: &[u64]) -> El
 }
 
 // The members of the set at a place.
-pub fn set_at(model: &[u8], at: usize, outline: &[u64], state: &[u64]) -> SetValue
+pub fn set_at(
+    model: &[u8],
+    at: usize,
+    outline: &[u64; PREPARED_WORDS],
+    state: &[u64; STATE_WORDS],
+) -> SetValue
     requires { ⌜ Outlined (now model) (now outline) × (at ≤ length (now model)) ⌝ }
     ensures { λ r. ⌜ SetSays (now (model .entry)) at (now (state .entry)) r × (r .used ≤ length (now (model .entry)) - at) ⌝ }
 {

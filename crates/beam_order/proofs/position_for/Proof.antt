@@ -10,10 +10,10 @@ use Rattle.beam_order.proofs.position_for.Statement.{statement}
 use Rattle.beam_order.proofs.position_for.Tie as tie
 
 abbrev Inv-loop : tie.InvT-loop
-Inv-loop slots order w n f h low₀ high₀ low high = (low ≤ high) × ((high ≤ n) × (Rising (earlierAt slots order f h) n → (((i : ℕ) → i < low → earlierAt slots order f h i ≡ false) × ((i : ℕ) → high ≤ i → i < n → earlierAt slots order f h i ≡ true))))
+Inv-loop slots order w n header low₀ high₀ low high = (low ≤ high) × ((high ≤ n) × (Rising (earlierAt slots order header) n → (((i : ℕ) → i < low → earlierAt slots order header i ≡ false) × ((i : ℕ) → high ≤ i → i < n → earlierAt slots order header i ≡ true))))
 
 abbrev μ-loop : tie.MeasureT-loop
-μ-loop slots order w n f h low₀ high₀ low high = high - low
+μ-loop slots order w n header low₀ high₀ low high = high - low
 
 loop-holds : tie.Need-loop-holds Inv-loop μ-loop
 loop-holds c = (omega arith, (omega arith, (λ rise. ((λ i h. absurd (omega arith)), (λ i a b. absurd (omega arith))))))
@@ -30,7 +30,7 @@ earlier-at-requires c κs =
     let turn = c .before .loop in
     let m : ℕ = turn .low + (turn .high - turn .low) / 2 in
     let below : m < start .args .n = omega arith in
-    (omega (arith, start .pre .1 .room), omega (arith, start .pre .1 .each m below))
+    (start .pre .0, (omega (arith, start .pre .1 .1 .room), omega (arith, start .pre .1 .1 .each m below)))
 
 loop-less : tie.Need-loop-less Inv-loop μ-loop
 loop-less c = search needs
@@ -55,7 +55,7 @@ loop-again-2 c =
       omega arith,
       (
         omega arith,
-        (λ rise. ((λ i x. fails-below (earlierAt (a .slots .now) (a .order .now) (a .f) (a .h)) (a .n) m i rise (omega arith) (sym (c .before .earlier-at .ensures) ∙ c .if1 .left) (omega arith)), turn .inv .1 .1 rise .1)),
+        (λ rise. ((λ i x. fails-below (earlierAt (a .slots .now) (a .order .now) (a .header .now)) (a .n) m i rise (omega arith) (sym (c .before .earlier-at .ensures) ∙ c .if1 .left) (omega arith)), turn .inv .1 .1 rise .1)),
       ),
     )
 

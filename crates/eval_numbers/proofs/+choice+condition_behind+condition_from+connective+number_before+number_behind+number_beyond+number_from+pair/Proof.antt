@@ -195,7 +195,7 @@ module _ (t : ℕ) where
   -- the condition is read
   module _ (c : choice-lts.After-b (choice-calls t) (choice-at t) choice.Post) where
     abbrev choice-start : Choice
-    choice-start = c .before .before .before .before .before .before .before
+    choice-start = c .before .before .before .before .before
 
     choice-b : choice-value choice-start (choice-start .args .at) ≡ C.Holds (c .b .given .0 .0) (c .b .given .0 .1 .0)
     choice-b = sym (c .before .before .condition-from .ensures) ∙ c .b .given .1
@@ -300,7 +300,7 @@ module _ (t : ℕ) where
   -- the first part is read
   module _ (c : Connective-b) where
     abbrev connective-start : Connective
-    connective-start = c .before .before .before .before .before .before .before
+    connective-start = c .before .before .before .before .before
 
     connective-b : connective-value connective-start (connective-start .args .at) ≡ C.Holds (c .b .given .0 .0) (c .b .given .0 .1 .0)
     connective-b = sym (c .before .before .condition-from .ensures) ∙ c .b .given .1
@@ -384,7 +384,7 @@ module _ (t : ℕ) where
   -- the number is read
   module _ (c : Before-z) where
     abbrev before-start : Before
-    before-start = c .before .before .before .before .before .before .before
+    before-start = c .before .before .before .before .before
 
     before-z : before-value before-start (before-start .args .at + before-start .args .n) ≡ N.Value (c .z .given .0 .0) (c .z .given .0 .1 .0)
     before-z = sym (c .before .before .number-from .ensures) ∙ c .z .given .1
@@ -458,7 +458,7 @@ module _ (t : ℕ) where
   -- the part in between is passed over
   module _ (c : number-beyond-lts.After-skip (number-beyond-calls t) (number-beyond-at t) number-beyond.Post) where
     abbrev beyond-start : Beyond
-    beyond-start = c .before .before .before .before .before .before
+    beyond-start = c .before .before .before .before
 
     beyond-ends : beyond-start .args .n + c .skip .result ≤ length (beyond-start .args .e .now) - beyond-start .args .at
     beyond-ends =
@@ -586,7 +586,7 @@ module _ (t : ℕ) where
   -- the first number is read
   module _ (c : Pair-x) where
     abbrev pair-start : Pair
-    pair-start = c .before .before .before .before .before .before .before
+    pair-start = c .before .before .before .before .before
 
     pair-x : pair-value pair-start (pair-start .args .at) ≡ N.Value (c .x .given .0 .0) (c .x .given .0 .1 .0)
     pair-x = sym (c .before .before .number-from .ensures) ∙ c .x .given .1

@@ -60,7 +60,6 @@ check-spec =
     returns
     (λ c. search needs)
     read-and-prepare-requires
-    (λ c. search needs)
     follow-requires
     returns-2
     returns-3

@@ -13,7 +13,7 @@ use Rattle.quick.proofs.condition.Statement.{statement}
 use Rattle.quick.proofs.condition.Tie as tie
 
 abbrev start : tie.Then1 → tie.Start
-start c = c .before .before .before .before .before
+start c = c .before .before .before
 
 form : (c : tie.Then1) → SumForm (start c .args .model .now) (start c .args .at)
 form c = c .before .is-sum .ensures (c .if1 .taken)

@@ -36,9 +36,9 @@ returns c =
     let at = start .args .at in
     let state = start .args .state .now in
     let words = start .args .outline .now in
-    let column = entered .before in
-    let row = column .before .before in
-    let table = row .before .before in
+    let column : tie.After-wide = search in
+    let row : tie.After-word-at3 = search in
+    let table : tie.After-word-at2 = search in
     let variable : number .signed-word .result ≡ variableIn bytes at state = number .signed-word .ensures .0 ∙ rw (number .before .word-at .ensures, number .before .before .byte-at .ensures) in
     let entry : entered .entry .result ≡ entryIn bytes at words state =
     entered .entry .ensures .0 ∙ rw (column .wide .ensures .0, column .before .byte-at4 .ensures, row .word-at3 .ensures, row .before .byte-at3 .ensures, table .word-at2 .ensures, table .before .byte-at2 .ensures) in

@@ -6,52 +6,55 @@ use Rattle.search_runs.proofs.rounds.Statement.{statement}
 use Rattle.search_runs.proofs.rounds.Tie as tie
 
 abbrev Inv-loop : tie.InvT-loop
-Inv-loop words₀ plan₀ model outline widest budget limit h progress₀ most₀ words plan progress most =
-    Widening model words₀ words plan₀ plan widest budget limit h progress most
+Inv-loop words₀ plan₀ model outline limits root widest progress₀ most₀ words plan progress most =
+    Widening model root words₀ words plan₀ plan (limits .width) (limits .budget) (limits .length) progress most
 
 abbrev μ-loop : tie.MeasureT-loop
-μ-loop words₀ plan₀ model outline widest budget limit h progress₀ most₀ words plan progress most =
-    most
-
-abbrev begun : tie.At-loop Inv-loop μ-loop → tie.Start Inv-loop μ-loop
-begun c = c .before .before .before .before .before .before
-
--- the turn in which a round was judged
-abbrev turn : tie.After-judged-round Inv-loop μ-loop → tie.In-loop Inv-loop μ-loop
-turn c = c .before .before .before
+μ-loop words₀ plan₀ model outline limits root widest progress₀ most₀ words plan progress most = most
 
 loop-holds : tie.Need-loop-holds Inv-loop μ-loop
 loop-holds c =
-    let pre = c .before .before .before .before .before .pre in
-    widening-first (pre .1 .0) (pre .1 .1 .0) (c .begin .ensures)
+    let start : tie.Start Inv-loop μ-loop = search in
+    let first : tie.After-begin Inv-loop μ-loop = search in
+    widening-first (start .pre .room) (start .pre .width) (first .begin .ensures)
 
 judged-round-requires : tie.Need-judged-round-requires Inv-loop μ-loop
 judged-round-requires c κs =
-    let here = c .before .before .before in
-    let pre = begun here .pre in
-    (pre .0, (room (here .loop .inv) (pre .1 .0), here .loop .inv .best-fits))
+    let start : tie.Start Inv-loop μ-loop = search in
+    let here : tie.At-loop Inv-loop μ-loop = search in
+    record {
+      outlined = start .pre .outlined;
+      room = room (here .loop .inv) (start .pre .room);
+      root-fits = start .pre .root-fits;
+      best-fits = here .loop .inv .best-fits;
+    }
 
 next-width-requires : tie.Need-next-width-requires Inv-loop μ-loop
 next-width-requires c κs =
-    let here = turn (c .before .before .before .before .before .before .before) .before in
-    omega (arith, here .loop .inv .narrow, begun here .pre .1 .0 .narrow)
+    let start : tie.Start Inv-loop μ-loop = search in
+    let here : tie.At-loop Inv-loop μ-loop = search in
+    omega (arith, here .loop .inv .narrow, start .pre .room .narrow)
 
 begin-requires-2 : tie.Need-begin-requires-2 Inv-loop μ-loop
 begin-requires-2 c κs =
-    let judged = c .before .before .before .before .before .before .before .before in
-    let here = turn judged .before in
-    omega (arith, number-same (here .loop .inv) (judged .judged-round .ensures), here .loop .inv .counted, turn judged .loop-test .taken, begun here .pre .1 .1 .1)
+    let start : tie.Start Inv-loop μ-loop = search in
+    let turn : tie.In-loop Inv-loop μ-loop = search in
+    let judged : tie.After-judged-round Inv-loop μ-loop = search in
+    let inv = turn .before .loop .inv in
+    omega (arith, number-same inv (judged .judged-round .ensures), inv .counted, turn .loop-test .taken, start .pre .small-budget)
 
 loop-again : tie.Need-loop-again Inv-loop μ-loop
 loop-again c =
-    let judged = c .before .before .before .before .before .before .before .before .before in
-    widening-more (turn judged .before .loop .inv) (turn judged .loop-test .taken) (judged .judged-round .ensures) (c .before .before .enum-told .given .1)
+    let turn : tie.In-loop Inv-loop μ-loop = search in
+    let judged : tie.After-judged-round Inv-loop μ-loop = search in
+    widening-more (turn .before .loop .inv) (turn .loop-test .taken) (judged .judged-round .ensures) (c .before .before .enum-told .given .1)
     (c .before .next-width .ensures) (c .begin2 .ensures) (search needs) (search needs)
 
 returns : tie.Need-returns Inv-loop μ-loop
 returns c =
-    let judged = c .before .before .before .before .before .before .before .before in
-    widening-over (turn judged .before .loop .inv) (turn judged .loop-test .taken) (judged .judged-round .ensures) (c .before .next .given .1)
+    let turn : tie.In-loop Inv-loop μ-loop = search in
+    let judged : tie.After-judged-round Inv-loop μ-loop = search in
+    widening-over (turn .before .loop .inv) (turn .loop-test .taken) (judged .judged-round .ensures) (c .before .next .given .1)
 
 pub rounds-spec : {M : Type 1} → statement M
 rounds-spec =
@@ -59,6 +62,7 @@ rounds-spec =
     (tie.spec
     Inv-loop
     μ-loop
+    (λ c. search needs)
     (λ c κs. omega arith)
     (λ c. search needs)
     loop-holds

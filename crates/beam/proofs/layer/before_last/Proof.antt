@@ -9,17 +9,17 @@ use Rattle.beam.proofs.layer.before_last.Tie as tie
 
 slice-aggregate-earlier-at : tie.Need-slice-aggregate-earlier-at
 slice-aggregate-earlier-at c =
-    let start = c .before .before in
-    sym (slots-length (start .args .w) (start .args .layer .now) (start .pre .1 .long))
+    let start : tie.Start = search in
+    sym (slots-length (start .args .w) (start .args .layer .now) (start .pre .1 .0 .long))
 
 earlier-at-requires : tie.Need-earlier-at-requires
 earlier-at-requires c κs =
-    let start = c .before .before .before in (
-      omega (arith, order-length (start .args .w) (start .args .layer .now) (start .pre .1 .long), start .pre .0),
-      omega (
-        arith,
-        slots-length (start .args .w) (start .args .layer .now) (start .pre .1 .long),
-        start .pre .1 .parts .inside .each (start .args .w - 1) (omega (arith, start .pre .0)),
+    let start : tie.Start = search in
+    let layer = start .pre .1 .0 in (
+      start .pre .1 .1,
+      (
+        omega (arith, order-length (start .args .w) (start .args .layer .now) (layer .long), start .pre .0),
+        omega (arith, slots-length (start .args .w) (start .args .layer .now) (layer .long), layer .parts .inside .each (start .args .w - 1) (omega (arith, start .pre .0))),
       ),
     )
 

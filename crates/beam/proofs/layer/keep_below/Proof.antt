@@ -5,7 +5,7 @@ use native.Mathlib.Decide.{decLt}
 use native.Mathlib.Omega.{arith}
 use borrow.Author.Needs.{needs}
 use lib.ListN.{getD}
-use Rattle.beam_order.specs.Slots.{slotWords, fAt}
+use Rattle.beam_order.specs.Slots.{slotWords, fAt, orderAt}
 use Rattle.beam.proofs.Moves.{few-in, place-below, below-at, below-none}
 use Rattle.beam.proofs.layer.keep_below.Statement.{statement}
 use Rattle.beam.proofs.layer.keep_below.Tie as tie
@@ -21,7 +21,7 @@ lower f best n left pos h old i a b = by-place (decLt i left)
     by-place (no k) = old i (omega arith) b
 
 abbrev Inv-loop : tie.InvT-loop
-Inv-loop layer width n best a left₀ left = (left ≤ n) × ((i : ℕ) → left ≤ i → i < n → best ≤ getD layer (getD layer (20 * width + i) 0 * slotWords + fAt) 0)
+Inv-loop layer width n best a left₀ left = (left ≤ n) × ((i : ℕ) → left ≤ i → i < n → best ≤ getD layer (getD layer (orderAt * width + i) 0 * slotWords + fAt) 0)
 
 abbrev μ-loop : tie.MeasureT-loop
 μ-loop layer width n best a left₀ left = left
@@ -33,7 +33,7 @@ layer-at c i = getD (c .before .before .args .layer .now) i 0
 place : (c : tie.In-loop Inv-loop μ-loop) → c .before .loop .left - 1 < c .before .before .args .width
 place c = omega (arith, few-in (c .before .before .pre), c .loop-test .taken, c .before .loop .inv .0)
 
-slot : (c : tie.In-loop Inv-loop μ-loop) → layer-at c (20 * c .before .before .args .width + (c .before .loop .left - 1)) < c .before .before .args .width
+slot : (c : tie.In-loop Inv-loop μ-loop) → layer-at c (orderAt * c .before .before .args .width + (c .before .loop .left - 1)) < c .before .before .args .width
 slot c = place-below (c .before .before .pre) (c .before .loop .left - 1) (omega (arith, c .loop-test .taken, c .before .loop .inv .0))
 
 returns : tie.Need-returns Inv-loop μ-loop
@@ -49,7 +49,7 @@ loop-again c =
     let start = here .before .before in
     let turn = here .before .loop in (
       omega (arith, turn .inv .0),
-      lower (λ i. layer-at here (layer-at here (20 * start .args .width + i) * slotWords + fAt)) (start .args .best) (start .args .n) (turn .left) (here .loop-test .taken) (c .if1 .left) (turn .inv .1),
+      lower (λ i. layer-at here (layer-at here (orderAt * start .args .width + i) * slotWords + fAt)) (start .args .best) (start .args .n) (turn .left) (here .loop-test .taken) (c .if1 .left) (turn .inv .1),
     )
 
 returns-2 : tie.Need-returns-2 Inv-loop μ-loop

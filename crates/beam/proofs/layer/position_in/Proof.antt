@@ -7,8 +7,8 @@ use Rattle.beam.proofs.layer.position_in.Tie as tie
 
 slice-aggregate-position-for : tie.Need-slice-aggregate-position-for
 slice-aggregate-position-for c =
-    let start = c .before .before in
-    sym (slots-length (start .args .w) (start .args .layer .now) (start .pre .long))
+    let start : tie.Start = search in
+    sym (slots-length (start .args .w) (start .args .layer .now) (start .pre .0 .long))
 
 pub position-in-spec : {M : Type 1} → statement M
 position-in-spec =

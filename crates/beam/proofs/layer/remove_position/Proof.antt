@@ -7,17 +7,16 @@ use Rattle.beam.proofs.layer.remove_position.Tie as tie
 
 remove-requires : tie.Need-remove-requires
 remove-requires c κs =
-    let start = c .before .before .before .before in (
-      omega (arith, start .pre .0 .parts .links-long, start .pre .1 .1 .0),
-      (slot-at (start .pre .0) (start .args .p) (omega (arith, start .pre .0 .parts .few, start .pre .1 .0)), start .pre .0 .parts .falling),
-    )
+    let start : tie.Start = search in
+    let held = start .pre .held in
+    (omega (arith, held .parts .links-long, start .pre .in-range), (slot-at held (start .args .p) (omega (arith, held .parts .few, start .pre .place)), held .parts .falling))
 
 returns : tie.Need-returns
 returns c =
-    let start = c .before .before .before .before .before .before .before .before .before .before .before in
+    let start : tie.Start = search in
     let remove = c .before .before .before .before .before .before .remove in
     let remove-at = c .before .before .remove-at in
-    removed-in (start .pre .0) (start .pre .1 .0) (start .pre .1 .1 .1) (remove .kept .0) (remove .ensures) (remove-at .kept .0) (remove-at .ensures)
+    removed-in (start .pre .held) (start .pre .place) (start .pre .own-bucket) (remove .kept .0) (remove .ensures) (remove-at .kept .0) (remove-at .ensures)
 
 pub remove-position-spec : {M : Type 1} → statement M
 remove-position-spec =

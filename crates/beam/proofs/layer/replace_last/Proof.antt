@@ -1,6 +1,7 @@
 -- `beam::layer::replace_last` meets its contract.
 use Prim.Native.Nat.{_*_, _-_}
 use mathlib.Core.Path.{sym, ap, _∙_}
+use mathlib.Core.List.{_++_}
 use native.Mathlib.Omega.{arith}
 use borrow.Author.Needs.{needs}
 use Rattle.beam.specs.Parts.{bucketIn}
@@ -11,53 +12,47 @@ use Rattle.beam.proofs.Cases.{last-replaced}
 use Rattle.beam.proofs.layer.replace_last.Statement.{statement}
 use Rattle.beam.proofs.layer.replace_last.Tie as tie
 
-abbrev begun : tie.After-slot-bucket → tie.Start
-begun c = c .before .before .before .before .before .before .before
-
 slice-aggregate-slot-bucket : tie.Need-slice-aggregate-slot-bucket
 slice-aggregate-slot-bucket c =
-    let start = c .before .before .before .before .before .before in
-    sym (slots-length (start .args .w) (start .args .layer .now) (start .pre .0 .long))
+    let start : tie.Start = search in
+    sym (slots-length (start .args .w) (start .args .layer .now) (start .pre .0 .held .long))
 
 slot-bucket-requires : tie.Need-slot-bucket-requires
 slot-bucket-requires c κs =
-    let start = c .before .before .before .before .before .before in (
-      start .pre .1 .0,
-      (
-        slot-room (start .pre .0 .parts) _ (slot-at (start .pre .0) (start .args .w - 1) (omega (arith, width-positive (start .pre .0)))),
-        (start .pre .0 .parts .some-bucket, start .pre .0 .parts .few-buckets),
-      ),
+    let start : tie.Start = search in
+    let held = start .pre .0 .held in (
+      start .pre .1,
+      (slot-room (held .parts) _ (slot-at held (start .args .w - 1) (omega (arith, width-positive held))), record { some = held .parts .some-bucket; few = held .parts .few-buckets }),
     )
 
 remove-position-requires : tie.Need-remove-position-requires
 remove-position-requires c κs =
-    let start = begun (c .before) in
-    let k = c .before .slot-bucket in (
-      start .pre .0,
-      (
-        omega (arith, width-positive (start .pre .0)),
-        (
-          k .ensures .0,
+    let start : tie.Start = search in
+    let k : tie.After-slot-bucket = search in
+    let held = start .pre .0 .held in
+    record {
+      held = held;
+      place = omega (arith, width-positive held);
+      in-range = k .slot-bucket .ensures .0;
+      own-bucket =
           ap (bucketIn (start .args .outline .now) (slotsOf (start .args .w) (start .args .layer .now)) (4 * start .args .w))
-              (order-at (start .args .w) (start .args .layer .now) (start .args .w - 1) (omega (arith, width-positive (start .pre .0)))) ∙ sym
-              (k .ensures .1),
-        ),
-      ),
-    )
+          (order-at (start .args .w) (start .args .layer .now) (start .args .w - 1) (omega (arith, width-positive held))) ∙ sym (k .slot-bucket .ensures .1);
+    }
 
 add-child-requires : tie.Need-add-child-requires
 add-child-requires c κs =
-    let start = begun (c .before .before .before .before .before) in
-    let out = c .before .before .before .remove-position in (
-      out .ensures .held,
-      (omega (arith, width-positive (start .pre .0)), (start .pre .1 .1 .0, (start .pre .1 .1 .1 .0, start .pre .1 .1 .1 .1))),
+    let start : tie.Start = search in
+    let out : tie.After-remove-position = search in (
+      record { held = out .remove-position .ensures .held; child = start .pre .0 .child; in-range = start .pre .0 .in-range; own-bucket = start .pre .0 .own-bucket },
+      omega (arith, width-positive (start .pre .0 .held)),
     )
 
 returns : tie.Need-returns
 returns c =
-    let out = c .before .before .before .before .before .before in
-    let start = begun (out .before .before) in
-    last-replaced (out .remove-position .last .0) (start .args .child .now) (start .pre .0) (out .remove-position .ensures) (c .before .before .add-child .ensures)
+    let start : tie.Start = search in
+    let out : tie.After-remove-position = search in
+    let last : tie.After-add-child = search in
+    last-replaced (out .remove-position .last .0) (start .args .header .now ++ start .args .state .now) (start .pre .0 .held) (out .remove-position .ensures) (last .add-child .ensures)
 
 pub replace-last-spec : {M : Type 1} → statement M
 replace-last-spec =

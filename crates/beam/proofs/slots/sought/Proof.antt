@@ -1,26 +1,32 @@
 -- `beam::slots::sought` meets its contract.
 use Prim.Native.Nat.{_+_, _*_, _-_}
-use mathlib.Core.Path.{_≡_}
+use mathlib.Core.Path.{_≡_, _∙_}
 use native.Mathlib.Omega.{arith}
 use borrow.Author.Needs.{needs}
-use Rattle.beam_order.specs.Slots.{wordsIn}
+use Rattle.model.specs.Numbers.{mostVariables}
+use Rattle.beam_order.specs.Slots.{slotWords, stateAt}
 use Rattle.beam.specs.Parts.{sought}
+use Rattle.beam.proofs.Mapped.{child-beats, beats-child}
 use Rattle.beam.proofs.slots.sought.Statement.{statement}
 use Rattle.beam.proofs.slots.sought.Tie as tie
 
 returns : tie.Need-returns
-unfolding sought wordsIn
+unfolding sought
 returns c =
-    let start = c .before .before .before .before .before .before .before in
-    let e : start .args .s * 20 + 20 - start .args .s * 20 ≡ 20 = omega arith in
-    rw (c .before .before .if1 .taken) (rw e at (c .beats .ensures))
+    let start : tie.Start = search in
+    let taken : tie.Then1 = search in
+    let e : start .args .s * slotWords + slotWords - (start .args .s * slotWords + stateAt) ≡ mostVariables = omega arith in
+    rw (taken .if1 .taken)
+    ((rw e at (c .beats .ensures)) ∙ child-beats (start .args .model .now) (start .args .slots .now) (start .args .s) (start .args .header .now) (start .args .state .now) (start .pre .1 .1))
 
 returns-2 : tie.Need-returns-2
-unfolding sought wordsIn
+unfolding sought
 returns-2 c =
-    let start = c .before .before .before .before .before .before .before in
-    let e : start .args .s * 20 + 20 - start .args .s * 20 ≡ 20 = omega arith in
-    rw (c .before .before .if1 .left) (rw e at (c .beats2 .ensures))
+    let start : tie.Start = search in
+    let left : tie.Else1 = search in
+    let e : start .args .s * slotWords + slotWords - (start .args .s * slotWords + stateAt) ≡ mostVariables = omega arith in
+    rw (left .if1 .left)
+    ((rw e at (c .beats2 .ensures)) ∙ beats-child (start .args .model .now) (start .args .slots .now) (start .args .s) (start .args .header .now) (start .args .state .now) (start .pre .1 .1))
 
 pub sought-spec : {M : Type 1} → statement M
 sought-spec =
@@ -32,8 +38,14 @@ sought-spec =
     (λ c. search needs)
     (λ c. search needs)
     (λ c. search needs)
+    (λ c. search needs)
+    (λ c. search needs)
+    (λ c. search needs)
+    (λ c. search needs)
+    (λ c. search needs)
     (λ c κs. search needs)
     returns
+    (λ c. search needs)
     (λ c. search needs)
     (λ c. search needs)
     (λ c. search needs)

@@ -38,7 +38,7 @@ offer-children-requires c κs =
     let outlined : tie.After-read-and-prepare = search in
     let second : tie.Then2 = search in
     let a = start (tested (second .before) .before) .args in
-    (ready (outlined .read-and-prepare .ensures .1 (good .if3 .taken)), room (a .width) (length (a .words .now)) (fits second))
+    room (a .width) (a .words .now) (ready (outlined .read-and-prepare .ensures .1 (good .if3 .taken))) (fits second)
 
 returns : tie.Need-returns
 returns c =
@@ -79,7 +79,6 @@ repgypsum-insertions-spec =
     (λ c κs. search needs)
     (λ c. search needs)
     read-and-prepare-requires
-    (λ c. search needs)
     offer-children-requires
     (λ c. search needs)
     returns

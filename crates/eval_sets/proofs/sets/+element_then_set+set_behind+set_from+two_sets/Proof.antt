@@ -95,7 +95,7 @@ module _ (t : ℕ) where
   -- the element is read
   module _ (c : element-then-set-lts.After-element (element-then-set-calls t) (element-then-set-at t) element-then-set.Post) where
     abbrev element-start : Element
-    element-start = c .before .before .before .before .before
+    element-start = c .before .before .before
 
     element-ends : c .element .result .used ≤ length (element-start .args .e .now) - element-start .args .at
     element-ends = element-past _ (element-start .args .at) (element-start .args .e .now) _ _ (c .before .after .ensures) (c .element .ensures .0)
@@ -173,7 +173,7 @@ module _ (t : ℕ) where
   -- the first set is read
   module _ (c : two-sets-lts.After-set-from (two-sets-calls t) (two-sets-at t) two-sets.Post) where
     abbrev two-start : Two
-    two-start = c .before .before .before .before
+    two-start = c .before .before
 
     first-ends : c .set-from .result .used ≤ length (two-start .args .e .now) - two-start .args .at
     first-ends = set-past _ _ _ (two-start .args .at) (two-start .args .e .now) _ (c .set-from .ensures)

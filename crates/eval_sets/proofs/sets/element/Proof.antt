@@ -15,7 +15,7 @@ returns c =
     element-kept (start .args .state .now) (start .args .e .now) (rw (lt-ltb (length (start .args .e .now)) 2 (c .if1 .taken)))
 
 cast-k : tie.Need-cast-k
-cast-k c = omega (arith, c .shared-slice-known3 .given 1)
+cast-k c = omega (arith, c .shared-slice-known2 .given 1)
 
 returns-2 : tie.Need-returns-2
 unfolding runElement elementOf
@@ -29,8 +29,9 @@ unfolding runElement elementOf
 returns-3 c =
     let start : tie.Start = search in
     let else1 : tie.Else1 = search in
+    let variable : tie.At-match-keys2 = search in
     element-kept (start .args .state .now) (start .args .e .now)
-    (rw (le-ltb (length (start .args .e .now)) 2 (else1 .if1 .left), c .before .match .keys2, c .word-at .ensures))
+    (rw (le-ltb (length (start .args .e .now)) 2 (else1 .if1 .left), variable .match .keys2, c .word-at .ensures))
 
 returns-4 : tie.Need-returns-4
 unfolding runElement elementOf

@@ -9,8 +9,8 @@ set-from-requires c κs = search needs
 
 returns : tie.Need-returns
 returns c =
-    let a = c .before .before .before .before .args in
-    set-kept (a .depth) (a .state .now) (a .outline .now) (a .e .now) (c .set-from .ensures)
+    let start : tie.Start = search in
+    set-kept (start .args .depth) (start .args .state .now) (start .args .outline .now) (start .args .e .now) (c .set-from .ensures)
 
 pub set-spec : {M : Type 1} → statement M
 set-spec = tie.close (tie.spec set-from-requires returns)

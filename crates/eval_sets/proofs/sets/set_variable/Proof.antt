@@ -11,7 +11,7 @@ no-set-requires c κs = search needs
 
 returns : tie.Need-returns
 returns c =
-    let start = c .before .before .before .before .before in
+    let start : tie.Start = search in
     c .no-set .ensures ∙ sym (variable-none (start .args .state .now) (start .args .outline .now) (start .args .e .now) (omega arith))
 
 name-requires : tie.Need-name-requires
@@ -25,9 +25,11 @@ objects-in-requires c κs = search needs
 
 returns-2 : tie.Need-returns-2
 returns-2 c =
-    let start = c .before .before .before .before .before .before .before in
-    rw (c .before .word-at .ensures, c .objects-in .ensures, c .before .before .name .ensures .0)
-    (sym (variable-some (start .args .state .now) (start .args .outline .now) (start .args .e .now) (c .before .before .before .if1 .left)))
+    let start : tie.Start = search in
+    let some : tie.Else1 = search in
+    let named : tie.After-name = search in
+    rw (c .before .word-at .ensures, c .objects-in .ensures, named .name .ensures .0)
+    (sym (variable-some (start .args .state .now) (start .args .outline .now) (start .args .e .now) (some .if1 .left)))
 
 pub set-variable-spec : {M : Type 1} → statement M
 set-variable-spec =

@@ -17,16 +17,23 @@ element-requires-2 c κs = search needs
 
 add-t6 : tie.Need-add-t6
 add-t6 c =
-    let start = c .before .before .before .before .before .before .before in
+    let start : tie.Start = search in
+    let first : tie.After-element = search in
+    let rest : tie.After-after = search in
+    let second : tie.After-element2 = search in
     omega (
       arith,
-      rw (← (c .before .before .before .before .element .ensures .0)) at (element-used (start .args .state .now) (start .args .e .now)),
-      rw (← (c .before .before .element2 .ensures .0)) at (element-used (start .args .state .now) (c .before .before .before .after .result .now)),
+      rw (← (first .element .ensures .0)) at (element-used (start .args .state .now) (start .args .e .now)),
+      rw (← (second .element2 .ensures .0)) at (element-used (start .args .state .now) (rest .after .result .now)),
     )
 
 returns : tie.Need-returns
 unfolding twoElements
-returns c = rw (c .before .before .element2 .ensures .0, c .before .before .before .after .ensures, c .before .before .before .before .element .ensures .0)
+returns c =
+    let first : tie.After-element = search in
+    let rest : tie.After-after = search in
+    let second : tie.After-element2 = search in
+    rw (second .element2 .ensures .0, rest .after .ensures, first .element .ensures .0)
 
 pub two-elements-spec : {M : Type 1} → statement M
 two-elements-spec =

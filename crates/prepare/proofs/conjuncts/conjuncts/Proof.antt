@@ -6,7 +6,7 @@ use borrow.Author.Needs.{needs}
 use lib.ListN.{length}
 use Rattle.outline.specs.Outline.{modelOf}
 use Rattle.prepare.specs.Layout.{conjunctsFrom}
-use Rattle.prepare.specs.Steps.{Room, PartedMore}
+use Rattle.prepare.specs.Promised.{Room, PartedMore}
 use Rattle.prepare.proofs.Dividing.{nothing-parted, all-put}
 use Rattle.prepare.proofs.Kept.{kept-all, kept-both, room-kept}
 use Rattle.prepare.proofs.conjuncts.conjuncts.Statement.{statement}

@@ -13,7 +13,7 @@ use Rattle.outline.specs.Outline.{modelOf}
 use Rattle.eval_sets.specs.Forms.{span}
 use Rattle.eval_sets.proofs.Spans.{span-within}
 use Rattle.prepare.specs.Layout.{conjunctsFrom, mostConjuncts}
-use Rattle.prepare.specs.Steps.{Room}
+use Rattle.prepare.specs.Promised.{Room}
 use Rattle.prepare.proofs.Dividing.{Dividing, begin, divided, put-first, due-inside, finish}
 use Rattle.prepare.proofs.Kept.{room-kept}
 use Rattle.prepare.proofs.conjuncts.part.Statement.{statement}

@@ -33,13 +33,13 @@ abbrev model : Turn → List ℕ
 model c = start c .args .model .now
 
 rows-same : (c : Turn) → length (c .loop .rows) ≡ length (start c .args .rows .now)
-rows-same c = c .loop .inv .rows-length ∙ sym (start c .pre .1)
+rows-same c = c .loop .inv .rows-length ∙ sym (start c .pre .rows-long)
 
 columns-same : (c : Turn) → length (c .loop .columns) ≡ length (start c .args .columns .now)
-columns-same c = c .loop .inv .columns-length ∙ sym (start c .pre .2)
+columns-same c = c .loop .inv .columns-length ∙ sym (start c .pre .columns-long)
 
 words-same : (c : Turn) → length (c .loop .words) ≡ length (start c .args .words .now)
-words-same c = c .loop .inv .words-length ∙ sym (start c .pre .3)
+words-same c = c .loop .inv .words-length ∙ sym (start c .pre .words-long)
 
 -- a table is due, and begins inside the model
 module _ (c : tie.Then1 Inv-loop μ-loop) where
@@ -80,7 +80,7 @@ module _ (c : tie.After-entries Inv-loop μ-loop) where
   entries-here = rw (c .before .before .wide .ensures .0, c .before .wide2 .ensures .0) at (c .entries .ensures)
 
 loop-holds : tie.Need-loop-holds Inv-loop μ-loop
-loop-holds c = let s : tie.Start Inv-loop μ-loop = search in no-tables (s .pre .1) (s .pre .2) (s .pre .3)
+loop-holds c = let s : tie.Start Inv-loop μ-loop = search in no-tables (s .pre .rows-long) (s .pre .columns-long) (s .pre .words-long)
 
 add-behind : tie.Need-add-behind Inv-loop μ-loop
 add-behind c = record { fits = omega (arith, inside c, start (turn c) .good) }
@@ -110,7 +110,7 @@ slice-write-columns : tie.Need-slice-write-columns Inv-loop μ-loop
 slice-write-columns c = let t : Turn = search in omega (arith, t .loop .inv .columns-length, room (search))
 
 packed-requires : tie.Need-packed-requires Inv-loop μ-loop
-packed-requires c κs = let t : Turn = search in let g = told (search) in (omega (arith, inside (search), start t .pre .0), g .low-rows, g .low-columns)
+packed-requires c κs = let t : Turn = search in let g = told (search) in (omega (arith, inside (search), start t .pre .short), g .low-rows, g .low-columns)
 
 slice-write-words : tie.Need-slice-write-words Inv-loop μ-loop
 slice-write-words c = let t : Turn = search in omega (arith, t .loop .inv .words-length, room (search))
@@ -118,7 +118,7 @@ slice-write-words c = let t : Turn = search in omega (arith, t .loop .inv .words
 loop-again : tie.Need-loop-again Inv-loop μ-loop
 loop-again c =
     let t : Turn = search in
-    table-more (t .loop .inv) (inside (search)) (due (search)) (told (search)) (room (search)) (start t .pre .0) (sym (c .before .before .end .given .1) ∙ entries-here (search))
+    table-more (t .loop .inv) (inside (search)) (due (search)) (told (search)) (room (search)) (start t .pre .short) (sym (c .before .before .end .given .1) ∙ entries-here (search))
     (c .packed .ensures)
 
 returns-2 : tie.Need-returns-2 Inv-loop μ-loop

@@ -5,7 +5,9 @@ use Rattle.search_expansion.proofs.children.below_best.Tie as tie
 
 returns : tie.Need-returns
 unfolding belowCost
-returns c = rw (c .if1 .taken)
+returns c =
+    let taken : tie.Then1 = search in
+    rw (taken .if1 .taken)
 
 returns-2 : tie.Need-returns-2
 unfolding belowCost

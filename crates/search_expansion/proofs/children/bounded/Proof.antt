@@ -1,73 +1,74 @@
 -- `search_expansion::children::bounded` meets its contract.
-use Rattle.search_expansion.proofs.TrialSteps.{f-fits, bounded-value, bounded-trouble}
-use lib.ListN.{length-set}
-use native.Mathlib.Omega.{arith}
 use mathlib.Core.Path.{sym, _∙_}
+use native.Mathlib.Omega.{arith}
 use borrow.Author.Needs.{needs}
+use Rattle.search_expansion.proofs.TrialSteps.{f-fits, bounded-value, bounded-trouble}
 use Rattle.search_expansion.proofs.children.bounded.Statement.{statement}
 use Rattle.search_expansion.proofs.children.bounded.Tie as tie
 
-abbrev begun : tie.After-combine → tie.Start
-begun c = c .before .before .before .before .before .before .before
-
--- g, of which the bound was asked behind it, and the bound before f
-abbrev summed : tie.After-bound → tie.After-combine
-summed c = c .before .before
-
+-- the bound that was asked for before f, and g before it
 abbrev asked : tie.After-combine2 → tie.After-bound
 asked c = c .before .before .before .before
 
+abbrev summed : tie.After-bound → tie.After-combine
+summed c = c .before
+
+abbrev begun : tie.After-combine → tie.Start
+begun c = c .before .before .before
+
+combine-requires : tie.Need-combine-requires
+combine-requires c κs =
+    let start : tie.Start = search in
+    (start .pre .0 .outlined, omega (arith, start .pre .0 .small, start .pre .1 .1))
+
 combine-requires-2 : tie.Need-combine-requires-2
 combine-requires-2 c κs =
-    let here = c .before .before .before in
-    let pre = begun (summed here) .pre in
-    (pre .1 .0, f-fits _ _ _ _ _ _ (pre .1 .1 .1 .0) (pre .1 .1 .1 .1 .1 .1 .0) (summed here .combine .ensures) (sym (here .bound .ensures) ∙ c .before .h .given .1))
-
-slice-write-child-3 : tie.Need-slice-write-child-3
-slice-write-child-3 c = simp length-set (omega (arith, begun (summed (asked c)) .pre .1 .1 .1 .1 .1 .1 .1))
-
-slice-write-child-4 : tie.Need-slice-write-child-4
-slice-write-child-4 c = simp length-set (omega (arith, begun (summed (asked c)) .pre .1 .1 .1 .1 .1 .1 .1))
+    let start : tie.Start = search in
+    let summed : tie.After-combine = search in
+    let asked : tie.After-bound = search in
+    (start .pre .0 .outlined, f-fits _ _ _ _ _ _ (start .pre .0 .small) (start .pre .1 .1) (summed .combine .ensures) (sym (asked .bound .ensures) ∙ c .before .h .given .1))
 
 offer-requires : tie.Need-offer-requires
 offer-requires c κs =
-    let pre = begun (summed (asked (c .before .before))) .pre in
-    (pre .0, (pre .1 .0, simp length-set (pre .1 .1 .1 .1 .1 .1 .1)))
+    let start : tie.Start = search in
+    (start .pre .0 .held, (start .pre .0 .outlined, search needs))
 
 returns : tie.Need-returns
 returns c =
-    let f = c .before .before .before .before .before in
-    let here = asked f in
-    let pre = begun (summed here) .pre in
-    let offer = c .before .before .offer in
-    bounded-value (pre .1 .0) _ _ _ _ _ _ _ _ _ _ (offer .result) (pre .1 .1 .1 .1 .1 .1 .1) (pre .1 .1 .1 .1 .1 .0) (sym (here .bound .ensures) ∙ f .before .before .h .given .1)
-    (summed here .combine .ensures) (f .combine2 .ensures) (offer .ensures)
+    let offered : tie.After-offer = search in
+    let total : tie.After-combine2 = search in
+    let here = asked total in
+    record {
+      grows = λ state.
+          bounded-value _ _ _ _ state _ _ _ _ (offered .offer .result) (begun (summed here) .pre .1 .0) (sym (here .bound .ensures) ∙ total .before .before .h .given .1)
+          (summed here .combine .ensures) (total .combine2 .ensures) (offered .offer .ensures);
+    }
 
 returns-2 : tie.Need-returns-2
 returns-2 c =
-    let here = c .before .before .before in
-    let pre = begun (summed here) .pre in
-    bounded-trouble (pre .1 .0) _ _ _ _ _ _ _ _ _ _ (pre .1 .1 .1 .1 .1 .0) (sym (here .bound .ensures) ∙ c .before .e .given .1) (summed here .combine .ensures) (pre .0)
+    let start : tie.Start = search in
+    let summed : tie.After-combine = search in
+    let asked : tie.After-bound = search in
+    record {
+      grows = λ state. bounded-trouble _ _ _ _ state _ _ _ _ (start .pre .1 .0) (sym (asked .bound .ensures) ∙ c .before .e .given .1) (summed .combine .ensures) (start .pre .0 .held);
+    }
 
 pub bounded-spec : {M : Type 1} → statement M
 bounded-spec =
     tie.close
     (tie.spec
-    (λ c. search needs)
-    (λ c κs. search needs)
+    combine-requires
     (λ c κs. search needs)
     (λ c. search needs)
     (λ c. search needs)
     (λ c. search needs)
     combine-requires-2
-    slice-write-child-3
     (λ c. search needs)
     (λ c. search needs)
-    slice-write-child-4
+    (λ c. search needs)
+    (λ c. search needs)
     offer-requires
     (λ c. search needs)
     (λ c. search needs)
-    (λ c. search needs)
     returns
-    (λ c. search needs)
     returns-2)

@@ -10,13 +10,13 @@ use Rattle.search_expansion.proofs.children.expand.Statement.{statement
 use Rattle.search_expansion.proofs.children.expand.Tie as tie
 
 abbrev Inv-loop : tie.InvT-loop
-Inv-loop layer₀ model outline w n found best node i all count₀ cut₀ t₀ layer count cut t = Expanding model outline w n i found best node layer₀ layer count cut t
+Inv-loop layer₀ model outline n state parent all count₀ cut₀ t₀ layer count cut t = Expanding model outline n parent state layer₀ layer count cut t
 
 abbrev μ-loop : tie.MeasureT-loop
-μ-loop layer₀ model outline w n found best node i all count₀ cut₀ t₀ layer count cut t = all - t
+μ-loop layer₀ model outline n state parent all count₀ cut₀ t₀ layer count cut t = all - t
 
 abbrev begun : tie.After-transitions Inv-loop μ-loop → tie.Start Inv-loop μ-loop
-begun c = c .before .before .before .before .before
+begun c = c .before .before .before
 
 -- the turn in which a transition is allowed or not, and that in which it is tried
 abbrev asked : tie.After-allowed Inv-loop μ-loop → tie.In-loop Inv-loop μ-loop
@@ -30,20 +30,20 @@ one-left : (c : tie.In-loop Inv-loop μ-loop) → c .before .loop .t < systemIn 
 one-left c = omega (arith, c .loop-test .taken, c .before .before .transitions .ensures)
 
 loop-holds : tie.Need-loop-holds Inv-loop μ-loop
-loop-holds c = expanding-first _ _ _ _ _ _ _ _ _ (begun c .pre .0)
+loop-holds c = expanding-first _ _ _ _ _ _ (begun c .pre .held)
 
 try-transition-requires : tie.Need-try-transition-requires Inv-loop μ-loop
 try-transition-requires c κs =
     let here = asked (c .before .before) in
     let pre = begun (here .before .before) .pre in (
-      here .before .loop .inv .held,
-      (pre .1 .0, (pre .1 .1 .0, (pre .1 .1 .1 .0, (pre .1 .1 .1 .1, omega (arith, one-left here, few-transitions (pre .1 .0)))))),
+      record { outlined = pre .outlined; held = here .before .loop .inv .held; small = pre .small; slot = pre .slot },
+      omega (arith, one-left here, few-transitions (pre .outlined)),
     )
 
 loop-again : tie.Need-loop-again Inv-loop μ-loop
 loop-again c =
     let tried = c .before .before .before .before .before in
-    expanding-more _ _ _ _ _ _ _ _ _ (turn tried .before .loop .inv) (one-left (turn tried)) (tried .try-transition .ensures) (c .before .before .either .ensures)
+    expanding-more _ _ _ _ _ _ (turn tried .before .loop .inv) (one-left (turn tried)) (tried .try-transition .ensures) (c .before .before .either .ensures)
     (tried .try-transition .kept .0) (c .enum-told .given .1)
 
 same-length : tie.Need-same-length Inv-loop μ-loop
@@ -54,7 +54,7 @@ same-length c =
 returns : tie.Need-returns Inv-loop μ-loop
 returns c =
     let tried = c .before .before .before .before .before .before in
-    expanded-before _ _ _ _ _ _ _ _ _ (turn tried .before .loop .inv) (one-left (turn tried)) (tried .try-transition .ensures) (c .before .before .before .either .ensures)
+    expanded-before _ _ _ _ _ _ (turn tried .before .loop .inv) (one-left (turn tried)) (tried .try-transition .ensures) (c .before .before .before .either .ensures)
     (c .before .trial .given .1)
 
 same-length-2 : tie.Need-same-length-2 Inv-loop μ-loop
@@ -65,16 +65,16 @@ same-length-2 c =
 returns-2 : tie.Need-returns-2 Inv-loop μ-loop
 returns-2 c =
     let tried = c .before .before .before .before .before .before in
-    expanded-at _ _ _ _ _ _ _ _ _ (turn tried .before .loop .inv) (one-left (turn tried)) (tried .try-transition .ensures) (c .before .before .before .either .ensures)
+    expanded-at _ _ _ _ _ _ (turn tried .before .loop .inv) (one-left (turn tried)) (tried .try-transition .ensures) (c .before .before .before .either .ensures)
     (c .before .trial2 .given .1)
 
 loop-again-2 : tie.Need-loop-again-2 Inv-loop μ-loop
 loop-again-2 c =
     let here = asked (c .before) in
-    expanding-past _ _ _ _ _ _ _ _ _ (here .before .loop .inv) (begun (here .before .before) .pre .1 .0) (one-left here) (c .before .allowed .ensures (c .if1 .left))
+    expanding-past _ _ _ _ _ _ (here .before .loop .inv) (one-left here) (c .before .allowed .ensures (c .if1 .left))
 
 returns-3 : tie.Need-returns-3 Inv-loop μ-loop
-returns-3 c = expanded-all _ _ _ _ _ _ _ _ _ (c .before .loop .inv) (omega (arith, c .loop-test .left, c .before .before .transitions .ensures))
+returns-3 c = expanded-all _ _ _ _ _ _ (c .before .loop .inv) (omega (arith, c .loop-test .left, c .before .before .transitions .ensures))
 
 pub expand-spec : {M : Type 1} → statement M
 expand-spec =
@@ -84,7 +84,7 @@ expand-spec =
     μ-loop
     (λ c κs. search needs)
     loop-holds
-    (λ c κs. (begun (c .before .before) .pre .1 .0, one-left c))
+    (λ c κs. (begun (c .before .before) .pre .outlined, one-left c))
     try-transition-requires
     (λ c κs. search needs)
     (λ c. search needs)

@@ -9,6 +9,7 @@ use Rattle.beam.proofs.Moves.{few-in}
 use Rattle.search_paths.proofs.Gathering.{Gathered, gathered-none, gathered-more, place-inside, still-inside, all-taken}
 use Rattle.search_paths.proofs.current.next_layer.Statement.{statement}
 use Rattle.search_paths.proofs.current.next_layer.Tie as tie
+use Rattle.beam_order.specs.Slots.{nextAt, nextEnd}
 
 abbrev Inv-loop : tie.InvT-loop
 Inv-loop words₀ w k n i₀ words i = (i ≤ n) × Gathered words₀ words w (k + 1) i
@@ -20,8 +21,8 @@ abbrev begun : tie.At-loop Inv-loop μ-loop → tie.Start Inv-loop μ-loop
 begun c = c .before .before
 
 -- the layer in the making lies inside
-room : (c : tie.At-loop Inv-loop μ-loop) → 46 * begun c .args .w ≤ length (c .loop .words)
-room c = omega (arith, c .loop .inv .1 .long, begun c .pre .1 .1 .1 .1)
+room : (c : tie.At-loop Inv-loop μ-loop) → nextEnd * begun c .args .w ≤ length (c .loop .words)
+room c = omega (arith, c .loop .inv .1 .long, begun c .pre .room)
 
 -- all are gathered
 gathered : (c : tie.After-loop Inv-loop μ-loop) → (let a = begun (c .before) .args in Gathered (a .words .now) (c .before .loop .words) (a .w) (a .k + 1) (a .n))
@@ -36,56 +37,54 @@ loop-holds c = (omega arith, gathered-none (c .before .args .words .now) (c .bef
 
 take-node-requires : tie.Need-take-node-requires Inv-loop μ-loop
 take-node-requires c κs =
-    let here = c .before in
+    let here : tie.In-loop Inv-loop μ-loop = search in
     let start = begun (here .before) in
     let turn = here .before .loop in
-    let h : turn .i < start .args .n = here .loop-test .taken in (
-      omega (arith, few-in (start .pre .0)),
-      (
-        start .pre .1 .1 .0,
-        (
-          omega arith,
-          (
-            omega (arith, turn .inv .1 .long, start .pre .1 .1 .1 .1),
-            still-inside (start .args .words .now) (start .pre .0) (turn .words) (start .args .k + 1) (turn .i) (turn .inv .1) h,
-          ),
-        ),
-      ),
-    )
+    let h : turn .i < start .args .n = here .loop-test .taken in
+    record {
+      place = omega (arith, few-in (start .pre .layer));
+      narrow = start .pre .narrow;
+      depth = omega (arith, start .pre .depth);
+      room = omega (arith, turn .inv .1 .long, start .pre .room);
+      slot = still-inside (start .args .words .now) (start .pre .layer) (turn .words) (start .args .k + 1) (turn .i) (turn .inv .1) h;
+    }
 
 loop-again : tie.Need-loop-again Inv-loop μ-loop
 loop-again c =
-    let node = c .before .before .take-node in
-    let here = c .before .before .before .before in
+    let taken : tie.After-take-node Inv-loop μ-loop = search in
+    let here : tie.In-loop Inv-loop μ-loop = search in
+    let node = taken .take-node in
     let start = begun (here .before) in
     let turn = here .before .loop in
     let h : turn .i < start .args .n = here .loop-test .taken in (
       omega arith,
       gathered-more (start .args .words .now) (turn .words) (node .last .0) (start .args .w) (start .args .k + 1) (turn .i)
-          (omega (arith, few-in (start .pre .0))) (place-inside (start .args .words .now) (start .pre .0) (turn .i) h) (node .kept .0) (turn .inv .1)
+          (omega (arith, few-in (start .pre .layer))) (place-inside (start .args .words .now) (start .pre .layer) (turn .i) h) (node .kept .0) (turn .inv .1)
           (node .ensures),
     )
 
 empty-requires : tie.Need-empty-requires Inv-loop μ-loop
 empty-requires c κs =
-    let here = c .before .before in
+    let here : tie.At-loop Inv-loop μ-loop = search in
     let start = begun here in
-    (start .pre .1 .0, (omega (arith, start .pre .1 .1 .0), omega (arith, part-length (20 * start .args .w) (46 * start .args .w) (here .loop .words) (omega arith) (room here))))
+    (start .pre .some-width, (omega (arith, start .pre .narrow), omega (arith, part-length (nextAt * start .args .w) (nextEnd * start .args .w) (here .loop .words) (omega arith) (room here))))
 
 same-length : tie.Need-same-length Inv-loop μ-loop
 same-length c =
-    let here = c .before .before .before .before .before in
+    let here : tie.At-loop Inv-loop μ-loop = search in
+    let emptied : tie.After-empty Inv-loop μ-loop = search in
     let w = begun here .args .w in
-    let none = c .before .before .empty in
-    put-length (20 * w) (46 * w) (here .loop .words) (none .last .0) (omega arith) (room here) (none .kept .0) ∙ here .loop .inv .1 .long
+    let none = emptied .empty in
+    put-length (nextAt * w) (nextEnd * w) (here .loop .words) (none .last .0) (omega arith) (room here) (none .kept .0) ∙ here .loop .inv .1 .long
 
 returns : tie.Need-returns Inv-loop μ-loop
 returns c =
-    let here = c .before .before .before .before in
+    let here : tie.After-loop Inv-loop μ-loop = search in
+    let emptied : tie.After-empty Inv-loop μ-loop = search in
     let start = begun (here .before) in
-    let none = c .before .before .empty in
+    let none = emptied .empty in
     all-taken (start .args .words .now) (here .before .loop .words) (none .last .0) (start .args .w) (start .args .k) (start .args .n)
-    (start .pre .1 .0) (start .pre .0) (start .pre .1 .1 .1 .1) (gathered here) (none .kept .0) (none .ensures)
+    (start .pre .some-width) (start .pre .layer) (start .pre .room) (gathered here) (none .kept .0) (none .ensures)
 
 pub next-layer-spec : {M : Type 1} → statement M
 next-layer-spec =

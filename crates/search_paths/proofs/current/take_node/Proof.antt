@@ -6,11 +6,13 @@ use Rattle.search_paths.proofs.current.take_node.Tie as tie
 
 returns : tie.Need-returns
 returns c =
-    let start = c .before .before .before .before .before .before .before .before .before .before .before in
-    let node = c .before .before .before .before .before .before .copy-node in
-    let placed = c .before .before .copy-words in
+    let start : tie.Start = search in
+    let copied : tie.After-copy-node = search in
+    let stored : tie.After-copy-words = search in
+    let node = copied .copy-node in
+    let placed = stored .copy-words in
     node-written (start .args .words .now) (node .last .1 .1 .0) (placed .last .1 .0) (start .args .w) (start .args .k) (start .args .i)
-    (start .pre .0) (start .pre .1 .1 .1 .1) (start .pre .1 .1 .1 .0) (node .ensures) (placed .ensures)
+    (start .pre .place) (start .pre .slot) (start .pre .room) (node .ensures) (placed .ensures)
 
 pub take-node-spec : {M : Type 1} → statement M
 take-node-spec =

@@ -21,25 +21,25 @@ loop-holds c = (omega arith, (refl, refl))
 
 back-at-requires : tie.Need-back-at-requires Inv-loop μ-loop
 back-at-requires c κs =
-    let start = c .before .before .before .before in
-    (start .pre .0, (start .pre .1 .0, omega (arith, c .before .loop .inv .0, start .pre .1 .1 .0)))
+    let start : tie.Start Inv-loop μ-loop = search in
+    (start .pre .some-width, (start .pre .narrow, omega (arith, c .before .loop .inv .0, start .pre .depth)))
 
 loop-again : tie.Need-loop-again Inv-loop μ-loop
 loop-again c =
-    let start = c .before .before .before .before .before in
+    let start : tie.Start Inv-loop μ-loop = search in
     let turn = c .before .before .loop in (
       omega arith,
       (
         length-set (turn .plan) (turn .left - 1) (c .back-at .result % 256) ∙ turn .inv .1 .0,
         step-on (start .args .words .now) (start .args .w) (turn .left) (turn .slot) (c .back-at .result) (turn .plan) (c .before .loop-test .taken)
-            (omega (arith, turn .inv .0, turn .inv .1 .0, start .pre .1 .1 .1)) (c .back-at .ensures) (turn .inv .1 .1),
+            (omega (arith, turn .inv .0, turn .inv .1 .0, start .pre .room)) (c .back-at .ensures) (turn .inv .1 .1),
       ),
     )
 
 returns : tie.Need-returns Inv-loop μ-loop
 returns c =
     let turn = c .before .loop in
-    let start = c .before .before .before .before in
+    let start : tie.Start Inv-loop μ-loop = search in
     sym (turn .inv .1 .1 ∙ all-written (start .args .words .now) (start .args .w) (turn .left) (turn .slot) (turn .plan) (c .loop-test .left))
 
 pub trace-spec : {M : Type 1} → statement M

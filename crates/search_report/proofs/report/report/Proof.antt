@@ -7,15 +7,17 @@ use Rattle.search_report.proofs.report.report.Tie as tie
 
 trace-requires : tie.Need-trace-requires
 trace-requires c κs =
-    let pre = c .before .before .before .before .before .before .before .pre in
+    let start : tie.Start = search in
+    let pre = start .pre in
     let ends = inside-at _ (c .before .before .ending2 .given .1) (pre .inside) in
-    (pre .some-width, (pre .narrow, (omega arith, omega arith)))
+    record { some-width = pre .some-width; narrow = pre .narrow; depth = omega arith; room = omega arith }
 
 trace-requires-2 : tie.Need-trace-requires-2
 trace-requires-2 c κs =
-    let pre = c .before .before .before .before .before .before .before .pre in
+    let start : tie.Start = search in
+    let pre = start .pre in
     let ends = inside-beyond _ (c .before .before .ending3 .given .1) (pre .inside) in
-    (pre .some-width, (pre .narrow, (omega arith, omega arith)))
+    record { some-width = pre .some-width; narrow = pre .narrow; depth = omega arith; room = omega arith }
 
 cast-plan : tie.Need-cast-plan
 cast-plan c =

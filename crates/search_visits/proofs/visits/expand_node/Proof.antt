@@ -1,36 +1,62 @@
 -- `search_visits::visits::expand_node` meets its contract.
+use mathlib.Core.Path.{_≡_}
 use native.Mathlib.Omega.{arith}
 use borrow.Author.Needs.{needs}
-use Rattle.search_visits.proofs.Visiting.{room, grown-leaves}
+use Rattle.beam.specs.Nodes.{stateWords}
+use Rattle.search_visits.proofs.Visiting.{room, state-copied, grown-leaves}
 use Rattle.search_visits.proofs.visits.expand_node.Statement.{statement}
 use Rattle.search_visits.proofs.visits.expand_node.Tie as tie
 
+abbrev begun : tie.After-copy-words → tie.Start
+begun c = c .before .before .before .before .before .before .before .before
+
+-- the copy of the state, before the expansion
+abbrev copy : tie.After-expand → tie.After-copy-words
+copy c = c .before .before .before .before
+
+-- it is the node's
+copied : (c : tie.After-copy-words) → c .copy-words .last .1 .0 ≡ stateWords (begun c .args .node .now)
+copied c = state-copied (begun c .args .node .now) (c .copy-words .last .1 .0) (begun c .pre .0 .long) (c .copy-words .ensures)
+
 part-expand-end : tie.Need-part-expand-end
 part-expand-end c =
-    let start = c .before .before .before .before .before .before in
+    let start : tie.Start = search in
     omega (arith, room (start .args .words .now) (start .pre .0 .held))
 
 expand-requires : tie.Need-expand-requires
 expand-requires c κs =
-    let start = c .before .before .before .before .before .before .before in
-    (start .pre .0 .held, (start .pre .0 .outlined, (start .pre .0 .long, (start .pre .0 .small, omega (arith, start .pre .0 .slot, start .pre .0 .narrow)))))
+    let done : tie.After-copy-words = search in
+    let met = begun done .pre .0 in
+    record { outlined = met .outlined; held = met .held; small = met .small; slot = omega (arith, met .slot, met .narrow) }
 
 count-one-requires : tie.Need-count-one-requires
-count-one-requires c κs = c .before .before .before .before .before .before .before .before .before .before .pre .1 .1
+count-one-requires c κs =
+    let expanded : tie.After-expand = search in
+    begun (copy expanded) .pre .1 .1
 
 returns : tie.Need-returns
 returns c =
-    let start = c .before .before .before .before .before .before .before .before .before .before .before .before in
-    let call = c .before .before .before .before .expand in
-    grown-leaves (start .args .model .now) (start .args .outline .now) (start .args .words .now) (start .args .node .now) (start .args .w)
-    (start .args .limit) (start .args .k) (start .args .i) (start .args .round) (start .pre .0) (call .last .0) (start .pre .1 .0) (call .kept .0)
-    (call .result) (call .ensures) (c .before .count-one .result) (c .before .count-one .ensures) (c .told .result) (c .told .ensures)
+    let expanded : tie.After-expand = search in
+    let counted : tie.After-count-one = search in
+    let done = copy expanded in
+    let start = begun done in
+    let a = start .args in
+    let call = expanded .expand in
+    let one = counted .count-one in
+    grown-leaves (a .model .now) (a .outline .now) (a .words .now) (a .node .now) (a .limits .width) (a .limits .length) (a .spot .layer) (a .spot .slot)
+    (a .round) (start .pre .0) (done .copy-words .last .1 .0) (call .last .0) (copied done) (start .pre .1 .0) (call .kept .0) (call .result) (call .ensures) (one .result) (one .ensures)
+    (c .told .result) (c .told .ensures)
 
 pub expand-node-spec : {M : Type 1} → statement M
 expand-node-spec =
     tie.close
     (tie.spec
     (λ c. search needs)
+    (λ c. search needs)
+    (λ c. search needs)
+    (λ c. search needs)
+    (λ c. search needs)
+    (λ c κs. search needs)
     (λ c. search needs)
     (λ c. search needs)
     (λ c. search needs)

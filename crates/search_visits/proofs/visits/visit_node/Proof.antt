@@ -1,58 +1,88 @@
 -- `search_visits::visits::visit_node` meets its contract.
-use mathlib.Core.Path.{sym, _∙_}
+use Prim.Native.Nat.{ℕ}
+use mathlib.Core.Path.{_≡_, sym, ap, _∙_}
+use mathlib.Core.List.{List}
 use native.Mathlib.Omega.{arith}
 use borrow.Author.Needs.{needs}
-use lib.Seq.{length-take-le}
-use Rattle.search_visits.proofs.Visiting.{base-leaves, advance-leaves, trouble-leaves}
+use Rattle.steps.specs.Answers.{statusAnswer}
+use Rattle.steps.specs.InBytes.{systemIn, stateIn}
+use Rattle.beam.specs.Nodes.{stateWords}
+use Rattle.search_visits.proofs.Visiting.{state-copied, base-leaves, advance-leaves, trouble-leaves}
 use Rattle.search_visits.proofs.visits.visit_node.Statement.{statement}
 use Rattle.search_visits.proofs.visits.visit_node.Tie as tie
 
-slice-aggregate-status : tie.Need-slice-aggregate-status
-slice-aggregate-status c =
-    let start = c .before .before .before .before .before .before .before in
-    sym (length-take-le 16 (start .args .node .now) (omega (arith, start .pre .0 .long)))
+abbrev begun : tie.After-copy-words → tie.Start
+begun c = c .before .before .before .before .before .before .before .before
 
-enum-told : tie.Need-enum-told
-enum-told c = search needs
+-- the copy of the state, before its status
+abbrev copy : tie.After-status → tie.After-copy-words
+copy c = c .before .before .before
+
+-- the status is that of the node's state
+asked : (c : tie.After-status) → (let start = begun (copy c) in c .status .result ≡ statusAnswer (systemIn (start .args .model .now) .status (stateIn (start .args .model .now) (stateWords (start .args .node .now)))))
+asked c =
+    let start = begun (copy c) in
+    let here = copy c .copy-words in
+    c .status .ensures
+    ∙ ap (λ (s : List ℕ). statusAnswer (systemIn (start .args .model .now) .status (stateIn (start .args .model .now) s))) (state-copied (start .args .node .now) (here .last .1 .0) (start .pre .0 .long) (here .ensures))
+
+reached-requires : tie.Need-reached-requires
+reached-requires c κs =
+    let here : tie.After-status = search in
+    let start = begun (copy here) in
+    let met = start .pre .0 in (
+      record { some-width = omega (arith, met .slot); narrow = met .narrow; depth = omega (arith, met .depth, met .few-steps); room = omega (arith, met .depth, start .pre .1) },
+      met .slot,
+    )
+
+advance-requires : tie.Need-advance-requires
+advance-requires c κs =
+    let here : tie.After-status = search in
+    begun (copy here) .pre .0
 
 returns : tie.Need-returns
 returns c =
-    let start = c .before .before .before .before .before .before .before .before .before .before .before .before .before .before .before in
-    let reached = c .before .before .reached in
-    base-leaves (start .args .model .now) (start .args .outline .now) (start .args .words .now) (start .args .node .now) (start .args .w)
-    (start .args .limit) (start .args .k) (start .args .i) (start .args .round) (start .pre .0) (start .args .budget) (start .args .plan .now) _
-    (reached .result)
-    (sym (c .before .before .before .before .before .enum-told .given .1) ∙ c .before .before .before .before .before .before .before .status .ensures)
-    (reached .ensures)
+    let base : tie.After-enum-told = search in
+    let done : tie.After-reached = search in
+    let here = base .before .before in
+    let start = begun (copy here) in
+    let a = start .args in
+    base-leaves (a .model .now) (a .outline .now) (a .words .now) (a .node .now) (a .limits .width) (a .limits .length) (a .spot .layer) (a .spot .slot)
+    (a .round) (start .pre .0) (a .limits .budget) (a .plan .now) _ (done .reached .result) (sym (base .enum-told .given .1) ∙ asked here) (done .reached .ensures)
 
 returns-2 : tie.Need-returns-2
 returns-2 c =
-    let start = c .before .before .before .before .before .before .before .before .before .before .before .before .before .before in
-    let advance = c .before .before .advance in
-    advance-leaves (start .args .model .now) (start .args .outline .now) (start .args .words .now) (start .args .node .now) (start .args .w)
-    (start .args .limit) (start .args .k) (start .args .i) (start .args .round) (start .pre .0) (start .args .budget) _ (start .args .plan .now)
-    (advance .result)
-    (sym (c .before .before .before .before .enum-told2 .given .1) ∙ c .before .before .before .before .before .before .status .ensures)
-    (advance .ensures)
+    let unfinished : tie.After-enum-told2 = search in
+    let done : tie.After-advance = search in
+    let here = unfinished .before .before in
+    let start = begun (copy here) in
+    let a = start .args in
+    advance-leaves (a .model .now) (a .outline .now) (a .words .now) (a .node .now) (a .limits .width) (a .limits .length) (a .spot .layer) (a .spot .slot)
+    (a .round) (start .pre .0) (a .limits .budget) _ (a .plan .now) (done .advance .result) (sym (unfinished .enum-told2 .given .1) ∙ asked here) (done .advance .ensures)
 
 returns-3 : tie.Need-returns-3
 returns-3 c =
-    let start = c .before .before .before .before .before .before .before .before .before .before .before in
-    trouble-leaves (start .args .model .now) (start .args .outline .now) (start .args .words .now) (start .args .node .now) (start .args .w)
-    (start .args .limit) (start .args .k) (start .args .i) (start .args .round) (start .pre .0) (start .args .budget) (start .args .plan .now)
-    (sym (c .before .e .given .1) ∙ c .before .before .before .status .ensures)
+    let here : tie.After-status = search in
+    let start = begun (copy here) in
+    let a = start .args in
+    trouble-leaves (a .model .now) (a .outline .now) (a .words .now) (a .node .now) (a .limits .width) (a .limits .length) (a .spot .layer) (a .spot .slot)
+    (a .round) (start .pre .0) (a .limits .budget) (a .plan .now) (sym (c .before .e .given .1) ∙ asked here)
 
 pub visit-node-spec : {M : Type 1} → statement M
 visit-node-spec =
     tie.close
     (tie.spec
     (λ c. search needs)
-    slice-aggregate-status
-    (λ c κs. search needs)
-    enum-told
-    (λ c κs. search needs)
+    (λ c. search needs)
+    (λ c. search needs)
+    (λ c. search needs)
     (λ c. search needs)
     (λ c κs. search needs)
+    (λ c κs. search needs)
+    (λ c. search needs)
+    reached-requires
+    (λ c. search needs)
+    advance-requires
     (λ c. search needs)
     (λ c. search needs)
     (λ c. search needs)

@@ -25,7 +25,7 @@ fit : (c : tie.Then2) → settingsFit (settings (start c .args .width) (start c 
 fit c = sym (c .before .settings-fit .ensures) ∙ c .if2 .taken
 
 is-width : (c : tie.Then2) → (0 < start c .args .width) × (start c .args .width ≤ 4096)
-is-width c = narrow (start c .args .width) (width-fits (start c .args .width) (start c .args .limit) 0 (fit c))
+is-width c = narrow (start c .args .width) (start c .args .limit) 0 (fit c)
 
 few-steps : (c : tie.Then2) → start c .args .limit ≤ 256
 few-steps c = some-steps (start c .args .width) (start c .args .limit) 0 (fit c)
@@ -60,13 +60,13 @@ search-model-requires c κs =
     let tests = room .before .before in
     let a = start tests .args in
     let both = lent-both (a .width) (a .limit) (length (a .plan .now)) (length (a .words .now)) (enough room) in
-    let outlined = read .before .before .read-and-prepare .ensures in (
-      ready (outlined .1 (read .if4 .taken)),
-      (
-        record { some-width = is-width tests .0; narrow = is-width tests .1; few-steps = few-steps tests; plan-room = both .0; words-room = both .1 },
-        (width-fits (a .width) (a .limit) 0 (fit tests), search needs),
-      ),
-    )
+    let outlined = read .before .before .read-and-prepare .ensures in
+    record {
+      outlined = ready (outlined .1 (read .if4 .taken));
+      room = record { some-width = is-width tests .0; narrow = is-width tests .1; few-steps = few-steps tests; plan-room = both .0; words-room = both .1 };
+      width = width-fits (a .width) (a .limit) 0 (fit tests);
+      small-budget = search needs;
+    }
 
 returns-2 : tie.Need-returns-2
 returns-2 c =
@@ -115,7 +115,6 @@ search-up-to-spec =
     lent-fits-requires
     (λ c. search needs)
     (λ c κs. search needs)
-    (λ c. search needs)
     search-model-requires
     (λ c. search needs)
     (λ c. search needs)

@@ -17,33 +17,37 @@ abbrev μ-loop : tie.MeasureT-loop
 μ-loop model outline state count h₀ k₀ h k = count - k
 
 abbrev begun : tie.After-word-at Inv-loop μ-loop → tie.Start Inv-loop μ-loop
-begun c = c .before .before .before .before
+begun c = c .before .before .before
 
 -- there is a bound k
 more : (c : tie.In-loop Inv-loop μ-loop) → c .before .loop .k < length (modelOf (begun (c .before .before) .args .model .now) .bounds)
 more c = omega (arith, c .loop-test .taken, c .before .before .word-at .ensures, begun (c .before .before) .pre .outlines .bound-count)
 
+-- the turn in which its place is read
+abbrev turn : tie.After-word-at2 Inv-loop μ-loop → tie.In-loop Inv-loop μ-loop
+turn c = c .before .before
+
 -- it stands where the outline says
-item : (c : tie.After-word-at2 Inv-loop μ-loop) → BoundAt (begun (c .before .before .before) .args .model .now) (c .before .before .loop .k) (c .word-at2 .result)
-item c = bound-at (begun (c .before .before .before) .pre) (more (c .before)) (c .word-at2 .ensures)
+item : (c : tie.After-word-at2 Inv-loop μ-loop) → BoundAt (begun (turn c .before .before) .args .model .now) (turn c .before .loop .k) (c .word-at2 .result)
+item c = bound-at (begun (turn c .before .before) .pre) (more (turn c)) (c .word-at2 .ensures)
 
 add-word-at : tie.Need-add-word-at Inv-loop μ-loop
-add-word-at c = record { fits = omega (arith, more c, begun (c .before .before) .pre .outlines .few-bounds) }
+add-word-at c = record { fits = omega (arith, more (c .before), begun (c .before .before .before) .pre .outlines .few-bounds) }
 
 number-at-requires : tie.Need-number-at-requires Inv-loop μ-loop
-number-at-requires c κs = (begun (c .before .before .before) .pre, item c .inside)
+number-at-requires c κs = (begun (turn c .before .before) .pre, item c .inside)
 
 loop-again : tie.Need-loop-again Inv-loop μ-loop
 loop-again c =
     let here = c .before .before .before .before .before in
     let number = c .before .before .before .before .number-at in
     rw (c .raise .ensures, back (range-fits (value-within _ (c .before .before .z .given .1) (number .ensures .1) .0)))
-    (raising-more _ _ _ _ (here .before .before .loop .inv) (item here) _ (number .ensures .0) (c .before .before .z .given .1))
+    (raising-more _ _ _ _ (turn here .before .loop .inv) (item here) _ (number .ensures .0) (c .before .before .z .given .1))
 
 returns : tie.Need-returns Inv-loop μ-loop
 returns c =
     let here = c .before .before .before .before in
-    raising-troubles _ _ _ _ (here .before .before .loop .inv) (item here) _ (c .before .before .before .number-at .ensures .0) (c .before .t .given .1)
+    raising-troubles _ _ _ _ (turn here .before .loop .inv) (item here) _ (c .before .before .before .number-at .ensures .0) (c .before .t .given .1)
 
 returns-2 : tie.Need-returns-2 Inv-loop μ-loop
 returns-2 c =

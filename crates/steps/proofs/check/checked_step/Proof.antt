@@ -9,18 +9,16 @@ enum-told : tie.Need-enum-told
 enum-told c = search needs
 
 returns : tie.Need-returns
-returns c = checked-base _ _ _ _ (c .before .before .before .before .before .before .before .args .child .now) (sym (c .enum-told .given .1) ∙ c .before .before .status .ensures)
+returns c = let start : tie.Start = search in checked-base _ _ _ _ (start .args .child .now) (sym (c .enum-told .given .1) ∙ c .before .before .status .ensures)
 
 returns-2 : tie.Need-returns-2
 returns-2 c =
-    let start = c .before .before .before .before .before .before .before .before .before .before .before in
-    let tried-step = c .before .before .tried-step in
-    checked-on _ _ (start .args .t) (start .args .g) _
-    (sym (c .before .before .before .before .enum-told2 .given .1) ∙ c .before .before .before .before .before .before .status .ensures)
-    (tried-step .result) (tried-step .ensures)
+    let start : tie.Start = search in
+    checked-on _ _ (start .args .t) (start .args .g) _ (sym (c .before .before .enum-told2 .given .1) ∙ c .before .before .before .before .status .ensures)
+    (c .tried-step .result) (c .tried-step .ensures)
 
 returns-3 : tie.Need-returns-3
-returns-3 c = checked-troubles _ _ _ _ (c .before .before .before .before .before .before .before .before .args .child .now) (sym (c .before .n .given .1) ∙ c .before .before .before .status .ensures)
+returns-3 c = let start : tie.Start = search in checked-troubles _ _ _ _ (start .args .child .now) (sym (c .before .n .given .1) ∙ c .before .before .before .status .ensures)
 
 pub checked-step-spec : {M : Type 1} → statement M
 checked-step-spec =
@@ -32,6 +30,5 @@ checked-step-spec =
     (λ c κs. search needs)
     (λ c. search needs)
     returns
-    (λ c. search needs)
     returns-2
     returns-3)

@@ -10,20 +10,20 @@ enum-told c = search needs
 
 combine-requires : tie.Need-combine-requires
 combine-requires c κs =
-    let start = c .before .before .before .before .before .before .before .before .before .before .before in
-    (start .pre .0, omega (arith, start .pre .3, step-small _ _ _ (start .args .g) _ _ (c .before .before .before .before .before .step .ensures) (c .before .c .given .1)))
+    let start : tie.Start = search in
+    (start .pre .0, omega (arith, start .pre .1, step-small _ _ _ (start .args .g) _ _ (c .before .before .before .step .ensures) (c .before .c .given .1)))
 
 returns : tie.Need-returns
-returns c = checked-blocked _ _ _ _ _ _ (c .before .before .before .before .step .ensures) (c .enum-told .given .1)
+returns c = checked-blocked _ _ _ _ _ _ (c .before .before .step .ensures) (c .enum-told .given .1)
 
 returns-2 : tie.Need-returns-2
-returns-2 c = checked-moved _ _ _ _ _ _ (c .before .before .before .before .before .before .step .ensures) (c .before .before .c .given .1) (c .combine .ensures)
+returns-2 c = checked-moved _ _ _ _ _ _ (c .before .before .before .before .step .ensures) (c .before .before .c .given .1) (c .combine .ensures)
 
 returns-3 : tie.Need-returns-3
-returns-3 c = checked-before _ _ _ _ _ _ (c .before .before .before .before .before .step .ensures) (c .before .n .given .1)
+returns-3 c = checked-before _ _ _ _ _ _ (c .before .before .before .step .ensures) (c .before .n .given .1)
 
 returns-4 : tie.Need-returns-4
-returns-4 c = checked-after _ _ _ _ _ _ (c .before .before .before .before .before .step .ensures) (c .before .n2 .given .1)
+returns-4 c = checked-after _ _ _ _ _ _ (c .before .before .before .step .ensures) (c .before .n2 .given .1)
 
 pub tried-step-spec : {M : Type 1} → statement M
 tried-step-spec =
@@ -35,11 +35,7 @@ tried-step-spec =
     combine-requires
     (λ c. search needs)
     (λ c. search needs)
-    (λ c. search needs)
     returns
-    (λ c. search needs)
     returns-2
-    (λ c. search needs)
     returns-3
-    (λ c. search needs)
     returns-4)

@@ -16,7 +16,7 @@ abbrev μ-loop : tie.MeasureT-loop
 μ-loop model at outline state next₀ next = length model - next
 
 abbrev begun : tie.At-loop Inv-loop μ-loop → tie.Start Inv-loop μ-loop
-begun c = c .before .before .before .before
+begun c = c .before .before
 
 -- a condition 08 stands at the place
 here : (c : tie.Then1 Inv-loop μ-loop) → getD (begun (c .before .before) .args .model .now) (c .before .before .loop .next) 0 ≡ 8

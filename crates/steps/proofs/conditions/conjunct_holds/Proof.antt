@@ -17,10 +17,10 @@ passed : (c : tie.Then1) → (let a = begun (c .before) .args in true ≡ passes
 passed c = sym (c .if1 .taken) ∙ c .before .passes .ensures
 
 condition-holds-requires : tie.Need-condition-holds-requires
-condition-holds-requires c κs = let s = begun (c .before .before) in (s .pre .0, conjunct-inside (s .pre .0) (s .pre .1) (c .word-at .ensures))
+condition-holds-requires c κs = let s : tie.Start = search in (s .pre .0, conjunct-inside (s .pre .0) (s .pre .1) (c .word-at .ensures))
 
 returns : tie.Need-returns
-returns c = conjunct-tried _ _ _ _ (passed (c .before .before)) (c .before .word-at .ensures) _ (c .condition-holds .ensures)
+returns c = let then : tie.Then1 = search in conjunct-tried _ _ _ _ (passed then) (c .before .word-at .ensures) _ (c .condition-holds .ensures)
 
 returns-2 : tie.Need-returns-2
 returns-2 c = conjunct-passed-over _ _ _ _ (sym (c .if1 .left) ∙ c .before .passes .ensures)

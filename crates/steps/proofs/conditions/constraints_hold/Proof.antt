@@ -15,7 +15,7 @@ abbrev μ-loop : tie.MeasureT-loop
 μ-loop model outline state count k₀ k = count - k
 
 abbrev begun : tie.After-word-at Inv-loop μ-loop → tie.Start Inv-loop μ-loop
-begun c = c .before .before .before .before
+begun c = c .before .before .before
 
 -- there is a conjunct k
 more : (c : tie.In-loop Inv-loop μ-loop) → c .before .loop .k < getD (begun (c .before .before) .args .outline .now) conjunctCountAt 0

@@ -16,33 +16,37 @@ abbrev μ-loop : tie.MeasureT-loop
 μ-loop model outline state count k₀ k = count - k
 
 abbrev begun : tie.After-word-at Inv-loop μ-loop → tie.Start Inv-loop μ-loop
-begun c = c .before .before .before .before
+begun c = c .before .before .before
 
 -- there is a base case k
 more : (c : tie.In-loop Inv-loop μ-loop) → c .before .loop .k < length (modelOf (begun (c .before .before) .args .model .now) .baseCases)
 more c = omega (arith, c .loop-test .taken, c .before .before .word-at .ensures, begun (c .before .before) .pre .outlines .base-case-count)
 
+-- the turn in which its place is read
+abbrev turn : tie.After-word-at2 Inv-loop μ-loop → tie.In-loop Inv-loop μ-loop
+turn c = c .before .before
+
 -- it stands where the outline says
-item : (c : tie.After-word-at2 Inv-loop μ-loop) → CaseAt (begun (c .before .before .before) .args .model .now) (c .before .before .loop .k) (c .word-at2 .result)
-item c = case-at (begun (c .before .before .before) .pre) (more (c .before)) (c .word-at2 .ensures)
+item : (c : tie.After-word-at2 Inv-loop μ-loop) → CaseAt (begun (turn c .before .before) .args .model .now) (turn c .before .loop .k) (c .word-at2 .result)
+item c = case-at (begun (turn c .before .before) .pre) (more (turn c)) (c .word-at2 .ensures)
 
 add-word-at : tie.Need-add-word-at Inv-loop μ-loop
-add-word-at c = record { fits = omega (arith, more c, begun (c .before .before) .pre .outlines .few-base-cases) }
+add-word-at c = record { fits = omega (arith, more (c .before), begun (c .before .before .before) .pre .outlines .few-base-cases) }
 
 returns : tie.Need-returns Inv-loop μ-loop
 returns c =
     let here = c .before .before .before in
-    seeking-base _ _ _ (here .before .before .loop .inv) (item here) _ (c .before .before .conditions-hold .ensures) (c .enum-told .given .1)
+    seeking-base _ _ _ (turn here .before .loop .inv) (item here) _ (c .before .before .conditions-hold .ensures) (c .enum-told .given .1)
 
 loop-again : tie.Need-loop-again Inv-loop μ-loop
 loop-again c =
     let here = c .before .before .before in
-    seeking-more _ _ _ (here .before .before .loop .inv) (item here) _ (c .before .before .conditions-hold .ensures) (c .enum-told2 .given .1)
+    seeking-more _ _ _ (turn here .before .loop .inv) (item here) _ (c .before .before .conditions-hold .ensures) (c .enum-told2 .given .1)
 
 returns-2 : tie.Need-returns-2 Inv-loop μ-loop
 returns-2 c =
     let here = c .before .before .before .before in
-    seeking-troubles _ _ _ (here .before .before .loop .inv) (item here) _ (c .before .before .before .conditions-hold .ensures) (c .before .t .given .1)
+    seeking-troubles _ _ _ (turn here .before .loop .inv) (item here) _ (c .before .before .before .conditions-hold .ensures) (c .before .t .given .1)
 
 returns-3 : tie.Need-returns-3 Inv-loop μ-loop
 returns-3 c =

@@ -7,16 +7,15 @@ use Rattle.steps.proofs.moves.attempt.Tie as tie
 
 add-take : tie.Need-add-take
 add-take c =
-    record
-    { fits = omega (arith, rest-read _ _ _ _ (c .before .before .before .conditions-hold .ensures) (c .before .next .given .1) (c .before .before .before .before .before .before .before .before .pre .1) .inside) }
+    let start : tie.Start = search in
+    record { fits = omega (arith, rest-read _ _ _ _ (c .before .before .before .conditions-hold .ensures) (c .before .next .given .1) (start .pre .1) .inside) }
 
 take-requires : tie.Need-take-requires
 take-requires c κs =
-    let start = c .before .before .before .before .before .before .before .before .before in (
+    let start : tie.Start = search in (
       start .pre .0,
       rest-read _ _ _ _ (c .before .before .before .before .conditions-hold .ensures) (c .before .before .next .given .1) (start .pre .1),
       start .pre .2,
-      start .pre .3,
     )
 
 enum-told : tie.Need-enum-told
@@ -24,8 +23,7 @@ enum-told c = search needs
 
 returns : tie.Need-returns
 returns c =
-    attempt-taken _ _ _ _ (c .before .before .before .before .before .before .before .conditions-hold .ensures)
-    (c .before .before .before .before .before .next .given .1) _ _ (c .before .before .take .ensures)
+    attempt-taken _ _ _ _ (c .before .before .before .before .before .conditions-hold .ensures) (c .before .before .before .next .given .1) _ _ (c .take .ensures)
 
 returns-2 : tie.Need-returns-2
 returns-2 c = attempt-blocked _ _ _ _ (c .before .before .conditions-hold .ensures) _ (c .enum-told .given .1)
@@ -42,7 +40,6 @@ attempt-spec =
     add-take
     take-requires
     enum-told
-    (λ c. search needs)
     (λ c. search needs)
     returns
     returns-2

@@ -15,8 +15,9 @@ enum-known-z c = search needs
 
 returns : tie.Need-returns
 returns c =
+    let start : tie.Start = search in
     let f = range-fits {z = c .before .before .z .given .0 .0} (value-within _ (c .before .before .z .given .1) (c .before .before .before .before .number-at .ensures .1) .0) in (
-      cost-refused _ (c .before .before .before .before .before .before .before .before .args .at) _ _
+      cost-refused _ (start .args .at) _ _
           (c .before .before .before .before .number-at .ensures .0) (c .before .before .z .given .1) (cost-negative _ (rw (back f) at (c .if1 .taken))),
       tt,
     )
@@ -31,15 +32,16 @@ enum-known-t c = search needs
 
 returns-2 : tie.Need-returns-2
 returns-2 c =
+    let start : tie.Start = search in
     let w = value-within _ (c .before .before .z .given .1) (c .before .before .before .before .number-at .ensures .1) in
     let f = range-fits {z = c .before .before .z .given .0 .0} (w .0) in (
-      cost-says _ (c .before .before .before .before .before .before .before .before .args .at) _ _
+      cost-says _ (start .args .at) _ _
           (c .before .before .before .before .number-at .ensures .0) (c .before .before .z .given .1) (cost-is _ f (rw (back f) at (c .if1 .left))),
       w .1,
     )
 
 returns-3 : tie.Need-returns-3
-returns-3 c = (cost-troubles _ (c .before .before .before .before .before .before .before .args .at) _ _ (c .before .before .before .number-at .ensures .0) (c .before .t .given .1), tt)
+returns-3 c = let start : tie.Start = search in (cost-troubles _ (start .args .at) _ _ (c .before .before .before .number-at .ensures .0) (c .before .t .given .1), tt)
 
 pub cost-at-spec : {M : Type 1} → statement M
 cost-at-spec =

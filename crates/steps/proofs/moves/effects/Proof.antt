@@ -15,7 +15,7 @@ abbrev μ-loop : tie.MeasureT-loop
 μ-loop model at outline state child₀ next₀ child next = length model - next
 
 abbrev begun : tie.At-loop Inv-loop μ-loop → tie.Start Inv-loop μ-loop
-begun c = c .before .before .before .before .before
+begun c = c .before .before
 
 -- an effect 0A stands at the place
 here : (c : tie.Then1 Inv-loop μ-loop) → getD (begun (c .before .before) .args .model .now) (c .before .before .loop .next) 0 ≡ 10
@@ -65,13 +65,11 @@ effects-spec =
     (λ c κs. (begun (c .before .before .before) .pre .0, named (c .before) .0, omega (arith, named (c .before) .1, c .byte-at2 .ensures)))
     (λ c. search needs)
     (λ c. search needs)
-    writable
+    (λ c. omega (arith, named (effect c) .1, c .before .before .before .before .byte-at2 .ensures))
     (λ c. record { fits = omega (arith, named (effect c) .0) })
     (λ c. record { fits = omega (arith, named (effect c) .0, word-within _ (c .before .w .given .1) (c .before .before .before .word-for .ensures .1)) })
     (λ c. omega (arith, named (effect c) .0))
     loop-again
     (λ c. search needs)
-    (λ c. c .before .before .before .before .before .before .before .loop .inv .long)
     returns
-    (λ c. c .before .before .loop .inv .long)
     returns-2)

@@ -23,15 +23,16 @@ enum-known-t c = search needs
 
 returns : tie.Need-returns
 returns c =
+    let start : tie.Start = search in
     let w = value-within _ (c .before .before .z .given .1) (c .before .before .before .before .number-at .ensures .1) in (
-      number-word-says _ (c .before .before .before .before .before .before .before .before .args .at) _ _
+      number-word-says _ (start .args .at) _ _
           (c .before .before .before .before .number-at .ensures .0) (c .before .before .z .given .1)
           (rw (back (range-fits (w .0))) at (c .biased .ensures)),
       w .1,
     )
 
 returns-2 : tie.Need-returns-2
-returns-2 c = (number-word-troubles _ (c .before .before .before .before .before .before .before .args .at) _ _ (c .before .before .before .number-at .ensures .0) (c .before .t .given .1), tt)
+returns-2 c = let start : tie.Start = search in (number-word-troubles _ (start .args .at) _ _ (c .before .before .before .number-at .ensures .0) (c .before .t .given .1), tt)
 
 pub number-word-spec : {M : Type 1} → statement M
 number-word-spec =

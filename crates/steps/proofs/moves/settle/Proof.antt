@@ -8,13 +8,13 @@ enum-told : tie.Need-enum-told
 enum-told c = search needs
 
 returns : tie.Need-returns
-returns c = move-blocked _ _ _ _ _ (c .before .before .before .before .before .before .pre .1) (c .enum-told .given .1)
+returns c = let start : tie.Start = search in move-blocked _ _ _ _ _ (start .pre .1) (c .enum-told .given .1)
 
 returns-2 : tie.Need-returns-2
-returns-2 c = move-after _ _ _ _ _ (c .before .before .before .before .before .before .before .before .pre .1) (c .before .before .tried .given .1) _ (c .constrained .ensures)
+returns-2 c = let start : tie.Start = search in move-after _ _ _ _ _ (start .pre .1) (c .before .before .tried .given .1) _ (c .constrained .ensures)
 
 returns-3 : tie.Need-returns-3
-returns-3 c = move-before _ _ _ _ _ (c .before .before .before .before .before .before .before .pre .1) (c .before .tried2 .given .1)
+returns-3 c = let start : tie.Start = search in move-before _ _ _ _ _ (start .pre .1) (c .before .tried2 .given .1)
 
 pub settle-spec : {M : Type 1} → statement M
 settle-spec =

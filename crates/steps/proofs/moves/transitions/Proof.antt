@@ -7,7 +7,7 @@ use Rattle.steps.proofs.moves.transitions.Tie as tie
 
 returns : tie.Need-returns
 unfolding systemOf
-returns c = c .word-at .ensures ∙ c .before .before .before .pre .outlines .transition-count
+returns c = let start : tie.Start = search in c .word-at .ensures ∙ start .pre .outlines .transition-count
 
 pub transitions-spec : {M : Type 1} → statement M
 transitions-spec = tie.close (tie.spec (λ c κs. search needs) returns)

@@ -17,7 +17,7 @@ element-requires : tie.Need-element-requires
 element-requires c κs = search needs
 
 returns : tie.Need-returns
-returns c = element-promised _ _ (c .before .before .before .before .before .pre .0) _ _ _ (c .element .ensures .0)
+returns c = let s : tie.Start = search in element-promised _ _ (s .pre .0) _ _ _ (c .element .ensures .0)
 
 pub element-at-spec : {M : Type 1} → statement M
 element-at-spec =

@@ -12,7 +12,7 @@ returns : tie.Need-returns
 returns c =
     let s = c .before .word-at4 in
     let t = c .before .before .word-at3 in
-    let first = c .before .before .before .before in
+    let first = c .before .before .before .before .before in
     c .no-worse-by .ensures ∙ no-worse-under (begun first .pre .1) (first .word-at .ensures) (c .before .before .before .word-at2 .ensures) _ _ (t .ok) (s .ok) (t .ensures) (s .ensures)
 
 pub no-worse-at-spec : {M : Type 1} → statement M
