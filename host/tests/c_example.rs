@@ -1,33 +1,20 @@
 //! The C example: compiled against the header and the proved libraries, run on a model, its output compared.
 
+mod tools;
+
 use std::path::{Path, PathBuf};
 use std::process::{Command, Output};
-
-fn host() -> PathBuf {
-    PathBuf::from(env!("CARGO_MANIFEST_DIR"))
-}
+use tools::{compile_c, host};
 
 /// A path in the tests' folder below the target folder.
 fn built(name: &str) -> PathBuf {
     Path::new(env!("CARGO_TARGET_TMPDIR")).join(name)
 }
 
-/// Compiles the example, without a warning, to a program of this name.
+/// Compiles the example to a program of this name.
 fn compiled(name: &str) -> PathBuf {
     let program = built(name);
-    let libraries = host().join("../target/staticlib");
-    let compiler = Command::new("cc")
-        .args(["-std=c11", "-Wall", "-Wextra", "-Werror", "-O2"])
-        .arg("-I")
-        .arg(host())
-        .arg(host().join("example.c"))
-        .arg(libraries.join("librepgypsum.a"))
-        .arg("-o")
-        .arg(&program)
-        .output()
-        .expect("a C compiler, cc");
-    let said = String::from_utf8_lossy(&compiler.stderr);
-    assert!(compiler.status.success() && said.is_empty(), "{said}");
+    compile_c("example.c", &[], &program);
     program
 }
 

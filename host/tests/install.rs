@@ -1,33 +1,12 @@
 //! `make install` into a folder of its own, from what is built already; then C and C++ programs by its pkg-config file, with the archive and
 //! through the shared library.
 
+mod tools;
+
 use std::collections::BTreeSet;
-use std::io::Write;
 use std::path::{Path, PathBuf};
 use std::process::{Command, Output};
-
-fn host() -> PathBuf {
-    PathBuf::from(env!("CARGO_MANIFEST_DIR"))
-}
-
-fn root() -> PathBuf {
-    host().join("..").canonicalize().expect("the repository")
-}
-
-/// An empty folder of the tests' own.
-fn folder(name: &str) -> PathBuf {
-    let folder = Path::new(env!("CARGO_TARGET_TMPDIR"))
-        .join("install")
-        .join(name);
-    let _ = std::fs::remove_dir_all(&folder);
-    std::fs::create_dir_all(&folder).expect("a folder for the tests");
-    folder
-}
-
-/// Says something on standard error even where the tests' own output is not shown.
-fn tell(line: &str) {
-    let _ = writeln!(std::io::stderr(), "{line}");
-}
+use tools::{folder, host, root, tell};
 
 /// Whether a tool is there; one that is missing is told.
 fn there(tool: &str) -> bool {
@@ -147,7 +126,7 @@ fn installed_programs_run() {
     if !there("make") {
         return;
     }
-    let (prefix, build) = (folder("prefix"), folder("build"));
+    let (prefix, build) = (folder("install", "prefix"), folder("install", "build"));
     make("install", &prefix, "", &build);
     let due: BTreeSet<String> = INSTALLED.map(str::to_string).into();
     assert_eq!(files(&prefix), due);
@@ -226,7 +205,7 @@ fn staged_for_a_package() {
     if !there("make") {
         return;
     }
-    let (stage, build) = (folder("stage"), folder("stage-build"));
+    let (stage, build) = (folder("install", "stage"), folder("install", "stage-build"));
     make(
         "install",
         Path::new("/opt/planner"),
@@ -294,7 +273,10 @@ fn what_the_libraries_have() {
         "data that outlives a call"
     );
 
-    let (prefix, build) = (folder("exports"), folder("exports-build"));
+    let (prefix, build) = (
+        folder("install", "exports"),
+        folder("install", "exports-build"),
+    );
     make("install", &prefix, "", &build);
     let shared = symbols(
         &["-D", "--defined-only"],

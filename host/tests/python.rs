@@ -1,29 +1,11 @@
 //! The Python package and the farm example, on a shared library linked for the test. Where there is no Python 3, that is told.
 
+mod tools;
+
 use repgypsum_host::families::families;
-use std::io::Write;
 use std::path::{Path, PathBuf};
 use std::process::Command;
-
-fn root() -> PathBuf {
-    let root = Path::new(env!("CARGO_MANIFEST_DIR")).join("..");
-    root.canonicalize().expect("the repository")
-}
-
-/// A folder of the tests' own.
-fn folder(name: &str) -> PathBuf {
-    let folder = Path::new(env!("CARGO_TARGET_TMPDIR"))
-        .join("python")
-        .join(name);
-    let _ = std::fs::remove_dir_all(&folder);
-    std::fs::create_dir_all(&folder).expect("a folder for the tests");
-    folder
-}
-
-/// Says something on standard error even where the tests' own output is not shown.
-fn tell(line: &str) {
-    let _ = writeln!(std::io::stderr(), "{line}");
-}
+use tools::{archive, compile, folder, host, root, tell};
 
 /// Whether Python is there, and not older than the package asks for.
 fn python() -> bool {
@@ -39,21 +21,14 @@ fn python() -> bool {
 /// The shared library, made of the archive.
 fn shared(folder: &Path) -> PathBuf {
     let library = folder.join("librepgypsum.so");
-    let archive = root().join("target/staticlib/librepgypsum.a");
-    let compiler = Command::new("cc")
+    let exports = host().join("repgypsum.map");
+    let mut linker = Command::new("cc");
+    linker
         .args(["-shared", "-Wl,-z,defs", "-Wl,--whole-archive"])
-        .arg(archive)
+        .arg(archive())
         .arg("-Wl,--no-whole-archive")
-        .arg(format!(
-            "-Wl,--version-script,{}",
-            root().join("host/repgypsum.map").display()
-        ))
-        .arg("-o")
-        .arg(&library)
-        .output()
-        .expect("a C compiler, cc");
-    let said = String::from_utf8_lossy(&compiler.stderr);
-    assert!(compiler.status.success() && said.is_empty(), "{said}");
+        .arg(format!("-Wl,--version-script,{}", exports.display()));
+    compile(&mut linker, &library);
     library
 }
 
@@ -73,7 +48,7 @@ fn the_packages_tests_pass() {
     if !python() {
         return;
     }
-    let own = folder("package");
+    let own = folder("python", "package");
     let models = own.join("families");
     std::fs::create_dir_all(&models).expect("a folder for models");
     for family in families() {
@@ -111,7 +86,7 @@ fn the_farm_runs_to_its_page() {
     if !python() {
         return;
     }
-    let own = folder("farm");
+    let own = folder("python", "farm");
     let output = running(&shared(&own))
         .arg(root().join("examples/farm/farm.py"))
         .arg("farm.html")

@@ -1,5 +1,7 @@
 //! How much stack the proved functions use, by tests/stack.c: on every stored model, and on models nested as deep as the format allows.
 
+mod tools;
+
 use repgypsum_host::build::{
     choice, complement, count, equal, less, lit, not, num, or, set, sum, union, Build, Bytes,
 };
@@ -7,6 +9,7 @@ use repgypsum_host::cases::groups;
 use std::io::Write;
 use std::path::Path;
 use std::process::{Command, Stdio};
+use tools::compile_c;
 
 /// What host/repgypsum.h promises.
 const MOST: usize = 48 * 1024;
@@ -64,20 +67,8 @@ fn deep() -> Vec<Bytes> {
 
 #[test]
 fn calls_use_little_stack() {
-    let host = Path::new(env!("CARGO_MANIFEST_DIR"));
     let program = Path::new(env!("CARGO_TARGET_TMPDIR")).join("stack");
-    let compiler = Command::new("cc")
-        .args(["-std=c11", "-Wall", "-Wextra", "-Werror", "-O2", "-pthread"])
-        .arg("-I")
-        .arg(host)
-        .arg(host.join("tests/stack.c"))
-        .arg(host.join("../target/staticlib/librepgypsum.a"))
-        .arg("-o")
-        .arg(&program)
-        .output()
-        .expect("a C compiler, cc");
-    let said = String::from_utf8_lossy(&compiler.stderr);
-    assert!(compiler.status.success() && said.is_empty(), "{said}");
+    compile_c("tests/stack.c", &["-pthread"], &program);
 
     let stored = groups().into_iter().flat_map(|(_, cases)| cases);
     let models = deep()

@@ -1,7 +1,7 @@
 // The bucket of a state, by its hash.
 
 ghost use mathlib.Core.Path.{_≡_};
-ghost use Prim.Native.Nat.{_*_, _+_, _^_, _≤_, _<_};
+ghost use Prim.Native.Nat.{_*_, _+_, _≤_, _<_};
 ghost use lib.ListN.{length};
 ghost use Rattle.steps.specs.InBytes.{Outlined};
 ghost use Rattle.beam_order.specs.Slots.{slotWords};

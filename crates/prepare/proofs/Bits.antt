@@ -1,14 +1,15 @@
 -- Tests of a word under a mask: one member, and two tests joined into one.
 use Prim.Native.Nat.{ℕ, zero, suc, _+_, _*_, _-_, _/_, _%_, _^_, _≤_, _<_, min, max}
 use mathlib.Core.Path.{_≡_, refl, sym, ap, ap₂, _∙_}
-use mathlib.Core.Bool.{Bool, true, false, _&&_}
+use mathlib.Core.Bool.{Bool, true, false, not, _&&_}
 use native.Mathlib.Omega.{arith}
 use native.Mathlib.Nat.{pow-suc}
 use lib.Pow.{pow-pos}
 use lib.Arith.{bin-ind}
 use lib.Dec.{eqb}
-use lib.Bits.{bitAnd, bitOr, and-step, or-step, and-zero-l, or-zero-l, and-comm, or-comm, and-le-l, and-le-r, or-add-and, and-high}
+use lib.Bits.{bitAnd, bitOr, and-step, or-step, and-zero-l, or-zero-l, and-comm, or-comm, and-le-l, and-le-r, or-add-and, and-mask, and-high}
 use borrow.Author.Tests.{eqb-true, eqb-false}
+use Rattle.model.specs.Numbers.{mostObjects}
 use Rattle.model.specs.Sets.{isMember, intersection, union}
 
 -- ---- halves and lowest digits
@@ -135,3 +136,28 @@ member-test k s =
 pub missing-test : (w s : ℕ) → eqb (intersection w s) 0 ≡ eqb (intersection s w) 0
 unfolding intersection
 missing-test w s = ap (λ (n : ℕ). eqb n 0) (and-comm w s)
+
+no-digit : (b p : ℕ) → b < 2 → 0 < p → not (eqb (b * p) p) ≡ eqb (b * p) 0
+no-digit b p l h = go b l (eqb (b * p) p) refl (eqb (b * p) 0) refl
+  where
+    go : (b : ℕ) → b < 2 → (t : Bool) → eqb (b * p) p ≡ t → (u : Bool) → eqb (b * p) 0 ≡ u → not t ≡ u
+    go zero l true e u f = let z : 0 * p ≡ p = eqb-true _ _ e in absurd (omega arith)
+    go zero l false e true f = refl
+    go zero l false e false f = let none : 0 * p ≡ 0 = omega arith in absurd (eqb-false (0 * p) 0 f none)
+    go (suc zero) l true e true f = let z : 1 * p ≡ 0 = eqb-true _ _ f in absurd (omega arith)
+    go (suc zero) l true e false f = refl
+    go (suc zero) l false e u f = let once : 1 * p ≡ p = omega arith in absurd (eqb-false (1 * p) p e once)
+    go (suc (suc b)) l t e u f = absurd (omega arith)
+
+-- it is none where the word under its bit is nothing
+pub absent-test : (k s : ℕ) → not (eqb (intersection s (2 ^ k)) (2 ^ k)) ≡ eqb (intersection s (2 ^ k)) 0
+unfolding intersection
+absent-test k s =
+    let next : 1 + k ≡ suc k = omega arith in
+    let bit : bitAnd s (2 ^ k) ≡ s / 2 ^ k % 2 * 2 ^ k = ap (bitAnd s) (rw next (omega (arith, pow-suc 2 k))) ∙ and-high s 1 k in
+    rw bit (no-digit (s / 2 ^ k % 2) (2 ^ k) (omega arith) (pow-pos k))
+
+-- an object is what the word under six ones is
+pub element-bits : (s : ℕ) → intersection s (mostObjects - 1) ≡ s % mostObjects
+unfolding intersection
+element-bits s = and-mask s 6

@@ -1,7 +1,7 @@
--- The two conditions that test one word: what the evaluators make of their bytes, and so their values.
-use Prim.Native.Nat.{ℕ, _+_, _%_, _^_, _≤_}
+-- The conditions that test one word: what the evaluators make of their bytes, and so their values.
+use Prim.Native.Nat.{ℕ, _+_, _-_, _%_, _^_, _≤_}
 use mathlib.Core.Path.{_≡_, refl, sym, ap, _∙_}
-use mathlib.Core.Bool.{Bool}
+use mathlib.Core.Bool.{Bool, not}
 use mathlib.Core.List.{List, []}
 use native.Mathlib.Omega.{arith}
 use lib.ListN.{length, getD, drop, length-drop}
@@ -10,26 +10,28 @@ use lib.Dec.{eqb}
 use borrow.Author.Tests.{le-ltb}
 use Rattle.model.specs.Numbers.{rangeEnd, mostNesting, mostObjects}
 use Rattle.model.specs.Values.{Value, value, trouble}
+use Rattle.model.specs.Values.{_>>=_ as _andThen_}
 use Rattle.model.specs.Readers.{read, word}
 use Rattle.model.specs.Sets as Sets
-use Rattle.model.specs.Syntax.{Kind, aSet, Model}
-use Rattle.model.specs.Meaning.{conditionValue}
+use Rattle.model.specs.Syntax.{Kind, aSet, Model, Table, Condition, negation}
+use Rattle.model.specs.Meaning.{State, conditionValue}
 use Rattle.words.specs.States.{stateOf}
 use Rattle.words.specs.Signature.{kindByteOf, kindByte, Objects}
 use Rattle.outline.specs.Outline.{modelOf, Outlines}
 use Rattle.eval_sets.specs.declared.answers.ConditionValue.the-variants as C
-use Rattle.eval_sets.specs.Answers.{conditionAnswer, conditionPast, elementAnswer, setAnswer, setPast}
+use Rattle.eval_sets.specs.Answers.{conditionAnswer, conditionPast, elementAnswer, setAnswer, setPast, noSet}
 use Rattle.eval_sets.specs.Forms.{setForm, conditionForm}
-use Rattle.eval_sets.specs.Runs.{Environment, environment, objectsIn, elementOf, runElement, setBehind, combined, runSet, memberOf, emptySet, conditionBehind, conditionAt, runCondition}
+use Rattle.eval_sets.specs.Runs.{Environment, environment, objectsIn, elementOf, runElement, setBehind, combined, runSet, memberOf, emptySet, sameElements, conditionBehind, conditionAt, runCondition}
 use Rattle.eval_sets.specs.Promise.{Describes}
 use Rattle.eval_sets.proofs.Opening.{variable-some, literal-is, set-opens, condition-opens}
-use Rattle.eval_sets.proofs.Parts.{element-set-is, sets-are}
+use Rattle.eval_sets.proofs.Parts.{elements-are, element-set-is, sets-are}
 use Rattle.eval_sets.proofs.Promises.{run-condition}
 use Rattle.eval_sets.proofs.Slices.{first-at}
 use Rattle.prepare.specs.declared.tests.Test.{Test}
-use Rattle.prepare.specs.Forms.{MemberForm, MissingForm}
+use Rattle.prepare.specs.Forms.{MemberForm, MissingForm, AbsentForm, SameForm}
 use Rattle.prepare.specs.Promised.{TestSays}
-use Rattle.prepare.proofs.Bits.{member-test, missing-test}
+use Rattle.prepare.proofs.Bits.{member-test, missing-test, absent-test, element-bits}
+use Rattle.prepare.proofs.Connectives.{negation-part}
 
 -- ---- runs
 
@@ -37,12 +39,17 @@ pub element-literal : (ws e : List ℕ) → 2 ≤ length e → getD e 0 0 ≡ 0x
 unfolding runElement elementOf
 element-literal ws e l b = simp (b, le-ltb (length e) 2 l)
 
+-- 31 v
+pub element-variable : (ws e : List ℕ) → 2 ≤ length e → getD e 0 0 ≡ 0x31 → runElement ws e ≡ elementAnswer (getD ws (getD e 1 0) 0 % mostObjects) 2
+unfolding runElement elementOf
+element-variable ws e l b = simp (b, le-ltb (length e) 2 l)
+
 pub some-behind : (bytes : List ℕ) (at n : ℕ) → at + 1 + n ≤ length bytes → n ≤ length (drop (at + 1) bytes)
 some-behind bytes at n l = rw (length-drop (at + 1) bytes) (omega arith)
 
 module _ (ws os bytes : List ℕ) where
   -- 41 v
-  variable-run : (d at v : ℕ) → (d ≡ 0 → ⊥) → at + 2 ≤ length bytes → getD bytes at 0 ≡ 0x41 → getD bytes (at + 1) 0 ≡ v → runSet d ws os (drop at bytes) ≡ setAnswer (getD ws v 0) (objectsIn os v) 2
+  pub variable-run : (d at v : ℕ) → (d ≡ 0 → ⊥) → at + 2 ≤ length bytes → getD bytes at 0 ≡ 0x41 → getD bytes (at + 1) 0 ≡ v → runSet d ws os (drop at bytes) ≡ setAnswer (getD ws v 0) (objectsIn os v) 2
   unfolding setForm setBehind
   variable-run d at v some l b e =
       let there = some-behind bytes at 1 (omega arith) in
@@ -109,6 +116,28 @@ module _ (p : Environment) (bytes : List ℕ) (at : ℕ) where
       last-byte : (at : ℕ) → at + 12 + 1 ≡ at + 13
       last-byte at = omega arith
 
+  -- 53 31 v 30 k
+  same-run : (v k : ℕ) → SameForm bytes at → getD bytes (at + 2) 0 ≡ v → getD bytes (at + 4) 0 ≡ k → runCondition mostNesting p (drop at bytes) ≡ C.Holds (eqb (getD (p .state) v 0 % mostObjects) (k % mostObjects)) 5
+  unfolding conditionForm conditionAt conditionBehind sameElements conditionPast
+  same-run v k f e g =
+      let ws = p .state in
+      let behind = drop (at + 1) bytes in
+      let third : drop 2 behind ≡ drop (at + 3) bytes = drop-drop 2 (at + 1) bytes ∙ ap (λ (i : ℕ). drop i bytes) (on-one 2) in
+      let long = some-behind bytes at 4 (omega (arith, f .inside)) in
+      let first : runElement ws behind ≡ elementAnswer (getD ws v 0 % mostObjects) 2 =
+      element-variable ws behind (omega (arith, long)) (sym (first-at (at + 1) bytes) ∙ f .variable) ∙ ap (λ (i : ℕ). elementAnswer (getD ws i 0 % mostObjects) 2) (getD-drop (at + 1) bytes 1 0 ∙ ap (λ (i : ℕ). getD bytes i 0) (on-one 1) ∙ e) in
+      let last-long : 2 ≤ length (drop (at + 3) bytes) = rw (length-drop (at + 3) bytes) (omega (arith, f .inside)) in
+      let second : runElement ws (drop 2 behind) ≡ elementAnswer (k % mostObjects) 2 =
+      ap (runElement ws) third ∙ element-literal ws (drop (at + 3) bytes) last-long (sym (first-at (at + 3) bytes) ∙ f .object) ∙ ap (λ (i : ℕ). elementAnswer (i % mostObjects) 2) (getD-drop (at + 3) bytes 1 0 ∙ ap (λ (i : ℕ). getD bytes i 0) (on-three 1) ∙ g) in
+      condition-opens p .opened mostNesting at bytes (λ z. absurd (omega arith)) (omega (arith, f .inside)) (f .same)
+      ∙ ap (λ (i : _). conditionPast 1 (sameElements i)) (elements-are ws (λ h. noSet) behind _ _ _ _ first second)
+    where
+      on-one : (i : ℕ) → at + 1 + i ≡ at + (1 + i)
+      on-one i = omega arith
+
+      on-three : (i : ℕ) → at + 3 + i ≡ at + (3 + i)
+      on-three i = omega arith
+
 -- ---- values
 
 pub holds-value : (v : Value Bool) (n : ℕ) {b : Bool} {k : ℕ} → conditionAnswer v n ≡ C.Holds b k → (v ≡ value b) × (n ≡ k)
@@ -149,5 +178,27 @@ module _ (bytes : List ℕ) (at : ℕ) where
   pub missing-says : (v s : ℕ) → MissingForm bytes at → word 8 (drop (at + 4) bytes) ≡ read s 8 → getD bytes (at + 13) 0 ≡ v → TestSays bytes at (record { variable = v; mask = s; need = 0; used = 14 })
   missing-says v s f h e = told _ (λ p. missing-run p bytes at v s f h e ∙ rw (missing-test s (getD (p .state) v 0)))
 
+  pub same-says : (v k : ℕ) → SameForm bytes at → getD bytes (at + 2) 0 ≡ v → getD bytes (at + 4) 0 ≡ k → TestSays bytes at (record { variable = v; mask = mostObjects - 1; need = k % mostObjects; used = 5 })
+  same-says v k f e g = told _ (λ p. same-run p bytes at v k f e g ∙ rw (element-bits (getD (p .state) v 0)))
+
   pub nothing-says : (v mask need : ℕ) → TestSays bytes at (record { variable = v; mask = mask; need = need; used = 0 })
   nothing-says v mask need words x n o some h = absurd (some refl)
+
+-- the value of 57
+negation-value : (ts : List Table) (c : Condition) (s : State) (b : Bool) → conditionValue rangeEnd ts c s ≡ value b → conditionValue rangeEnd ts (negation c) s ≡ value (not b)
+unfolding conditionValue _andThen_
+negation-value ts c s b e = rw e
+
+pub absent-says : (bytes : List ℕ) (at v bit : ℕ) → AbsentForm bytes at → getD bytes (at + 5) 0 ≡ v → bit ≡ 2 ^ (getD bytes (at + 3) 0 % mostObjects) → TestSays bytes at (record { variable = v; mask = bit; need = 0; used = 6 })
+absent-says bytes at v bit f e b words x n o some h =
+    let m = modelOf bytes in
+    let on : (i : ℕ) → at + 1 + i ≡ at + (1 + i) = λ i. omega arith in
+    let q = negation-part (m .variables) (m .tables) bytes at x n (f .negated) h in
+    let t = member-says bytes (at + 1) v bit (f .member) (ap (λ (i : ℕ). getD bytes i 0) (on 4) ∙ e) (b ∙ ap (λ (i : ℕ). 2 ^ (getD bytes i 0 % mostObjects)) (sym (on 2))) words (q .part) (q .part-used) o (λ z. absurd (omega arith)) (q .reads-part) in
+    record {
+      used = omega (arith, q .uses, t .used);
+      decides = λ state.
+          ap (λ (c : Condition). conditionValue rangeEnd (m .tables) c (stateOf (m .variables) state)) (q .whole)
+          ∙ negation-value (m .tables) (q .part) (stateOf (m .variables) state) _ (t .decides state)
+          ∙ ap value (rw b (absent-test (getD bytes (at + 3) 0 % mostObjects) (getD state v 0)));
+    }

@@ -1,4 +1,4 @@
--- The bytes of the two conditions that test one word of a state.
+-- The bytes of the conditions that test one word of a state.
 use Prim.Native.Nat.{ℕ, _+_, _≤_}
 use mathlib.Core.Path.{_≡_}
 use mathlib.Core.List.{List}
@@ -19,3 +19,15 @@ module _ (bytes : List ℕ) (at : ℕ) where
     pub intersection : getD bytes (at + 1) 0 ≡ 0x45
     pub members : getD bytes (at + 2) 0 ≡ 0x40
     pub variable : getD bytes (at + 12) 0 ≡ 0x41
+
+  -- 53 31 v 30 k: element variable v is object k
+  pub record SameForm : Type 0 where
+    pub inside : at + 5 ≤ length bytes
+    pub same : getD bytes at 0 ≡ 0x53
+    pub variable : getD bytes (at + 1) 0 ≡ 0x31
+    pub object : getD bytes (at + 3) 0 ≡ 0x30
+
+-- 57 54 30 k 41 v: object k is no member of variable v
+pub record AbsentForm (bytes : List ℕ) (at : ℕ) : Type 0 where
+  pub negated : getD bytes at 0 ≡ 0x57
+  pub member : MemberForm bytes (at + 1)

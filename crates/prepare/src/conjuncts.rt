@@ -2,13 +2,12 @@
 
 ghost use mathlib.Core.Path.{_≡_};
 ghost use mathlib.Core.Bool.{_&&_};
-ghost use Prim.Native.Nat.{_+_, _<_, _≤_, _*_};
+ghost use Prim.Native.Nat.{_+_, _<_, _*_};
 ghost use lib.Dec.{eqb, ltb};
 ghost use lib.ListN.{length, getD};
 ghost use Rattle.outline.specs.Outline.{modelOf};
-ghost use Rattle.prepare.specs.Guards.{guardIn};
-ghost use Rattle.prepare.specs.Layout.{mostConjuncts, conjunctsFrom};
-ghost use Rattle.prepare.specs.Promised.{ConjunctSays, ConjunctsPut, Kept, Room, Parting, PartedMore, ConjunctPut};
+ghost use Rattle.prepare.specs.Layout.{mostConjuncts};
+ghost use Rattle.prepare.specs.Promised.{ConjunctSays, ConjunctsPut, Room, Parting, PartedMore, ConjunctPut};
 use crate::guards::Guard;
 use crate::guards::put_guard;
 use crate::tests::test_at;

@@ -5,29 +5,33 @@ use mathlib.Core.Bool.{Bool, true, false, cond}
 use mathlib.Core.List.{List}
 use native.Mathlib.Omega.{arith}
 use lib.ListN.{length, getD, drop, length-drop}
-use lib.Seq.{getD-drop, drop-drop}
+use lib.Seq.{drop-drop}
 use lib.Dec.{ltb}
 use lib.IntN.{ℤ, pos, _+ℤ_, _-ℤ_}
 use lib.Signed.{mag, leZ}
 use borrow.Author.Tests.{ltb-true, lt-ltb, le-ltb}
-use Rattle.model.specs.Numbers.{rangeEnd, rangeSize, mostNesting, mostObjects}
+use Rattle.model.specs.Numbers.{rangeEnd, rangeSize, mostNesting}
 use Rattle.model.specs.Values.{Value, value, inRange}
 use Rattle.model.specs.Values.{_>>=_ as _andThen_}
 use Rattle.model.specs.Readers.{read, integer}
-use Rattle.model.specs.Syntax.{Condition}
-use Rattle.model.specs.Expressions.{condition}
-use Rattle.model.specs.Meaning.{two, conditionValue}
+use Rattle.model.specs.Syntax.{Number, Condition}
+use Rattle.model.specs.Expressions.{number, condition}
+use Rattle.model.specs.Meaning.{two, numberValue, conditionValue}
 use Rattle.words.specs.States.{stateOf}
 use Rattle.outline.specs.Outline.{modelOf, Outlines}
+use Rattle.eval_sets.specs.declared.answers.NumberValue.the-variants as N
 use Rattle.eval_sets.specs.declared.answers.Parts.{Parts}
 use Rattle.eval_sets.specs.Answers.{numberAnswer, numberPast, conditionAnswer, conditionPast, elementAnswer, noSet}
 use Rattle.eval_sets.specs.Forms.{numberForm, conditionForm}
-use Rattle.eval_sets.specs.Runs.{Environment, environment, tableIn, entryOf, fits, arithmetic, compared, elementOf, runElement, twoElements, entryNumber, literalNumber, literalValue, numberBehind, numberAt, conditionBehind, conditionAt, runNumber, runCondition}
+use Rattle.eval_sets.specs.Runs.{Environment, environment, tableIn, entryOf, fits, arithmetic, compared, runElement, twoElements, entryNumber, literalNumber, literalValue, numberBehind, numberAt, conditionBehind, conditionAt, runNumber, runCondition}
 use Rattle.eval_sets.proofs.Opening.{number-variable-some, entry-some, number-opens, condition-opens}
 use Rattle.eval_sets.proofs.Parts.{parts, elements-are, number-past, condition-past, pair-is, test-is}
-use Rattle.eval_sets.proofs.Promises.{run-condition}
+use Rattle.eval_sets.proofs.Promises.{run-number, run-condition}
 use Rattle.eval_sets.proofs.Slices.{first-at}
-use Rattle.prepare.proofs.Tested.{element-literal, some-behind, holds-value, outline-describes}
+use Rattle.prepare.proofs.Tested.{some-behind, holds-value, outline-describes}
+use Rattle.quick.specs.Sets.{beginsElement, objectIn}
+use Rattle.quick.specs.Entries.{EntryForm, entryAt}
+use Rattle.quick.proofs.Changes.{element-run}
 use Rattle.quick.specs.Quick.{SumForm, variableIn, entryIn, SumIs, decided, Told, QuickSays}
 
 fits-value : (z : ℤ) → mag z < rangeEnd → fits z ≡ value z
@@ -54,33 +58,28 @@ module _ (p : Environment) (bytes : List ℕ) where
       ∙ ap (numberPast 1) (rw (le-ltb (length (drop (at + 1) bytes)) 4 (some-behind bytes at 4 (omega arith)), h))
       ∙ number-past (fits c) 1 4
 
-  -- 31 u
-  element-variable : (e : List ℕ) → 2 ≤ length e → getD e 0 0 ≡ 0x31 → runElement (p .state) e ≡ elementAnswer (getD (p .state) (getD e 1 0) 0 % mostObjects) 2
-  unfolding runElement elementOf
-  element-variable e l b = simp (b, le-ltb (length e) 2 l)
-
-  -- 28 t 31 u 30 k
-  entry-run : (d at : ℕ) → (d ≡ 0 → ⊥) → at + 6 ≤ length bytes → getD bytes at 0 ≡ 0x28 → getD bytes (at + 2) 0 ≡ 0x31 → getD bytes (at + 4) 0 ≡ 0x30
-      → runNumber d p (drop at bytes) ≡ numberAnswer (fits (entryOf (p .model) (tableIn (p .outline) (getD bytes (at + 1) 0)) (getD (p .state) (getD bytes (at + 3) 0) 0 % mostObjects) (getD bytes (at + 5) 0 % mostObjects))) 6
+  -- 28 t e e
+  entry-run : (d at : ℕ) → (d ≡ 0 → ⊥) → EntryForm bytes at
+      → runNumber d p (drop at bytes)
+      ≡ numberAnswer (fits (entryOf (p .model) (tableIn (p .outline) (getD bytes (at + 1) 0)) (objectIn (getD bytes (at + 2) 0) (getD bytes (at + 3) 0) (p .state)) (objectIn (getD bytes (at + 4) 0) (getD bytes (at + 5) 0) (p .state)))) 6
   unfolding numberForm numberAt numberBehind
-  entry-run d at some l b r c =
+  entry-run d at some f =
       let e = drop (at + 1) bytes in
+      let i = objectIn (getD bytes (at + 2) 0) (getD bytes (at + 3) 0) (p .state) in
+      let j = objectIn (getD bytes (at + 4) 0) (getD bytes (at + 5) 0) (p .state) in
       let long = length-drop (at + 1) bytes in
-      let two-on : drop 1 e ≡ drop (at + 2) bytes = drop-drop 1 (at + 1) bytes ∙ ap (λ (i : ℕ). drop i bytes) (on 1) in
-      let four-on : drop 2 (drop (at + 2) bytes) ≡ drop (at + 4) bytes = drop-drop 2 (at + 2) bytes ∙ ap (λ (i : ℕ). drop i bytes) (on-two 2) in
-      let long2 = length-drop (at + 2) bytes in
-      let long4 = length-drop (at + 4) bytes in
-      let row : runElement (p .state) (drop (at + 2) bytes) ≡ elementAnswer (getD (p .state) (getD bytes (at + 3) 0) 0 % mostObjects) 2 =
-      element-variable (drop (at + 2) bytes) (omega (arith, long2, l)) (sym (first-at (at + 2) bytes) ∙ r) ∙ ap (λ (i : ℕ). elementAnswer (getD (p .state) i 0 % mostObjects) 2) (getD-drop (at + 2) bytes 1 0 ∙ ap (λ (i : ℕ). getD bytes i 0) (on-two 1)) in
-      let column : runElement (p .state) (drop 2 (drop (at + 2) bytes)) ≡ elementAnswer (getD bytes (at + 5) 0 % mostObjects) 2 =
-      ap (runElement (p .state)) four-on ∙ element-literal (p .state) (drop (at + 4) bytes) (omega (arith, long4, l)) (sym (first-at (at + 4) bytes) ∙ c) ∙ ap (λ (i : ℕ). elementAnswer (i % mostObjects) 2) (getD-drop (at + 4) bytes 1 0 ∙ ap (λ (i : ℕ). getD bytes i 0) (on-four 1)) in
-      let both : twoElements (p .state) (drop 1 e) ≡ parts (getD (p .state) (getD bytes (at + 3) 0) 0 % mostObjects) (getD bytes (at + 5) 0 % mostObjects) 0 4 =
-      ap (twoElements (p .state)) two-on ∙ elements-are (p .state) (λ f. noSet) (drop (at + 2) bytes) _ _ _ _ row column in
-      let value-of : entryNumber (p .model) (p .state) (p .outline) e ≡ numberAnswer (fits (entryOf (p .model) (tableIn (p .outline) (getD bytes (at + 1) 0)) (getD (p .state) (getD bytes (at + 3) 0) 0 % mostObjects) (getD bytes (at + 5) 0 % mostObjects))) 5 =
-      entry-some (p .model) (p .state) (p .outline) e (λ z. absurd (omega (arith, long, l, z)))
+      let two-on : drop 1 e ≡ drop (at + 2) bytes = drop-drop 1 (at + 1) bytes ∙ ap (λ (k : ℕ). drop k bytes) (on 1) in
+      let four-on : drop 2 (drop (at + 2) bytes) ≡ drop (at + 4) bytes = drop-drop 2 (at + 2) bytes ∙ ap (λ (k : ℕ). drop k bytes) (on-two 2) in
+      let row : runElement (p .state) (drop (at + 2) bytes) ≡ elementAnswer i 2 =
+      element-run (p .state) bytes (at + 2) (omega (arith, f .inside)) (f .row) ∙ ap (λ (k : ℕ). elementAnswer (objectIn (getD bytes (at + 2) 0) (getD bytes k 0) (p .state)) 2) (on-two 1) in
+      let column : runElement (p .state) (drop 2 (drop (at + 2) bytes)) ≡ elementAnswer j 2 =
+      ap (runElement (p .state)) four-on ∙ element-run (p .state) bytes (at + 4) (omega (arith, f .inside)) (f .column) ∙ ap (λ (k : ℕ). elementAnswer (objectIn (getD bytes (at + 4) 0) (getD bytes k 0) (p .state)) 2) (on-four 1) in
+      let both : twoElements (p .state) (drop 1 e) ≡ parts i j 0 4 = ap (twoElements (p .state)) two-on ∙ elements-are (p .state) (λ g. noSet) (drop (at + 2) bytes) _ _ _ _ row column in
+      let value-of : entryNumber (p .model) (p .state) (p .outline) e ≡ numberAnswer (fits (entryOf (p .model) (tableIn (p .outline) (getD bytes (at + 1) 0)) i j)) 5 =
+      entry-some (p .model) (p .state) (p .outline) e (λ z. absurd (omega (arith, long, f .inside, z)))
       ∙ ap (λ (q : Parts). numberAnswer (fits (entryOf (p .model) (tableIn (p .outline) (getD e 0 0)) (q .first) (q .second))) (1 + q .used)) both
-      ∙ ap (λ (t : ℕ). numberAnswer (fits (entryOf (p .model) (tableIn (p .outline) t) (getD (p .state) (getD bytes (at + 3) 0) 0 % mostObjects) (getD bytes (at + 5) 0 % mostObjects))) 5) (sym (first-at (at + 1) bytes)) in
-      number-opens p .opened d at bytes some (omega arith) b ∙ ap (numberPast 1) value-of ∙ number-past _ 1 5
+      ∙ ap (λ (t : ℕ). numberAnswer (fits (entryOf (p .model) (tableIn (p .outline) t) i j)) 5) (sym (first-at (at + 1) bytes)) in
+      number-opens p .opened d at bytes some (omega (arith, f .inside)) (f .entry) ∙ ap (numberPast 1) value-of ∙ number-past _ 1 5
     where
       on : (i : ℕ) → at + 1 + i ≡ at + (1 + i)
       on i = omega arith
@@ -127,6 +126,28 @@ module _ (p : Environment) (bytes : List ℕ) where
 
 -- ---- the value
 
+-- the entry of a sum
+entry-form : (bytes : List ℕ) (at : ℕ) → SumForm bytes at → EntryForm bytes (at + 4)
+unfolding beginsElement
+entry-form bytes at f = record {
+  inside = omega (arith, f .inside);
+  entry = f .entry;
+  row = rw (on-four 2, f .row);
+  column = rw (on-four 4, f .column);
+}
+  where
+    on-four : (i : ℕ) → at + 4 + i ≡ at + (4 + i)
+    on-four i = omega arith
+
+pub entry-says : (bytes : List ℕ) (at : ℕ) (words state : List ℕ) → EntryForm bytes at → mag (entryAt bytes at words state) < rangeEnd → (x : Number) (n : ℕ) → Outlines bytes words (modelOf bytes)
+    → number (modelOf bytes .variables) (modelOf bytes .tables) mostNesting (drop at bytes) ≡ read x n
+    → N.Value (entryAt bytes at words state) 6 ≡ numberAnswer (numberValue rangeEnd (modelOf bytes .tables) x (stateOf (modelOf bytes .variables) state)) n
+unfolding numberAnswer
+entry-says bytes at words state f l x n o reads =
+    let p = environment bytes state words in
+    sym (entry-run p bytes mostNesting at (λ e. absurd (omega arith)) f ∙ ap (λ (v : Value ℤ). numberAnswer v 6) (fits-value (entryAt bytes at words state) l))
+    ∙ run-number mostNesting p (drop at bytes) _ _ x n (outline-describes state o) reads
+
 module _ (bytes : List ℕ) (at : ℕ) (words state : List ℕ) (z c : ℤ) where
   -- in range, the sum is compared
   summed-up : SumIs bytes at words state z → mag z < rangeEnd → mag c < rangeEnd
@@ -144,8 +165,7 @@ module _ (bytes : List ℕ) (at : ℕ) (words state : List ℕ) (z c : ℤ) wher
         let first : runNumber 30 p (drop (at + 2) bytes) ≡ numberAnswer (fits (variableIn bytes at state)) 2 =
         variable-run p bytes 30 (at + 2) (λ e. absurd (omega arith)) (omega (arith, f .inside)) (f .variable) ∙ ap (λ (i : ℕ). numberAnswer (fits (pos (getD state (getD bytes i 0) 0 % rangeSize) -ℤ pos rangeEnd)) 2) (on-two 1) in
         let second : runNumber 30 p (drop (at + 4) bytes) ≡ numberAnswer (fits (entryIn bytes at words state)) 6 =
-        entry-run p bytes 30 (at + 4) (λ e. absurd (omega arith)) (omega (arith, f .inside)) (f .entry) (ap (λ (i : ℕ). getD bytes i 0) (on-four 2) ∙ f .row) (ap (λ (i : ℕ). getD bytes i 0) (on-four 4) ∙ f .column)
-        ∙ rw (on-four 1, on-four 3, on-four 5) in
+        entry-run p bytes 30 (at + 4) (λ e. absurd (omega arith)) (entry-form bytes at f) ∙ rw (on-four 1, on-four 2, on-four 3, on-four 4, on-four 5, f .row, f .column) in
         holds-value _ n
         (sym (run-condition mostNesting p (drop at bytes) _ _ x n (outline-describes state o) reads) ∙ whole-run p bytes at c f h _ _ first second ∙ ap (λ (v : Value Bool). conditionAnswer v 15) (summed-up s l k))
         .0

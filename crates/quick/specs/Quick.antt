@@ -7,7 +7,7 @@ use lib.ListN.{length, getD, drop}
 use lib.Dec.{ltb}
 use lib.IntN.{ℤ, pos, _+ℤ_, _-ℤ_}
 use lib.Signed.{mag, leZ}
-use Rattle.model.specs.Numbers.{rangeEnd, rangeSize, mostNesting, mostObjects}
+use Rattle.model.specs.Numbers.{rangeEnd, rangeSize, mostNesting}
 use Rattle.model.specs.Values.{Value, value}
 use Rattle.model.specs.Readers.{read}
 use Rattle.model.specs.Syntax.{Condition}
@@ -16,6 +16,7 @@ use Rattle.model.specs.Meaning.{conditionValue}
 use Rattle.words.specs.States.{stateOf}
 use Rattle.outline.specs.Outline.{modelOf, Outlines}
 use Rattle.eval_sets.specs.Runs.{tableIn, entryOf}
+use Rattle.quick.specs.Sets.{objectIn}
 
 pub record Told (r : ℕ) (v : Value Bool) : Type 0 where
   pub fails : r ≡ 0 → v ≡ value false
@@ -43,7 +44,7 @@ module _ (bytes : List ℕ) (at : ℕ) where
   variableIn state = pos (getD state (getD bytes (at + 3) 0) 0 % rangeSize) -ℤ pos rangeEnd
 
   abbrev pub entryIn : (words state : List ℕ) → ℤ
-  entryIn words state = entryOf bytes (tableIn words (getD bytes (at + 5) 0)) (getD state (getD bytes (at + 7) 0) 0 % mostObjects) (getD bytes (at + 9) 0 % mostObjects)
+  entryIn words state = entryOf bytes (tableIn words (getD bytes (at + 5) 0)) (objectIn 0x31 (getD bytes (at + 7) 0) state) (objectIn 0x30 (getD bytes (at + 9) 0) state)
 
   -- both are in range, and this is their sum
   pub record SumIs (words state : List ℕ) (z : ℤ) : Type 0 where

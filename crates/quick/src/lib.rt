@@ -1,4 +1,4 @@
-// Conditions decided in place, without a call of the evaluators: sound or silent.
+// Conditions decided in place, without a call of the evaluators, sound or silent; elements put into sets and entries of tables likewise.
 
 ghost use mathlib.Core.Path.{_≡_};
 ghost use mathlib.Core.Bool.{true};
@@ -18,6 +18,9 @@ use words::arithmetic::sum;
 use words::literals::integer;
 use words::sizes::MOST_OBJECTS;
 use words::tables::entry;
+
+pub mod entries;
+pub mod sets;
 
 // The code that says nothing.
 pub const SILENT: u8 = 2;

@@ -2,8 +2,6 @@
 
 ghost use mathlib.Core.Path.{_≡_};
 ghost use Prim.Native.Nat.{_*_, _≤_, _<_};
-ghost use lib.ListN.{length};
-ghost use Rattle.model.specs.Numbers.{mostModelBytes};
 ghost use Rattle.model.specs.Commands as commands;
 ghost use Rattle.words.specs.Tables.{tableWord};
 ghost use Rattle.read_declarations.specs.Positions.{readAt, positionOf};

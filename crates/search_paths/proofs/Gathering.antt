@@ -7,12 +7,12 @@ use native.Mathlib.Omega.{arith}
 use native.Mathlib.Nat.{mod-lt, mod-eq-of-lt}
 use native.Mathlib.Numerals.{add-one}
 use lib.ListN.{length, take, drop, getD, set, length-take, length-append, length-drop, length-set}
-use lib.Seq.{ext-getD, take-at, take-all, take-nil, drop-nil, take-take, getD-take, getD-drop, drop-length, getD-set-same, getD-set-other}
+use lib.Seq.{ext-getD, take-at, take-all, getD-take, getD-drop, drop-length, getD-set-same, getD-set-other}
 use Rattle.beam_order.specs.Slots.{slotWords, backAt, wordsIn, backsAt, nextAt, nextEnd, nextOrderAt}
 use Rattle.beam_order.proofs.Arrays.{word-in}
 use Rattle.beam.specs.Nodes.{nodeOf, nodeIn, nodeAt}
 use Rattle.beam.specs.Layers.{part, nodesOf, Indexed, Layer, Emptied}
-use Rattle.beam.proofs.Written.{words-long}
+use Rattle.beam.proofs.Written.{slot-first, words-long}
 use Rattle.beam.proofs.Whole.{put, part-length, part-at, put-length, put-in, put-first, put-behind}
 use Rattle.beam.proofs.Moves.{few-in, place-below}
 use Rattle.beam.proofs.Nodes.{nodes-length, nodes-from}
@@ -80,20 +80,6 @@ nodes-same bytes path path′ words words′ e (suc n) i same =
     rw (same i (omega arith), rest, e)
 
 -- ---- only the layer in the making is written
-
-take-of-drop : (a m : ℕ) (l : List ℕ) → take m (drop a l) ≡ drop a (take (a + m) l)
-take-of-drop zero m l = ap (λ (n : ℕ). take n l) (let z : m ≡ 0 + m = omega arith in z)
-take-of-drop (suc a) m [] = take-nil m ∙ sym (ap (drop (suc a)) (take-nil (suc a + m)) ∙ drop-nil (suc a))
-take-of-drop (suc a) m (x ∷ l) =
-    let z : suc a + m ≡ suc (a + m) = omega arith in
-    rw z (take-of-drop a m l)
-
-pub slot-first : (words words′ : List ℕ) (e i : ℕ) → take e words′ ≡ take e words → i * slotWords + slotWords ≤ e → wordsIn words′ i ≡ wordsIn words i
-unfolding wordsIn
-slot-first words words′ e i t h =
-    take-of-drop (i * slotWords) slotWords words′
-    ∙ ap (drop (i * slotWords)) (sym (take-take (i * slotWords + slotWords) e words′ h) ∙ ap (take (i * slotWords + slotWords)) t ∙ take-take (i * slotWords + slotWords) e words h)
-    ∙ sym (take-of-drop (i * slotWords) slotWords words)
 
 module _ (words words′ : List ℕ) (w : ℕ) (pos : 0 < w) (first : take (nextAt * w) words′ ≡ take (nextAt * w) words) (last : drop (nextEnd * w) words′ ≡ drop (nextEnd * w) words) where
   pub paths-kept : (k : ℕ) → pathBy words′ w k ≡ pathBy words w k

@@ -1,6 +1,6 @@
 -- An answer in numbers, and an answer read back from its numbers and the plan buffer.
 use Prim.Native.Nat.{ℕ, _≤_}
-use mathlib.Core.Path.{_≡_, refl, sym, ap, _∙_}
+use mathlib.Core.Path.{_≡_, refl, ap}
 use mathlib.Core.Bool.{Bool, true, false, cond}
 use mathlib.Core.List.{List}
 use native.Mathlib.Omega.{arith}
@@ -9,7 +9,7 @@ use lib.Dec.{eqb}
 use borrow.Author.Tests.{lt-ltb, le-ltb}
 use Rattle.search.specs.Answer as A
 use Rattle.search.specs.Answer.{cheapest, noPlan, widthStop, lengthStop, budgetSpent, contradicted, verdict, byState, byInput, verdictNumber, outcomeNumber, isRefusal, verdictNumbered, outcomeNumbered, bufferAfter, handedBack}
-use Rattle.search.specs.Demands.{Ends, with-verdict, by-state, by-input}
+use Rattle.search.specs.Demands.{Ends, by-state, by-input}
 use Rattle.search.proofs.Mission.{plan-handed-back}
 use Rattle.search_report.specs.Answers.{outcomeOf, AnswerIs, FieldsAre, numbersOf, answerIn}
 use Rattle.search_report.specs.declared.answers.Answer.{Answer}

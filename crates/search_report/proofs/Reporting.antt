@@ -1,13 +1,13 @@
 -- What a report comes to: the answer's fields and the plan buffer by the ending, and the fields in numbers.
 use Prim.Native.Nat.{ℕ, suc, _+_, _≤_, _<_}
 use mathlib.Core.Path.{_≡_, refl, sym, ap, _∙_, subst}
-use mathlib.Core.Bool.{Bool, true, false, cond}
+use mathlib.Core.Bool.{Bool, true, false}
 use mathlib.Core.List.{List, [], _∷_, _++_, reverse, reverse-cons, reverse-reverse}
 use native.Mathlib.Omega.{arith}
 use lib.ListN.{length, take, drop, getD, set, length-reverse}
 use lib.Seq.{drop-cons, set-at, length-take-le, append-snoc}
 use Rattle.search.specs.Answer as A
-use Rattle.search.specs.Answer.{verdict, bufferAfter, outcomeNumber, isRefusal}
+use Rattle.search.specs.Answer.{verdict, bufferAfter}
 use Rattle.search.specs.Search.{boundAt, bestCost, bestSteps, hasPlan, tallyOf, answerOf}
 use Rattle.steps.specs.InBytes.{systemIn}
 use Rattle.steps.specs.Follow.{costsIn}

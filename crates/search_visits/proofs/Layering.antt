@@ -15,7 +15,8 @@ use Rattle.steps.specs.Follow.{costsIn}
 use Rattle.beam.specs.Nodes.{nodeAt}
 use Rattle.beam.proofs.Moves.{width-positive}
 use Rattle.search_paths.specs.Routes.{pathBy, nodesFrom, currentOf}
-use Rattle.search_paths.proofs.Gathering.{slot-first, paths-kept, current-kept}
+use Rattle.beam.proofs.Written.{slot-first}
+use Rattle.search_paths.proofs.Gathering.{paths-kept, current-kept}
 use Rattle.search_visits.specs.Work.{resultOf, roundBegun, roundIn, Within, Ready, Leaves}
 use Rattle.search_visits.specs.declared.work.Round.{Round}
 use Rattle.search_visits.specs.declared.work.Ending.{Ending}

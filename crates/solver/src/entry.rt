@@ -2,7 +2,7 @@
 
 ghost use mathlib.Core.Path.{_≡_};
 ghost use mathlib.Core.Bool.{true};
-ghost use Prim.Native.Nat.{_≤_, _<_, _^_};
+ghost use Prim.Native.Nat.{_≤_, _<_};
 ghost use Rattle.search.specs.Run.{isWidth, settingsFit, lentFits, refusedByInput};
 ghost use Rattle.steps.specs.InBytes.{Outlined, stateIn, systemIn, targetIn};
 ghost use Rattle.search_report.specs.Answers.{AnswerIs, numbersOf, outcomeOf};

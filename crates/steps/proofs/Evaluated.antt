@@ -2,11 +2,15 @@
 use Prim.Native.Nat.{ℕ, _-_, _≤_, _<_}
 use mathlib.Core.Path.{_≡_, ap}
 use mathlib.Core.List.{List}
+use native.Mathlib.Omega.{arith}
 use lib.ListN.{length, take, drop, length-drop}
-use Rattle.model.specs.Numbers.{mostNesting, mostObjects}
+use lib.IntN.{ℤ}
+use lib.Signed.{mag}
+use Rattle.model.specs.Numbers.{rangeEnd, mostNesting, mostObjects}
 use Rattle.words.proofs.Literal.{suffix}
 use Rattle.outline.specs.Outline.{modelOf}
 use Rattle.eval_sets.specs.declared.answers.NumberValue.{NumberValue}
+use Rattle.eval_sets.specs.declared.answers.NumberValue.the-variants as N
 use Rattle.eval_sets.specs.declared.answers.ConditionValue.{ConditionValue}
 use Rattle.eval_sets.specs.declared.answers.ElementValue.{ElementValue}
 use Rattle.eval_sets.specs.declared.answers.SetValue.{SetValue}
@@ -18,6 +22,8 @@ use Rattle.eval_sets.proofs.Within.{number-within, condition-within, set-within
 use Rattle.eval_tests.specs.Stopped.{stopped}
 use Rattle.eval_tests.proofs.Stopping.{stopped-within}
 use Rattle.prepare.proofs.Tested.{outline-describes}
+use Rattle.quick.specs.Entries.{EntryForm, entryAt}
+use Rattle.quick.proofs.Sums.{entry-says}
 use Rattle.steps.specs.InBytes.{Outlined}
 use Rattle.steps.specs.Says.{ConditionSays, NumberSays, ElementSays, SetSays}
 
@@ -44,6 +50,10 @@ module _ (bytes words : List ℕ) (o : Outlined bytes words) (at : ℕ) (state :
   number-promised r e =
       let f : r ≡ runNumber mostNesting here (drop at bytes) = rw (suffix at bytes) at e in
       rw (f, ← length-drop at bytes) (λ x n h. run-number mostNesting here (drop at bytes) _ _ x n described h, number-within mostNesting here (drop at bytes))
+
+  -- 28 t e e, in place
+  pub entry-promised : EntryForm bytes at → (z : ℤ) → z ≡ entryAt bytes at words state → mag z < rangeEnd → NumberSays bytes at state (N.Value z 6) × NumberWithin (length bytes - at) (N.Value z 6)
+  entry-promised f z e l = (λ x n h. rw e (entry-says bytes at words state f (rw e at l) x n (o .outlines) h), (l, omega (arith, f .inside)))
 
   pub set-promised : (r : SetValue) → r ≡ runSet mostNesting state words (lent at bytes) → SetSays bytes at state r × (r .used ≤ length bytes - at)
   set-promised r e =

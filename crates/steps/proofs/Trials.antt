@@ -17,14 +17,13 @@ use Rattle.model.specs.Steps.{admits, statusOf, status, raise, greatest, bound,
 use Rattle.outline.specs.Outline.{modelOf, baseCasesFrom, boundsFrom}
 use Rattle.prepare.specs.Layout.{conjunctsFrom, conjunctCountAt}
 use Rattle.prepare.specs.Guards.{passes, guardIn}
-use Rattle.prepare.specs.Prepared.{ConjunctAt, Conjuncts}
+use Rattle.prepare.specs.Prepared.{Conjuncts}
 use Rattle.eval_sets.specs.declared.answers.ConditionValue.{ConditionValue}
 use Rattle.eval_sets.specs.declared.answers.ConditionValue.the-variants as C
 use Rattle.eval_sets.specs.declared.answers.NumberValue.{NumberValue}
 use Rattle.eval_sets.specs.declared.answers.NumberValue.the-variants as N
-use Rattle.eval_sets.specs.Answers.{numberAnswer, conditionAnswer}
+use Rattle.eval_sets.specs.Answers.{numberAnswer}
 use Rattle.eval_sets.specs.Bounds.{NumberWithin}
-use Rattle.eval_tests.specs.Stopped.{stopped}
 use Rattle.steps.specs.declared.answers.HeldAnswer.{HeldAnswer}
 use Rattle.steps.specs.declared.answers.HeldAnswer.the-variants as H
 use Rattle.steps.specs.declared.answers.StatusAnswer.the-variants as S

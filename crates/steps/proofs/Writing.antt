@@ -21,6 +21,9 @@ use Rattle.eval_sets.specs.declared.answers.NumberValue.{NumberValue}
 use Rattle.eval_sets.specs.declared.answers.NumberValue.the-variants as N
 use Rattle.eval_sets.specs.declared.answers.ElementValue.{ElementValue}
 use Rattle.eval_sets.specs.declared.answers.SetValue.{SetValue}
+use Rattle.eval_sets.specs.Answers.{setAnswer}
+use Rattle.quick.specs.Sets.{ChangedForm, changedIn}
+use Rattle.quick.proofs.Changes.{changed-says}
 use Rattle.steps.specs.declared.answers.CostAnswer.{CostAnswer}
 use Rattle.steps.specs.declared.answers.CostAnswer.the-variants as C
 use Rattle.steps.specs.declared.answers.WordAnswer.{WordAnswer}
@@ -110,6 +113,10 @@ module _ (bytes : List ℕ) (at : ℕ) (state : List ℕ) where
 
     pub word-set : (kind ≡ 0 → ⊥) → 64 < kind → (r : SetValue) → SetSays bytes at state r → WordSays bytes at state v (W.Word (r .members) (r .used))
     word-set z b r says x f n e h = set-by-kind f n (x .kind) (x .objects) (o .outlines .variables v x e .well-formed) (λ i. z (kind-is x e ∙ i)) (omega (arith, kind-is x e)) r says h
+
+    -- 42 e 41 u and 43 e 41 u, in place
+    pub word-changed : (kind ≡ 0 → ⊥) → 64 < kind → ChangedForm bytes at → (w : ℕ) → w ≡ changedIn bytes at state → WordSays bytes at state v (W.Word w 5)
+    word-changed z b f w q = word-set z b (setAnswer w 0 5) (λ x n h. let s = changed-says bytes at words state f x n (o .outlines) h in (q ∙ s .0, s .1))
 
 -- ---- answers taken apart
 

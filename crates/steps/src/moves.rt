@@ -6,9 +6,10 @@ ghost use lib.ListN.{length};
 ghost use Rattle.model.specs.Numbers.{rangeEnd, mostVariables};
 ghost use Rattle.model.specs.Steps as steps;
 ghost use Rattle.outline.specs.Outline.{modelOf};
+ghost use Rattle.eval_sets.specs.Bounds.{NumberWithin};
 ghost use Rattle.steps.specs.InBytes.{Outlined, StateRoom, stateIn, systemIn};
 ghost use Rattle.steps.specs.Answers.{moveAnswer};
-ghost use Rattle.steps.specs.Says.{CostSays, CostWithin, NumberWordSays, WordSays, WordWithin, EffectsRead, EffectsSays, TakenRead, TakenSays, TransitionRead, AttemptSays, Tried, AllowedSays, MoveSays};
+ghost use Rattle.steps.specs.Says.{NumberSays, CostSays, CostWithin, NumberWordSays, WordSays, WordWithin, EffectsRead, EffectsSays, TakenRead, TakenSays, TransitionRead, AttemptSays, Tried, AllowedSays, MoveSays};
 use crate::answers::AttemptAnswer;
 use crate::answers::CostAnswer;
 use crate::answers::EffectsAnswer;
@@ -30,8 +31,28 @@ use outline::layout::STATE_WORDS;
 use outline::layout::TRANSITION_COUNT;
 use outline::word_at;
 use prepare::guards::passes;
+use quick::entries::entry_at;
+use quick::entries::is_entry;
+use quick::sets::changed;
+use quick::sets::is_changed;
 use words::arithmetic::biased;
 use words::sizes::MOST_OBJECTS;
+
+// The value of the number at a place, a table's entry without a call of the evaluators.
+fn cost_number(
+    model: &[u8],
+    at: usize,
+    outline: &[u64; PREPARED_WORDS],
+    state: &[u64; STATE_WORDS],
+) -> NumberValue
+    requires { ⌜ Outlined (now model) (now outline) × (at ≤ length (now model)) ⌝ }
+    ensures { λ r. ⌜ NumberSays (now (model .entry)) at (now (state .entry)) r × NumberWithin (length (now (model .entry)) - at) r ⌝ }
+{
+    if is_entry(model, at) {
+        return NumberValue::Value(entry_at(model, at, outline, state), 6);
+    }
+    number_at(model, at, outline, state)
+}
 
 // The cost at a place; a negative one is trouble.
 fn cost_at(
@@ -43,7 +64,7 @@ fn cost_at(
     requires { ⌜ Outlined (now model) (now outline) × (at ≤ length (now model)) ⌝ }
     ensures { λ r. ⌜ CostSays (now (model .entry)) at (now (state .entry)) r × CostWithin (length (now (model .entry)) - at) r ⌝ }
 {
-    match number_at(model, at, outline, state) {
+    match cost_number(model, at, outline, state) {
         NumberValue::Value(z, used) => {
             if z < 0 {
                 return CostAnswer::Trouble(NEGATIVE_COST);
@@ -88,6 +109,9 @@ fn word_for(
     if kind <= MOST_OBJECTS {
         let e = element_at(model, at, outline, state);
         return WordAnswer::Word(e.object, e.used);
+    }
+    if is_changed(model, at) {
+        return WordAnswer::Word(changed(model, at, state), 5);
     }
     let s = set_at(model, at, outline, state);
     WordAnswer::Word(s.members, s.used)

@@ -12,7 +12,7 @@ use borrow.Author.Tests.{lt-ltb, le-ltb}
 use Rattle.model.specs.Readers.{Read, read, Reader, continue, _>>=_, _>>_, give, integer, command}
 use Rattle.model.specs.Commands.{entries}
 use Rattle.model.proofs.Chains.{chain, given, commanded}
-use Rattle.words.specs.Tables.{orZero, cellAt, entryIn, columnsOf}
+use Rattle.words.specs.Tables.{orZero, integerAt, cellAt, entryIn, columnsOf}
 
 -- ---- what two readers, one behind the other, read
 
@@ -95,9 +95,13 @@ entries-cell (suc n) bytes at l u h (suc k) less =
 
 -- ---- the contracts' cases
 
+pub integer-there : (bytes : List ℕ) (k : ℕ) {z : ℤ} → integer (drop k bytes) ≡ read z 4 → z ≡ integerAt bytes k
+unfolding orZero
+integer-there bytes k h = rw h
+
 pub cell-there : (bytes : List ℕ) (at k : ℕ) {z : ℤ} → integer (drop (at + 5 * k + 1) bytes) ≡ read z 4 → z ≡ cellAt bytes at k
-unfolding cellAt orZero
-cell-there bytes at k h = rw h
+unfolding cellAt
+cell-there bytes at k h = integer-there bytes (at + 5 * k + 1) h
 
 pub cell-ends : (bytes : List ℕ) (at k : ℕ) → length bytes < at + 5 * k + 1 + 4 → pos 0 ≡ cellAt bytes at k
 unfolding cellAt orZero

@@ -5,5 +5,6 @@ pub mod Members
 pub mod Entries
 pub mod Parts
 pub mod Sums
+pub mod Covered
 pub mod Bytes
 pub mod FullSets

@@ -1,14 +1,14 @@
--- Laws of the members of a set: their count is a count of ones, the least is a count of zeros, and each is taken off by an and.
+-- Laws of the members of a set: their count is a count of ones, the least and the greatest are counts of zeros, and each is taken off by an and.
 use mathlib.Core.Path.{_≡_, refl, sym, ap, _∙_}
 use mathlib.Core.List.{List, [], _∷_}
 use mathlib.Core.Logic.{_⊎_, inl, inr, ⊎-elim}
 use Prim.Native.Nat.{ℕ, zero, suc, _+_, _-_, _*_, _/_, _%_, _^_, _<_, _≤_}
-use native.Mathlib.Nat.{lt-of-lt-of-le, mod-lt, div-eq-of-lt, pow-suc}
+use native.Mathlib.Nat.{lt-of-lt-of-le, lt-of-not-le, mod-lt, div-eq-of-lt, pow-suc}
 use native.Mathlib.Omega.{arith}
 use lib.ListN.{length}
 use lib.Arith.{lt-one}
 use lib.Bits.{bitAnd, and-step, and-self, and-le-r}
-use lib.Count.{ones, ones-step, ones-le, trailingZeros}
+use lib.Count.{ones, ones-step, ones-le, leadingZeros, leading-top, trailingZeros}
 use lib.Pow.{pow-mono}
 use mathlib.Core.Bool.{false}
 use Rattle.model.specs.Sets.{isMember, consIf, membersFrom, members}
@@ -120,6 +120,23 @@ members-lowest n s h p =
     let less : bitAnd s (s - 1) < 2 ^ n = omega (arith, and-falls s p) in
     rw (members-within n s h, members-within n (bitAnd s (s - 1)) less)
     (from-lowest n 0 s h p ∙ ap (λ (j : ℕ). j ∷ membersFrom n 0 (bitAnd s (s - 1))) (omega arith))
+
+-- ---- the greatest member, of a set of n objects: by the zeros above it
+
+pub record Greatest (n s zeros : ℕ) : Type 0 where
+  pub some : zeros ≤ 63
+  pub object : 63 - zeros < n
+  pub members-to : s < 2 ^ suc (63 - zeros)
+
+pub greatest : (n s : ℕ) → s < 2 ^ n → s < 2 ^ 64 → 0 < s → Greatest n s (leadingZeros 64 s)
+greatest n s h word p =
+    let top = leading-top 64 s p word in
+    let is : 63 - leadingZeros 64 s ≡ top .0 = omega (arith, top .1) in
+    record {
+      some = omega (arith, top .1);
+      object = rw is (lt-of-not-le (λ l. let beyond : 2 ^ n ≤ 2 ^ top .0 = pow-mono l in omega (arith, top .2)));
+      members-to = rw is (top .3);
+    }
 
 -- ---- beyond the digits
 

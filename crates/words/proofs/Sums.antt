@@ -1,7 +1,7 @@
 -- The sum over a set's members, as a loop makes it that takes the least member off each time, and from two halves.
-use mathlib.Core.Path.{_≡_, ap, sym, _∙_}
-use mathlib.Core.List.{_∷_}
-use Prim.Native.Nat.{ℕ, _+_, _-_, _*_, _/_, _%_, _^_, _<_, _≤_}
+use mathlib.Core.Path.{_≡_, refl, ap, sym, _∙_}
+use mathlib.Core.List.{List, _∷_}
+use Prim.Native.Nat.{ℕ, zero, suc, _+_, _-_, _*_, _/_, _%_, _^_, _<_, _≤_}
 use native.Mathlib.Nat.{zero-add, lt-of-lt-of-le}
 use native.Mathlib.Omega.{arith}
 use lib.ListN.{length}
@@ -13,10 +13,10 @@ use lib.Count.{trailingZeros}
 use mir.Syntax.{w64}
 use mir.Val.{SFits}
 use Rattle.model.specs.Numbers.{rangeEnd}
-use Rattle.model.specs.Sets.{membersFrom, members}
+use Rattle.model.specs.Sets.{consIf, membersFrom, members}
 use Rattle.model.specs.Meaning.{sumOver}
 use Rattle.words.proofs.Integers.{mag-sum}
-use Rattle.words.proofs.Members.{members-most, members-lowest, and-falls}
+use Rattle.words.proofs.Members.{from-step, members-within, members-most, members-lowest, and-falls}
 use Rattle.words.proofs.Parts.{sum-by-parts}
 
 -- z and the sum over what is left make the sum over s, a set of n objects; each member that is left adds less than the range's end
@@ -49,6 +49,23 @@ module _ {n : ℕ} {f : ℕ → ℤ} {s left : ℕ} {z e : ℤ} (few : n ≤ 64)
 pub done : (n : ℕ) (f : ℕ → ℤ) (s : ℕ) (z : ℤ) → Sofar n f s 0 z → (z ≡ sumOver f (members s)) × (mag z ≤ n * rangeEnd)
 unfolding sumOver members membersFrom
 done n f s z so = (sym (+ℤ-idr z) ∙ so .total, omega (arith, so .size))
+
+-- ---- two functions that agree on the members
+
+cons-agrees : (f g : ℕ → ℤ) (d k : ℕ) (l : List ℕ) → f k ≡ g k → sumOver f l ≡ sumOver g l → sumOver f (consIf d k l) ≡ sumOver g (consIf d k l)
+unfolding sumOver consIf
+cons-agrees f g zero k l e h = h
+cons-agrees f g (suc d) k l e h = rw (e, h)
+
+from-agrees : (f g : ℕ → ℤ) (n k s : ℕ) → ((i : ℕ) → i < k + n → f i ≡ g i) → sumOver f (membersFrom n k s) ≡ sumOver g (membersFrom n k s)
+unfolding sumOver membersFrom
+from-agrees f g zero k s same = refl
+from-agrees f g (suc n) k s same =
+    rw (from-step n k s)
+    (cons-agrees f g (s % 2) k (membersFrom n (suc k) (s / 2)) (same k (omega arith)) (from-agrees f g n (suc k) (s / 2) (λ i h. same i (omega arith))))
+
+pub sum-agrees : (f g : ℕ → ℤ) (n s : ℕ) → s < 2 ^ n → ((i : ℕ) → i < n → f i ≡ g i) → sumOver f (members s) ≡ sumOver g (members s)
+sum-agrees f g n s h same = rw (members-within n s h) (from-agrees f g n 0 s (λ i l. same i (omega arith)))
 
 -- ---- two halves
 

@@ -1,12 +1,13 @@
 // A table's entries, read where they stand in the model's bytes. A table is one word: its columns, its cells and where they begin.
 
 ghost use mathlib.Core.Path.{_≡_};
+ghost use mathlib.Core.Bool.{true};
 ghost use Prim.Native.Nat.{_+_, _*_, _^_, _≤_, _<_};
 ghost use lib.Signed.{mag};
 ghost use Rattle.model.specs.Numbers.{mostObjects, rangeEnd};
 ghost use Rattle.model.specs.Sets.{members};
 ghost use Rattle.model.specs.Meaning.{sumOver};
-ghost use Rattle.words.specs.Tables.{cellAt, entryIn, columnsOf, cellsOf, atOf, half};
+ghost use Rattle.words.specs.Tables.{integerAt, cellAt, entryIn, columnsOf, cellsOf, atOf, half, Spaced, SomeOfHalf, Covered};
 use crate::literals::integer;
 use crate::sizes::HALF;
 use crate::sizes::HALF_SETS;
@@ -35,8 +36,36 @@ pub fn entry(model: &[u8], table: u64, i: u64, j: u64) -> i64
     0
 }
 
-// The sum of the entries in column j at the rows from + i, for the members i of s. It may leave the range.
-fn walked(model: &[u8], table: u64, s: u64, from: u64, j: u64) -> i64
+// The sum of the integers at first + stride * i, for the members i of s, with no test on the way. It may leave the range.
+fn summed(model: &[u8], s: u64, first: usize, stride: usize) -> i64
+    requires { ⌜ (s < 2 ^ half) × (Spaced (now model) s first stride) ⌝ }
+    ensures { λ r. ⌜ (r ≡ sumOver (λ i. integerAt (now (model .entry)) (first + stride * i)) (members s)) × (mag r ≤ half * rangeEnd) ⌝ }
+{
+    let mut left = s;
+    let mut sum: i64 = 0;
+    while left != 0 {
+        let i = u64::trailing_zeros(left) as usize;
+        sum += integer(&model[first + stride * i..]);
+        left = left & (left - 1);
+    }
+    sum
+}
+
+// Whether the table has all the cells in column j at the rows from + i, for the members i of s, and the model its bytes.
+fn covers(model: &[u8], table: u64, s: u64, from: u64, j: u64) -> bool
+    requires { ⌜ SomeOfHalf s from j ⌝ }
+    ensures { λ r. ⌜ (r ≡ true → Covered (now (model .entry)) table s from j) ⌝ }
+{
+    let last = 63 - (u64::leading_zeros(s) as u64);
+    let cells = table / 128 % 8192;
+    if (from + last) * (table % 128) + j < cells {
+        return table / 1048576 % 131072 + 5 * cells <= model.len() as u64;
+    }
+    false
+}
+
+// The sum of the entries in column j at the rows from + i, for the members i of s, each asked for. It may leave the range.
+fn walked_far(model: &[u8], table: u64, s: u64, from: u64, j: u64) -> i64
     requires { ⌜ (s < 2 ^ half) × (from ≤ half) × (j < mostObjects) ⌝ }
     ensures { λ r. ⌜ (r ≡ sumOver (λ i. entryIn (now (model .entry)) (atOf table) (columnsOf table) (cellsOf table) (from + i) j) (members s)) × (mag r ≤ half * rangeEnd) ⌝ }
 {
@@ -48,6 +77,22 @@ fn walked(model: &[u8], table: u64, s: u64, from: u64, j: u64) -> i64
         left = left & (left - 1);
     }
     sum
+}
+
+// The sum of the entries in column j at the rows from + i, for the members i of s. It may leave the range.
+fn walked(model: &[u8], table: u64, s: u64, from: u64, j: u64) -> i64
+    requires { ⌜ (s < 2 ^ half) × (from ≤ half) × (j < mostObjects) ⌝ }
+    ensures { λ r. ⌜ (r ≡ sumOver (λ i. entryIn (now (model .entry)) (atOf table) (columnsOf table) (cellsOf table) (from + i) j) (members s)) × (mag r ≤ half * rangeEnd) ⌝ }
+{
+    if s == 0 {
+        return 0;
+    }
+    if covers(model, table, s, from, j) {
+        let columns = table % 128;
+        let first = table / 1048576 % 131072 + 5 * (from * columns + j) + 1;
+        return summed(model, s, first as usize, (5 * columns) as usize);
+    }
+    walked_far(model, table, s, from, j)
 }
 
 // The sum of the entries in column j at the rows that are members of s: over objects 0 to 31, over 32 to 63, and both added.

@@ -7,6 +7,7 @@ use mir.Val.{SFits}
 use mir.Syntax.{w64}
 use Rattle.eval_sets.specs.Runs.{entryOf}
 use Rattle.words.proofs.Integers.{back, sum-fits}
+use Rattle.quick.specs.Sets.{objectIn}
 use Rattle.quick.specs.Quick.{variableIn, entryIn}
 use Rattle.quick.proofs.summed.Statement.{statement}
 use Rattle.quick.proofs.summed.Tie as tie
@@ -27,7 +28,7 @@ sum-requires c κs =
     (rw (back (variable-fits number)) (number .signed-word .ensures .1), rw (back (entry-fits c)) (c .entry .ensures .1))
 
 returns : tie.Need-returns
-unfolding entryOf
+unfolding entryOf objectIn
 returns c =
     let start : tie.Start = search in
     let number : tie.After-signed-word = search in

@@ -1,13 +1,13 @@
 -- `beam::layer::find_in` meets its contract. The invariant: the slots from the link on are not sought, and the link leads to a slot of the bucket.
 use Prim.Native.Nat.{ℕ, _+_, _*_, _-_, _≤_, _<_}
-use mathlib.Core.Path.{_≡_, sym, ap, _∙_}
+use mathlib.Core.Path.{_≡_, sym, _∙_}
 use mathlib.Core.Bool.{Bool}
 use mathlib.Core.List.{List, _++_}
 use native.Mathlib.Omega.{arith}
 use borrow.Author.Needs.{needs}
 use lib.ListN.{length, getD}
-use Rattle.beam_order.specs.Slots.{orderAt, linksAt, layerWords, wordsIn}
-use Rattle.beam_index.specs.Links.{Index, Walked, levelAt}
+use Rattle.beam_order.specs.Slots.{orderAt, linksAt}
+use Rattle.beam_index.specs.Links.{Index, Walked}
 use Rattle.beam_index.proofs.Linked.{level-slot, level-head, walk-start, walk-next}
 use Rattle.beam.specs.Parts.{sought}
 use Rattle.beam.specs.Layers.{slotsOf, linksOf, Walkable}

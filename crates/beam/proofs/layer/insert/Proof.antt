@@ -5,9 +5,7 @@ use mathlib.Core.Bool.{false}
 use mathlib.Core.List.{List, _++_}
 use native.Mathlib.Omega.{arith}
 use borrow.Author.Needs.{needs}
-use lib.ListN.{length}
 use Rattle.laws.specs.Lists.{any}
-use Rattle.model.specs.Numbers.{mostVariables}
 use Rattle.beam.specs.Nodes.{stateWords, ChildWords, beats}
 use Rattle.beam.specs.Buckets.{bucketOf}
 use Rattle.beam.specs.Layers.{keptOf, Indexed, Keeping, Offering, unbeaten}

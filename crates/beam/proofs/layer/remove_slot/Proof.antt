@@ -3,7 +3,7 @@ use Prim.Native.Nat.{_+_, _*_, _-_, _<_}
 use mathlib.Core.Path.{_≡_, ap, _∙_}
 use native.Mathlib.Omega.{arith}
 use borrow.Author.Needs.{needs}
-use lib.ListN.{length, getD, take, drop}
+use lib.ListN.{getD, take, drop}
 use Rattle.laws.specs.Lists.{filter}
 use Rattle.beam_order.specs.Slots.{headerWords, slotWords}
 use Rattle.beam.specs.Parts.{bucketIn}

@@ -1,6 +1,6 @@
 -- `bench_parts::insertions::layer_fits` meets its contract.
 use borrow.Author.Needs.{needs}
-use mathlib.Core.Path.{sym, _∙_}
+use mathlib.Core.Path.{sym}
 use native.Mathlib.Omega.{arith}
 use Rattle.bench_parts.proofs.Offering.{no-width, too-wide, by-room}
 use Rattle.bench_parts.proofs.insertions.layer_fits.Statement.{statement}

@@ -7,7 +7,7 @@ use lib.Bits.{and-self, and-zero-l}
 use lib.ListN.{length-drop}
 use Rattle.model.specs.Sets.{intersection}
 use Rattle.prepare.specs.Forms.{MemberForm, MissingForm}
-use Rattle.prepare.proofs.Tested.{member-says, missing-says, nothing-says}
+use Rattle.prepare.proofs.Tested.{member-says, missing-says}
 use Rattle.prepare.proofs.tests.test_at.Statement.{statement}
 use Rattle.prepare.proofs.tests.test_at.Tie as tie
 
@@ -31,10 +31,7 @@ returns-2 c =
     (missing-says _ _ _ _ (missing there) (rw (← c .before .after .ensures) (c .long .ensures)) (sym (c .before .before .byte-at3 .ensures)), record { bits = and-zero-l (c .long .result); short = omega arith })
 
 returns-3 : tie.Need-returns-3
-unfolding intersection
-returns-3 c =
-    let start = c .before .before .before .before .before in
-    (nothing-says (start .args .model .now) (start .args .at) 0 0 0, record { bits = and-zero-l 0; short = omega arith })
+returns-3 c = (c .other-test .ensures .0, c .other-test .ensures .1)
 
 long-requires : tie.Need-long-requires
 long-requires c κs =
@@ -62,4 +59,5 @@ test-at-spec =
     (λ c κs. search needs)
     long-requires
     returns-2
+    (λ c κs. search needs)
     returns-3)

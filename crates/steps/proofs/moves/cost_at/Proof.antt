@@ -7,8 +7,8 @@ use borrow.Author.Needs.{needs}
 use Rattle.steps.proofs.moves.cost_at.Statement.{statement}
 use Rattle.steps.proofs.moves.cost_at.Tie as tie
 
-number-at-requires : tie.Need-number-at-requires
-number-at-requires c κs = search needs
+cost-number-requires : tie.Need-cost-number-requires
+cost-number-requires c κs = search needs
 
 enum-known-z : tie.Need-enum-known-z
 enum-known-z c = search needs
@@ -16,15 +16,15 @@ enum-known-z c = search needs
 returns : tie.Need-returns
 returns c =
     let start : tie.Start = search in
-    let f = range-fits {z = c .before .before .z .given .0 .0} (value-within _ (c .before .before .z .given .1) (c .before .before .before .before .number-at .ensures .1) .0) in (
+    let f = range-fits {z = c .before .before .z .given .0 .0} (value-within _ (c .before .before .z .given .1) (c .before .before .before .before .cost-number .ensures .1) .0) in (
       cost-refused _ (start .args .at) _ _
-          (c .before .before .before .before .number-at .ensures .0) (c .before .before .z .given .1) (cost-negative _ (rw (back f) at (c .if1 .taken))),
+          (c .before .before .before .before .cost-number .ensures .0) (c .before .before .z .given .1) (cost-negative _ (rw (back f) at (c .if1 .taken))),
       tt,
     )
 
 cast-t11 : tie.Need-cast-t11
 cast-t11 c =
-    let f = range-fits {z = c .before .before .z .given .0 .0} (value-within _ (c .before .before .z .given .1) (c .before .before .before .before .number-at .ensures .1) .0) in
+    let f = range-fits {z = c .before .before .z .given .0 .0} (value-within _ (c .before .before .z .given .1) (c .before .before .before .before .cost-number .ensures .1) .0) in
     unsigned-cast _ f (rw (back f) at (c .if1 .left))
 
 enum-known-t : tie.Need-enum-known-t
@@ -33,17 +33,17 @@ enum-known-t c = search needs
 returns-2 : tie.Need-returns-2
 returns-2 c =
     let start : tie.Start = search in
-    let w = value-within _ (c .before .before .z .given .1) (c .before .before .before .before .number-at .ensures .1) in
+    let w = value-within _ (c .before .before .z .given .1) (c .before .before .before .before .cost-number .ensures .1) in
     let f = range-fits {z = c .before .before .z .given .0 .0} (w .0) in (
       cost-says _ (start .args .at) _ _
-          (c .before .before .before .before .number-at .ensures .0) (c .before .before .z .given .1) (cost-is _ f (rw (back f) at (c .if1 .left))),
+          (c .before .before .before .before .cost-number .ensures .0) (c .before .before .z .given .1) (cost-is _ f (rw (back f) at (c .if1 .left))),
       w .1,
     )
 
 returns-3 : tie.Need-returns-3
-returns-3 c = let start : tie.Start = search in (cost-troubles _ (start .args .at) _ _ (c .before .before .before .number-at .ensures .0) (c .before .t .given .1), tt)
+returns-3 c = let start : tie.Start = search in (cost-troubles _ (start .args .at) _ _ (c .before .before .before .cost-number .ensures .0) (c .before .t .given .1), tt)
 
 pub cost-at-spec : {M : Type 1} → statement M
 cost-at-spec =
     tie.close
-    (tie.spec number-at-requires enum-known-z returns cast-t11 enum-known-t returns-2 returns-3)
+    (tie.spec cost-number-requires enum-known-z returns cast-t11 enum-known-t returns-2 returns-3)

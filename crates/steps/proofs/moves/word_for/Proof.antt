@@ -1,5 +1,6 @@
 -- `steps::moves::word_for` meets its contract.
-use Rattle.steps.proofs.Writing.{word-number, word-element, word-set}
+use Rattle.steps.proofs.Writing.{word-number, word-element, word-set, word-changed}
+use native.Mathlib.Omega.{arith}
 use borrow.Author.Needs.{needs}
 use Rattle.steps.proofs.moves.word_for.Statement.{statement}
 use Rattle.steps.proofs.moves.word_for.Tie as tie
@@ -26,14 +27,28 @@ returns-2 c =
       c .element-at .ensures .1 .1,
     )
 
-set-at-requires : tie.Need-set-at-requires
-set-at-requires c κs = let start : tie.Start = search in (start .pre .0, start .pre .1)
+changed-requires : tie.Need-changed-requires
+changed-requires c κs = c .before .is-changed .ensures (c .if3 .taken)
 
 returns-3 : tie.Need-returns-3
 returns-3 c =
-    let start : tie.Start = search in (
-      word-set _ (start .args .at) _ _ (start .pre .0) _ _ (c .before .before .before .word-at .ensures) (c .before .before .if1 .left)
-          (c .before .if2 .left) (c .set-at .result) (c .set-at .ensures .0),
+    let start : tie.Start = search in
+    let form = c .before .before .is-changed .ensures (c .before .if3 .taken) in
+    let set : tie.Else2 = search in (
+      word-changed _ (start .args .at) _ _ (start .pre .0) _ _ (set .before .before .word-at .ensures) (set .before .if1 .left)
+          (set .if2 .left) form (c .changed .result) (c .changed .ensures),
+      omega (arith, form .inside),
+    )
+
+set-at-requires : tie.Need-set-at-requires
+set-at-requires c κs = let start : tie.Start = search in (start .pre .0, start .pre .1)
+
+returns-4 : tie.Need-returns-4
+returns-4 c =
+    let start : tie.Start = search in
+    let set : tie.Else2 = search in (
+      word-set _ (start .args .at) _ _ (start .pre .0) _ _ (set .before .before .word-at .ensures) (set .before .if1 .left)
+          (set .if2 .left) (c .set-at .result) (c .set-at .ensures .0),
       c .set-at .ensures .1,
     )
 
@@ -47,5 +62,8 @@ word-for-spec =
     returns
     element-at-requires
     returns-2
+    (λ c κs. search needs)
+    changed-requires
+    returns-3
     set-at-requires
-    returns-3)
+    returns-4)

@@ -1,84 +1,70 @@
--- `words::tables::walked` meets its contract. The invariant: the sum so far and the sum over the members left make the whole.
--- The measure is the set that is left.
-use mathlib.Core.Path.{_≡_}
-use Prim.Native.Nat.{ℕ, _+_, _<_}
-use mathlib.Core.List.{List}
+-- `words::tables::walked` meets its contract: over no members, over members whose cells are all there, and over others.
+use Prim.Native.Nat.{_+_, _*_, _<_}
+use mathlib.Core.Path.{_∙_}
 use native.Mathlib.Omega.{arith}
-use lib.Count.{trailing-le}
-use lib.IntN.{ℤ, _+ℤ_}
-use mir.Syntax.{w64}
-use mir.Val.{SFits, toZ, ofZ}
-use Rattle.words.specs.Tables.{entryIn, columnsOf, cellsOf, atOf}
+use borrow.Author.Needs.{needs}
+use Rattle.words.specs.Tables.{columnsOf, Covered}
+use Rattle.words.proofs.Covered.{covered-spaced, covered-sum}
+use Rattle.words.proofs.Entries.{cell-bound}
 use Rattle.words.proofs.Integers.{back}
-use Rattle.words.proofs.Members.{zeros-below, and-falls}
-use Rattle.words.proofs.Sums.{Sofar, begin, more-fits, one-more, done}
+use Rattle.words.proofs.Sums.{begin, done}
 use Rattle.words.proofs.tables.walked.Statement.{statement}
 use Rattle.words.proofs.tables.walked.Tie as tie
 
--- the entries of column j, by their row less `from`
-abbrev column : List ℕ → ℕ → ℕ → ℕ → ℕ → ℤ
-column model table from j i = entryIn model (atOf table) (columnsOf table) (cellsOf table) (from + i) j
+returns : tie.Need-returns
+returns c = rw (c .if1 .taken) (done 32 _ 0 _ (begin 32 _ 0 (omega arith)))
 
-abbrev Inv-loop : tie.InvT-loop
-Inv-loop model table s from j left₀ sum₀ left sum = Sofar 32 (column model table from j) s left (toZ w64 sum)
+covers-requires : tie.Need-covers-requires
+covers-requires c κs =
+    let start : tie.Start = search in
+    record { some = omega (arith, c .if1 .left); set = start .pre .0; rows = start .pre .1; column = start .pre .2 }
 
-abbrev μ-loop : tie.MeasureT-loop
-μ-loop model table s from j left₀ sum₀ left sum = left
+covered : (c : tie.Then2) → let a = c .before .before .before .before .args in Covered (a .model .now) (a .table) (a .s) (a .from) (a .j)
+covered c = c .before .covers .ensures (c .if2 .taken)
 
-loop-holds : tie.Need-loop-holds Inv-loop μ-loop
-loop-holds c = begin 32 _ (c .before .args .s) (c .before .pre .0)
+-- the first row's cell
+near : (c : tie.Then2) → let a = c .before .before .before .before .args in a .from * columnsOf (a .table) + a .j < 64 * 128 + 64
+near c =
+    let start : tie.Start = search in
+    omega (arith, cell-bound (start .args .from) (start .args .table) (omega (arith, start .pre .1)), start .pre .2)
 
-cast-i : tie.Need-cast-i Inv-loop μ-loop
-cast-i c = record { fits = omega (arith, trailing-le 64 (c .before .loop .left)) }
+mul-first : tie.Need-mul-first
+mul-first c = record { fits = omega (arith, near c) }
 
-add-i : tie.Need-add-i Inv-loop μ-loop
-add-i c =
-    let start : tie.Start Inv-loop μ-loop = search in
-    record { fits = omega (arith, trailing-le 64 (c .before .loop .left), start .pre .1) }
+add-first : tie.Need-add-first
+add-first c = record { fits = omega (arith, near c) }
 
--- a member is left
-more : (c : tie.In-loop Inv-loop μ-loop) → 0 < c .before .loop .left
-more c = omega (arith, c .loop-test .taken)
+mul-first-2 : tie.Need-mul-first-2
+mul-first-2 c = record { fits = omega (arith, near c) }
 
-entry-requires : tie.Need-entry-requires Inv-loop μ-loop
-entry-requires c κs =
-    let start : tie.Start Inv-loop μ-loop = search in
-    (omega (arith, zeros-below 64 32 (c .before .loop .left) (c .before .loop .inv .word) (more c), start .pre .1), start .pre .2)
+add-first-2 : tie.Need-add-first-2
+add-first-2 c = record { fits = omega (arith, near c) }
 
--- the entry, read back from its bits, and the sum with it
-read : (c : tie.After-entry Inv-loop μ-loop) → toZ w64 (ofZ w64 (c .entry .result)) ≡ c .entry .result
-read c = back (record { sfits = c .entry .ok })
+add-first-3 : tie.Need-add-first-3
+add-first-3 c = record { fits = omega (arith, near c) }
 
-fits : (c : tie.After-entry Inv-loop μ-loop) → SFits w64 (toZ w64 (c .before .before .loop .sum) +ℤ c .entry .result)
-fits c = more-fits (omega arith) (c .before .before .loop .inv) (more (c .before)) (c .entry .ensures .0) (c .entry .ensures .1)
+summed-requires : tie.Need-summed-requires
+summed-requires c κs = let start : tie.Start = search in (start .pre .0, covered-spaced (covered c))
 
-add-sum : tie.Need-add-sum Inv-loop μ-loop
-add-sum c = rw (read c) (fits c)
+returns-2 : tie.Need-returns-2
+returns-2 c = rw (back (record { sfits = c .summed .ok })) (c .summed .ensures .0 ∙ covered-sum (covered (c .before)), c .summed .ensures .1)
 
-sub-left : tie.Need-sub-left Inv-loop μ-loop
-sub-left c = more (c .before)
-
-loop-less : tie.Need-loop-less Inv-loop μ-loop
-loop-less c = and-falls (c .before .before .loop .left) (more (c .before))
-
-loop-again : tie.Need-loop-again Inv-loop μ-loop
-loop-again c = rw (read c, back (fits c)) (one-more (omega arith) (c .before .before .loop .inv) (more (c .before)) (c .entry .ensures .0) (c .entry .ensures .1))
-
-returns : tie.Need-returns Inv-loop μ-loop
-returns c = done 32 _ _ _ (rw (c .loop-test .left) at (c .before .loop .inv))
+returns-3 : tie.Need-returns-3
+returns-3 c = rw (back (record { sfits = c .walked-far .ok })) (c .walked-far .ensures)
 
 pub walked-spec : {M : Type 1} → statement M
 walked-spec =
     tie.close
     (tie.spec
-    Inv-loop
-    μ-loop
-    loop-holds
-    cast-i
-    add-i
-    entry-requires
-    add-sum
-    sub-left
-    loop-less
-    loop-again
-    returns)
+    returns
+    covers-requires
+    mul-first
+    add-first
+    mul-first-2
+    add-first-2
+    add-first-3
+    (λ c. search needs)
+    summed-requires
+    returns-2
+    (λ c κs. search needs)
+    returns-3)

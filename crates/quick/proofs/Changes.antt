@@ -1,0 +1,80 @@
+-- 42 e 41 u and 43 e 41 u: what the evaluators make of their bytes, and so their values.
+use Prim.Native.Nat.{ℕ, _+_, _%_, _≤_}
+use mathlib.Core.Path.{_≡_, refl, sym, ap, _∙_}
+use mathlib.Core.Bool.{Bool, true, false, cond, false≢true}
+use mathlib.Core.List.{List}
+use native.Mathlib.Omega.{arith}
+use lib.ListN.{length, getD, drop, length-drop}
+use lib.Seq.{getD-drop, drop-drop}
+use lib.Dec.{eqb}
+use borrow.Author.Tests.{eqb-true, le-ltb}
+use Rattle.model.specs.Numbers.{mostNesting, mostObjects}
+use Rattle.model.specs.Readers.{read}
+use Rattle.model.specs.Syntax.{Set}
+use Rattle.model.specs.Expressions.{set}
+use Rattle.model.specs.Meaning.{setValue}
+use Rattle.words.specs.States.{stateOf}
+use Rattle.outline.specs.Outline.{modelOf, Outlines}
+use Rattle.eval_sets.specs.declared.answers.SetValue.{SetValue}
+use Rattle.eval_sets.specs.Answers.{elementAnswer, noElement, setAnswer, setPast}
+use Rattle.eval_sets.specs.Forms.{setForm}
+use Rattle.eval_sets.specs.Runs.{objectsIn, elementOf, runElement, elementThenSet, changed, setBehind, runSet}
+use Rattle.eval_sets.proofs.Opening.{set-opens}
+use Rattle.eval_sets.proofs.Parts.{parts, element-set-is}
+use Rattle.eval_sets.proofs.Promises.{run-set}
+use Rattle.eval_sets.proofs.Slices.{first-at}
+use Rattle.prepare.proofs.Tested.{variable-run, outline-describes}
+use Rattle.quick.specs.Sets.{beginsElement, objectIn, changesSet, changedBy, ChangedForm, changedIn}
+
+-- ---- 30 k and 31 v
+
+element-of : (state : List ℕ) (b k : ℕ) → beginsElement b ≡ true → elementOf state b k ≡ elementAnswer (objectIn b k state) 2
+unfolding beginsElement objectIn elementOf
+element-of state b k h = go (eqb b 0x30) (eqb b 0x31) h
+  where
+    go : (s t : Bool) → cond s true t ≡ true → cond s (elementAnswer (k % mostObjects) 2) (cond t (elementAnswer (getD state k 0 % mostObjects) 2) noElement) ≡ elementAnswer (cond s (k % mostObjects) (getD state k 0 % mostObjects)) 2
+    go true t h = refl
+    go false true h = refl
+    go false false h = absurd (false≢true h)
+
+pub element-run : (state bytes : List ℕ) (at : ℕ) → at + 2 ≤ length bytes → beginsElement (getD bytes at 0) ≡ true
+    → runElement state (drop at bytes) ≡ elementAnswer (objectIn (getD bytes at 0) (getD bytes (at + 1) 0) state) 2
+unfolding runElement
+element-run state bytes at l h =
+    let long = length-drop at bytes in
+    rw (le-ltb (length (drop at bytes)) 2 (omega (arith, long, l)), ← (first-at at bytes), getD-drop at bytes 1 0) (element-of state (getD bytes at 0) (getD bytes (at + 1) 0) h)
+
+-- ---- 42 and 43
+
+changed-of : (state words : List ℕ) (runs : List ℕ → SetValue) (b : ℕ) (e : List ℕ) → changesSet b ≡ true → (k s objects n : ℕ) → elementThenSet state runs e ≡ parts k s objects n
+    → setBehind state words runs (setForm b) e ≡ setAnswer (changedBy b k s) objects n
+unfolding changesSet changedBy setForm setBehind changed
+changed-of state words runs b e h k s objects n q = go (eqb b 0x42) refl (eqb b 0x43) refl
+  where
+    go : (t : Bool) → eqb b 0x42 ≡ t → (u : Bool) → eqb b 0x43 ≡ u → setBehind state words runs (setForm b) e ≡ setAnswer (changedBy b k s) objects n
+    go true t u v = rw (eqb-true b 0x42 t, q)
+    go false t true v = rw (eqb-true b 0x43 v, q)
+    go false t false v = absurd (false≢true (rw (t, v) at h))
+
+module _ (bytes : List ℕ) (at : ℕ) (words state : List ℕ) (f : ChangedForm bytes at) where
+  changed-run : runSet mostNesting state words (drop at bytes) ≡ setAnswer (changedIn bytes at state) (objectsIn words (getD bytes (at + 4) 0)) 5
+  changed-run =
+      let element : runElement state (drop (at + 1) bytes) ≡ elementAnswer (objectIn (getD bytes (at + 1) 0) (getD bytes (at + 2) 0) state) 2 =
+      element-run state bytes (at + 1) (omega (arith, f .inside)) (f .element) ∙ ap (λ (i : ℕ). elementAnswer (objectIn (getD bytes (at + 1) 0) (getD bytes i 0) state) 2) (on-one 1) in
+      let behind : drop 2 (drop (at + 1) bytes) ≡ drop (at + 3) bytes = drop-drop 2 (at + 1) bytes ∙ ap (λ (i : ℕ). drop i bytes) (on-one 2) in
+      let variable : runSet 31 state words (drop 2 (drop (at + 1) bytes)) ≡ setAnswer (getD state (getD bytes (at + 4) 0) 0) (objectsIn words (getD bytes (at + 4) 0)) 2 =
+      ap (runSet 31 state words) behind ∙ variable-run state words bytes 31 (at + 3) _ (λ z. absurd (omega arith)) (omega (arith, f .inside)) (f .variable) (ap (λ (i : ℕ). getD bytes i 0) (on-three 1)) in
+      set-opens state words .opened mostNesting at bytes (λ z. absurd (omega arith)) (omega (arith, f .inside)) refl
+      ∙ ap (setPast 1) (changed-of state words (λ g. runSet 31 state words g) (getD bytes at 0) (drop (at + 1) bytes) (f .changes) _ _ _ _ (element-set-is state (λ g. runSet 31 state words g) (drop (at + 1) bytes) _ _ _ _ _ element variable))
+    where
+      on-one : (i : ℕ) → at + 1 + i ≡ at + (1 + i)
+      on-one i = omega arith
+
+      on-three : (i : ℕ) → at + 3 + i ≡ at + (3 + i)
+      on-three i = omega arith
+
+  pub changed-says : (x : Set) (n : ℕ) → Outlines bytes words (modelOf bytes) → set (modelOf bytes .variables) (modelOf bytes .tables) mostNesting (drop at bytes) ≡ read x n
+      → (changedIn bytes at state ≡ setValue x (stateOf (modelOf bytes .variables) state)) × (5 ≡ n)
+  changed-says x n o reads =
+      let answer = sym changed-run ∙ run-set mostNesting state words (drop at bytes) _ _ x n (outline-describes state o .sets) reads in
+      (ap (λ (r : SetValue). r .members) answer, ap (λ (r : SetValue). r .used) answer)
