@@ -49,6 +49,10 @@ unfolding costOf
 cost (pos c) e = refl
 cost (negsuc c) e = absurd (true≢false e)
 
+small : (z : ℤ) → ltZ z (pos 0) ≡ false → mag z < rangeEnd → natAbs z < rangeEnd
+small (pos c) e h = h
+small (negsuc c) e h = absurd (true≢false e)
+
 module _ (z : ℤ) (f : SFits w64 z) (e : ltZ z (pos 0) ≡ false) where
   pub raise-high : (h : ℕ) → h < natAbs (toZ w64 (ofZ w64 z)) → natAbs (toZ w64 (ofZ w64 z)) ≡ raise h z
   raise-high h l = rw (back f) (high h z e (rw (back f) at l))
@@ -58,6 +62,9 @@ module _ (z : ℤ) (f : SFits w64 z) (e : ltZ z (pos 0) ≡ false) where
 
   pub cost-is : costOf z ≡ value (natAbs (toZ w64 (ofZ w64 z)))
   cost-is = rw (back f) (cost z e)
+
+  pub cost-small : mag z < rangeEnd → natAbs (toZ w64 (ofZ w64 z)) < rangeEnd
+  cost-small h = rw (back f) (small z e h)
 
 pub cost-negative : (z : ℤ) → ltZ z (pos 0) ≡ true → costOf z ≡ trouble negativeCost
 unfolding costOf

@@ -123,7 +123,7 @@ module _ (bytes : List ℕ) (at : ℕ) (state : List ℕ) where
 pub word-within : (l : ℕ) {r : WordAnswer} {w n : ℕ} → r ≡ W.Word w n → WordWithin l r → n ≤ l
 word-within l e h = rw e at h
 
-pub cost-within : (l : ℕ) {r : CostAnswer} {c n : ℕ} → r ≡ C.Cost c n → CostWithin l r → n ≤ l
+pub cost-within : (l : ℕ) {r : CostAnswer} {c n : ℕ} → r ≡ C.Cost c n → CostWithin l r → (c < rangeEnd) × (n ≤ l)
 cost-within l e h = rw e at h
 
 word-is : (k : Kind) (v : Value ℤ) (n : ℕ) {r : WordAnswer} {w i : ℕ} → WordIs k v n r → r ≡ W.Word w i → (v ≡ value (valueOf k w)) × (n ≡ i)

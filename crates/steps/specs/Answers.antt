@@ -1,6 +1,7 @@
--- The answers in enums, from the definitions' own.
-use Prim.Native.Nat.{ℕ}
+-- The answers in enums and codes, from the definitions' own.
+use Prim.Native.Nat.{ℕ, suc}
 use mathlib.Core.Bool.{Bool, true, false}
+use lib.IntN.{ℤ, pos, negsuc}
 use Rattle.model.specs.Values.{Value, value, trouble}
 use Rattle.model.specs.System.{Status, base, unfinished, noStatus, Move, blocked, moved, troubleBefore, troubleAfter}
 use Rattle.model.specs.Meaning.{State}
@@ -15,8 +16,6 @@ use Rattle.steps.specs.declared.answers.CostAnswer.{CostAnswer}
 use Rattle.steps.specs.declared.answers.CostAnswer.the-variants as C
 use Rattle.steps.specs.declared.answers.EffectsAnswer.{EffectsAnswer}
 use Rattle.steps.specs.declared.answers.EffectsAnswer.the-variants as E
-use Rattle.steps.specs.declared.answers.AttemptAnswer.{AttemptAnswer}
-use Rattle.steps.specs.declared.answers.AttemptAnswer.the-variants as A
 use Rattle.steps.specs.declared.answers.MoveAnswer.{MoveAnswer}
 use Rattle.steps.specs.declared.answers.MoveAnswer.the-variants as M
 
@@ -43,10 +42,15 @@ unfoldable pub effectsAnswer : Value State → EffectsAnswer
 effectsAnswer (value u) = E.Done
 effectsAnswer (trouble t) = E.Trouble t
 
-unfoldable pub attemptAnswer : Value Attempt → AttemptAnswer
-attemptAnswer (value notTaken) = A.NotTaken
-attemptAnswer (value (taken c u)) = A.Taken c
-attemptAnswer (trouble t) = A.Trouble t
+-- trouble t in a code, -2 - t
+abbrev pub troubleCode : (t : ℕ) → ℤ
+troubleCode t = negsuc (suc t)
+
+-- a step before the new state's constraints, in one number: its cost, -1 where it is not taken, -2 - t at trouble t
+unfoldable pub attemptCode : Value Attempt → ℤ
+attemptCode (value notTaken) = negsuc 0
+attemptCode (value (taken c u)) = pos c
+attemptCode (trouble t) = troubleCode t
 
 unfoldable pub moveAnswer : Move State ℕ → MoveAnswer
 moveAnswer blocked = M.Blocked

@@ -1,5 +1,5 @@
 -- What is promised of the parts of a model where they stand in its bytes: values in the state that the words stand for.
-use Prim.Native.Nat.{ℕ, _+_, _≤_}
+use Prim.Native.Nat.{ℕ, _+_, _≤_, _<_}
 use mathlib.Core.Path.{_≡_}
 use mathlib.Core.Bool.{Bool, false}
 use mathlib.Core.List.{List, []}
@@ -31,9 +31,8 @@ use Rattle.steps.specs.declared.answers.CostAnswer.the-variants as C
 use Rattle.steps.specs.declared.answers.WordAnswer.{WordAnswer}
 use Rattle.steps.specs.declared.answers.WordAnswer.the-variants as W
 use Rattle.steps.specs.declared.answers.EffectsAnswer.{EffectsAnswer}
-use Rattle.steps.specs.declared.answers.AttemptAnswer.{AttemptAnswer}
 use Rattle.steps.specs.declared.answers.MoveAnswer.{MoveAnswer}
-use Rattle.steps.specs.Answers.{heldAnswer, costAnswer, effectsAnswer, attemptAnswer, moveAnswer}
+use Rattle.steps.specs.Answers.{heldAnswer, costAnswer, effectsAnswer, attemptCode, moveAnswer}
 use Rattle.steps.specs.InBytes.{stateIn, systemIn}
 
 -- 0A from the first on, as a transition has them
@@ -46,11 +45,12 @@ pub record ReadsAt {A : Type 0} (r : Reader A) (bytes : List ℕ) (at : ℕ) : T
   pub used : ℕ
   pub reads : r (drop at bytes) ≡ read item used
 
--- no more bytes used than there are
+-- a cost in range, and no more bytes used than there are
 abbrev pub CostWithin : (bytes : ℕ) → CostAnswer → Type 0
-CostWithin l (C.Cost c n) = n ≤ l
+CostWithin l (C.Cost c n) = (c < rangeEnd) × (n ≤ l)
 CostWithin l (C.Trouble t) = Unit {0}
 
+-- no more bytes used than there are
 abbrev pub WordWithin : (bytes : ℕ) → WordAnswer → Type 0
 WordWithin l (W.Word w n) = n ≤ l
 WordWithin l (W.Trouble t) = Unit {0}
@@ -73,9 +73,10 @@ module _ (bytes : List ℕ) where
   abbrev pub TransitionRead : (at : ℕ) → Type 0
   TransitionRead at = ReadsAt (transition variablesIn tablesIn) bytes at
 
-  -- the answer, and the new state's words where the step is taken
-  pub record AttemptSay (child : List ℕ) (r : AttemptAnswer) (v : Value Attempt) : Type 0 where
-    pub answer : r ≡ attemptAnswer v
+  -- the code, and the new state's words where the step is taken; a trouble's number is a byte
+  pub record AttemptSay (child : List ℕ) (r : ℤ) (v : Value Attempt) : Type 0 where
+    pub answer : r ≡ attemptCode v
+    pub byte : (t : ℕ) → v ≡ trouble t → t < 256
     pub written : (c : ℕ) (u : State) → v ≡ value (taken c u) → stateIn bytes child ≡ u
 
   module _ (at : ℕ) (state : List ℕ) where
@@ -127,18 +128,18 @@ module _ (bytes : List ℕ) where
     takenIn x l =
         numberValue rangeEnd tablesIn x (stateIn bytes state) >>= λ z. costOf z >>= λ c. effects rangeEnd (modelOf bytes) l (stateIn bytes state) (stateIn bytes state) >>= λ new. value (taken c new)
 
-    abbrev pub TakenSays : (child : List ℕ) → AttemptAnswer → Type 0
+    abbrev pub TakenSays : (child : List ℕ) → ℤ → Type 0
     TakenSays child r = (x : Number) (n : ℕ) (l : List Effect) (k : ℕ) → reading.number variablesIn tablesIn mostNesting (drop at bytes) ≡ read x n
         → effectList variablesIn tablesIn (drop (at + n) bytes) ≡ read l k → AttemptSay child r (takenIn x l)
 
-    abbrev pub AttemptSays : (child : List ℕ) → AttemptAnswer → Type 0
+    abbrev pub AttemptSays : (child : List ℕ) → ℤ → Type 0
     AttemptSays child r = (x : Transition) (n : ℕ) → transition variablesIn tablesIn (drop at bytes) ≡ read x n → AttemptSay child r (attempt rangeEnd (modelOf bytes) x (stateIn bytes state))
 
-  -- conjunct k of the constraints, tried in a state
   -- the condition at a place, without its bytes
   abbrev pub TestedSays : (at : ℕ) (state : List ℕ) → HeldAnswer → Type 0
   TestedSays at state r = (x : Condition) (n : ℕ) → reading.condition variablesIn tablesIn mostNesting (drop at bytes) ≡ read x n → r ≡ heldAnswer (conditionValue rangeEnd tablesIn x (stateIn bytes state)) 0
 
+  -- conjunct k of the constraints, tried in a state
   abbrev pub ConjunctSays : (words : List ℕ) (k : ℕ) (state : List ℕ) → HeldAnswer → Type 0
   ConjunctSays words k state r = (x : Condition) → ConjunctAt bytes words (modelOf bytes) k x → r ≡ heldAnswer (conditionValue rangeEnd tablesIn x (stateIn bytes state)) 0
 
@@ -151,7 +152,7 @@ module _ (bytes : List ℕ) where
     pub effects-read : EffectsRead (at + cost-used)
 
   -- transition t was tried in the state
-  pub record Tried (state : List ℕ) (t : ℕ) (child : List ℕ) (r : AttemptAnswer) : Type 0 where
+  pub record Tried (state : List ℕ) (t : ℕ) (child : List ℕ) (r : ℤ) : Type 0 where
     pub transition-of : Transition
     pub declared : getElem? (modelOf bytes .transitions) t ≡ some transition-of
     pub says : AttemptSay child r (attempt rangeEnd (modelOf bytes) transition-of (stateIn bytes state))

@@ -8,9 +8,8 @@ ghost use Rattle.model.specs.Steps as steps;
 ghost use Rattle.outline.specs.Outline.{modelOf};
 ghost use Rattle.eval_sets.specs.Bounds.{NumberWithin};
 ghost use Rattle.steps.specs.InBytes.{Outlined, StateRoom, stateIn, systemIn};
-ghost use Rattle.steps.specs.Answers.{moveAnswer};
+ghost use Rattle.steps.specs.Answers.{troubleCode, moveAnswer};
 ghost use Rattle.steps.specs.Says.{NumberSays, CostSays, CostWithin, NumberWordSays, WordSays, WordWithin, EffectsRead, EffectsSays, TakenRead, TakenSays, TransitionRead, AttemptSays, Tried, AllowedSays, MoveSays};
-use crate::answers::AttemptAnswer;
 use crate::answers::CostAnswer;
 use crate::answers::EffectsAnswer;
 use crate::answers::HeldAnswer;
@@ -142,14 +141,21 @@ fn effects(
     EffectsAnswer::Done
 }
 
-// Cost and effects of a step whose conditions hold.
+// Trouble t in the code of a step.
+fn trouble_code(t: u8) -> i64
+    ensures { λ r. ⌜ (r ≡ troubleCode t) × (t < 256) ⌝ }
+{
+    -2 - (t as i64)
+}
+
+// Cost and effects of a step whose conditions hold, in a code: the cost, or -2 - t at trouble t.
 fn take(
     model: &[u8],
     at: usize,
     outline: &[u64; PREPARED_WORDS],
     state: &[u64; STATE_WORDS],
     child: &mut [u64; STATE_WORDS],
-) -> AttemptAnswer
+) -> i64
     requires { ⌜ Outlined (now model) (now outline) × TakenRead (now model) at × StateRoom (now state) ⌝ }
     ensures { λ r. ⌜ TakenSays (now (model .entry)) at (now (state .entry)) (now (child .exit)) r ⌝ }
 {
@@ -157,29 +163,29 @@ fn take(
         CostAnswer::Cost(cost, used) => {
             *child = *state;
             match effects(model, at + used, outline, state, child) {
-                EffectsAnswer::Done => AttemptAnswer::Taken(cost),
-                EffectsAnswer::Trouble(t) => AttemptAnswer::Trouble(t),
+                EffectsAnswer::Done => cost as i64,
+                EffectsAnswer::Trouble(t) => trouble_code(t),
             }
         }
-        CostAnswer::Trouble(t) => AttemptAnswer::Trouble(t),
+        CostAnswer::Trouble(t) => trouble_code(t),
     }
 }
 
-// Conditions, cost and effects of the transition at a place.
+// Conditions, cost and effects of the transition at a place, in a code: the cost, -1 where it is not taken, -2 - t at trouble t.
 fn attempt(
     model: &[u8],
     at: usize,
     outline: &[u64; PREPARED_WORDS],
     state: &[u64; STATE_WORDS],
     child: &mut [u64; STATE_WORDS],
-) -> AttemptAnswer
+) -> i64
     requires { ⌜ Outlined (now model) (now outline) × TransitionRead (now model) at × StateRoom (now state) ⌝ }
     ensures { λ r. ⌜ AttemptSays (now (model .entry)) at (now (state .entry)) (now (child .exit)) r ⌝ }
 {
     match conditions_hold(model, at, outline, state) {
         HeldAnswer::All(next) => take(model, next + 1, outline, state, child),
-        HeldAnswer::Fails => AttemptAnswer::NotTaken,
-        HeldAnswer::Trouble(t) => AttemptAnswer::Trouble(t),
+        HeldAnswer::Fails => -1,
+        HeldAnswer::Trouble(t) => trouble_code(t),
     }
 }
 
@@ -200,23 +206,25 @@ fn constrained(
     }
 }
 
-// The move that was tried: where it is taken, the new state has to meet the constraints.
+// The move that was tried, by its code: where it is taken, the new state has to meet the constraints.
 fn settle(
     model: &[u8],
     outline: &[u64; PREPARED_WORDS],
     state: &[u64; STATE_WORDS],
     t: usize,
     child: &[u64; STATE_WORDS],
-    tried: AttemptAnswer,
+    tried: i64,
 ) -> MoveAnswer
     requires { ⌜ Outlined (now model) (now outline) × Tried (now model) (now state) t (now child) tried ⌝ }
     ensures { λ r. ⌜ MoveSays (now (model .entry)) (now (state .entry)) t (now (child .entry)) r ⌝ }
 {
-    match tried {
-        AttemptAnswer::NotTaken => MoveAnswer::Blocked,
-        AttemptAnswer::Taken(cost) => constrained(model, outline, child, cost),
-        AttemptAnswer::Trouble(n) => MoveAnswer::Before(n),
+    if 0 <= tried {
+        return constrained(model, outline, child, tried as u64);
     }
+    if tried == -1 {
+        return MoveAnswer::Blocked;
+    }
+    MoveAnswer::Before((-2 - tried) as u8)
 }
 
 // How many transitions there are.

@@ -1,7 +1,7 @@
 -- `steps::moves::cost_at` meets its contract.
 use Rattle.steps.proofs.Writing.{cost-says, cost-refused, cost-troubles}
 use Rattle.steps.proofs.Trials.{value-within}
-use Rattle.steps.proofs.Signs.{range-fits, unsigned-cast, cost-is, cost-negative}
+use Rattle.steps.proofs.Signs.{range-fits, unsigned-cast, cost-is, cost-small, cost-negative}
 use Rattle.words.proofs.Integers.{back}
 use borrow.Author.Needs.{needs}
 use Rattle.steps.proofs.moves.cost_at.Statement.{statement}
@@ -37,7 +37,7 @@ returns-2 c =
     let f = range-fits {z = c .before .before .z .given .0 .0} (w .0) in (
       cost-says _ (start .args .at) _ _
           (c .before .before .before .before .cost-number .ensures .0) (c .before .before .z .given .1) (cost-is _ f (rw (back f) at (c .if1 .left))),
-      w .1,
+      (cost-small _ f (rw (back f) at (c .if1 .left)) (w .0), w .1),
     )
 
 returns-3 : tie.Need-returns-3
