@@ -117,9 +117,9 @@ module _ (p : Environment) (bytes : List ℕ) (at : ℕ) where
       last-byte at = omega arith
 
   -- 53 31 v 30 k
-  same-run : (v k : ℕ) → SameForm bytes at → getD bytes (at + 2) 0 ≡ v → getD bytes (at + 4) 0 ≡ k → runCondition mostNesting p (drop at bytes) ≡ C.Holds (eqb (getD (p .state) v 0 % mostObjects) (k % mostObjects)) 5
+  pub same-run : (d v k : ℕ) → (d ≡ 0 → ⊥) → SameForm bytes at → getD bytes (at + 2) 0 ≡ v → getD bytes (at + 4) 0 ≡ k → runCondition d p (drop at bytes) ≡ C.Holds (eqb (getD (p .state) v 0 % mostObjects) (k % mostObjects)) 5
   unfolding conditionForm conditionAt conditionBehind sameElements conditionPast
-  same-run v k f e g =
+  same-run d v k some f e g =
       let ws = p .state in
       let behind = drop (at + 1) bytes in
       let third : drop 2 behind ≡ drop (at + 3) bytes = drop-drop 2 (at + 1) bytes ∙ ap (λ (i : ℕ). drop i bytes) (on-one 2) in
@@ -129,7 +129,7 @@ module _ (p : Environment) (bytes : List ℕ) (at : ℕ) where
       let last-long : 2 ≤ length (drop (at + 3) bytes) = rw (length-drop (at + 3) bytes) (omega (arith, f .inside)) in
       let second : runElement ws (drop 2 behind) ≡ elementAnswer (k % mostObjects) 2 =
       ap (runElement ws) third ∙ element-literal ws (drop (at + 3) bytes) last-long (sym (first-at (at + 3) bytes) ∙ f .object) ∙ ap (λ (i : ℕ). elementAnswer (i % mostObjects) 2) (getD-drop (at + 3) bytes 1 0 ∙ ap (λ (i : ℕ). getD bytes i 0) (on-three 1) ∙ g) in
-      condition-opens p .opened mostNesting at bytes (λ z. absurd (omega arith)) (omega (arith, f .inside)) (f .same)
+      condition-opens p .opened d at bytes some (omega (arith, f .inside)) (f .same)
       ∙ ap (λ (i : _). conditionPast 1 (sameElements i)) (elements-are ws (λ h. noSet) behind _ _ _ _ first second)
     where
       on-one : (i : ℕ) → at + 1 + i ≡ at + (1 + i)
@@ -179,7 +179,7 @@ module _ (bytes : List ℕ) (at : ℕ) where
   missing-says v s f h e = told _ (λ p. missing-run p bytes at v s f h e ∙ rw (missing-test s (getD (p .state) v 0)))
 
   pub same-says : (v k : ℕ) → SameForm bytes at → getD bytes (at + 2) 0 ≡ v → getD bytes (at + 4) 0 ≡ k → TestSays bytes at (record { variable = v; mask = mostObjects - 1; need = k % mostObjects; used = 5 })
-  same-says v k f e g = told _ (λ p. same-run p bytes at v k f e g ∙ rw (element-bits (getD (p .state) v 0)))
+  same-says v k f e g = told _ (λ p. same-run p bytes at mostNesting v k (λ z. absurd (omega arith)) f e g ∙ rw (element-bits (getD (p .state) v 0)))
 
   pub nothing-says : (v mask need : ℕ) → TestSays bytes at (record { variable = v; mask = mask; need = need; used = 0 })
   nothing-says v mask need words x n o some h = absurd (some refl)

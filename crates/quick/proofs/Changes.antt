@@ -1,5 +1,5 @@
 -- 42 e 41 u and 43 e 41 u: what the evaluators make of their bytes, and so their values.
-use Prim.Native.Nat.{ℕ, _+_, _%_, _≤_}
+use Prim.Native.Nat.{ℕ, _+_, _-_, _%_, _≤_}
 use mathlib.Core.Path.{_≡_, refl, sym, ap, _∙_}
 use mathlib.Core.Bool.{Bool, true, false, cond, false≢true}
 use mathlib.Core.List.{List}
@@ -57,15 +57,17 @@ changed-of state words runs b e h k s objects n q = go (eqb b 0x42) refl (eqb b 
     go false t false v = absurd (false≢true (rw (t, v) at h))
 
 module _ (bytes : List ℕ) (at : ℕ) (words state : List ℕ) (f : ChangedForm bytes at) where
-  changed-run : runSet mostNesting state words (drop at bytes) ≡ setAnswer (changedIn bytes at state) (objectsIn words (getD bytes (at + 4) 0)) 5
-  changed-run =
+  pub changed-run : (d : ℕ) → (d ≡ 0 → ⊥) → runSet (d + 1) state words (drop at bytes) ≡ setAnswer (changedIn bytes at state) (objectsIn words (getD bytes (at + 4) 0)) 5
+  changed-run d some =
+      let less : d + 1 - 1 ≡ d = omega arith in
       let element : runElement state (drop (at + 1) bytes) ≡ elementAnswer (objectIn (getD bytes (at + 1) 0) (getD bytes (at + 2) 0) state) 2 =
       element-run state bytes (at + 1) (omega (arith, f .inside)) (f .element) ∙ ap (λ (i : ℕ). elementAnswer (objectIn (getD bytes (at + 1) 0) (getD bytes i 0) state) 2) (on-one 1) in
       let behind : drop 2 (drop (at + 1) bytes) ≡ drop (at + 3) bytes = drop-drop 2 (at + 1) bytes ∙ ap (λ (i : ℕ). drop i bytes) (on-one 2) in
-      let variable : runSet 31 state words (drop 2 (drop (at + 1) bytes)) ≡ setAnswer (getD state (getD bytes (at + 4) 0) 0) (objectsIn words (getD bytes (at + 4) 0)) 2 =
-      ap (runSet 31 state words) behind ∙ variable-run state words bytes 31 (at + 3) _ (λ z. absurd (omega arith)) (omega (arith, f .inside)) (f .variable) (ap (λ (i : ℕ). getD bytes i 0) (on-three 1)) in
-      set-opens state words .opened mostNesting at bytes (λ z. absurd (omega arith)) (omega (arith, f .inside)) refl
-      ∙ ap (setPast 1) (changed-of state words (λ g. runSet 31 state words g) (getD bytes at 0) (drop (at + 1) bytes) (f .changes) _ _ _ _ (element-set-is state (λ g. runSet 31 state words g) (drop (at + 1) bytes) _ _ _ _ _ element variable))
+      let variable : runSet d state words (drop 2 (drop (at + 1) bytes)) ≡ setAnswer (getD state (getD bytes (at + 4) 0) 0) (objectsIn words (getD bytes (at + 4) 0)) 2 =
+      ap (runSet d state words) behind ∙ variable-run state words bytes d (at + 3) _ some (omega (arith, f .inside)) (f .variable) (ap (λ (i : ℕ). getD bytes i 0) (on-three 1)) in
+      let value-of : setBehind state words (λ g. runSet (d + 1 - 1) state words g) (setForm (getD bytes at 0)) (drop (at + 1) bytes) ≡ setAnswer (changedIn bytes at state) (objectsIn words (getD bytes (at + 4) 0)) 4 =
+      rw less (changed-of state words (λ g. runSet d state words g) (getD bytes at 0) (drop (at + 1) bytes) (f .changes) _ _ _ _ (element-set-is state (λ g. runSet d state words g) (drop (at + 1) bytes) _ _ _ _ _ element variable)) in
+      set-opens state words .opened (d + 1) at bytes (λ z. absurd (omega arith)) (omega (arith, f .inside)) refl ∙ ap (setPast 1) value-of
     where
       on-one : (i : ℕ) → at + 1 + i ≡ at + (1 + i)
       on-one i = omega arith
@@ -76,5 +78,5 @@ module _ (bytes : List ℕ) (at : ℕ) (words state : List ℕ) (f : ChangedForm
   pub changed-says : (x : Set) (n : ℕ) → Outlines bytes words (modelOf bytes) → set (modelOf bytes .variables) (modelOf bytes .tables) mostNesting (drop at bytes) ≡ read x n
       → (changedIn bytes at state ≡ setValue x (stateOf (modelOf bytes .variables) state)) × (5 ≡ n)
   changed-says x n o reads =
-      let answer = sym changed-run ∙ run-set mostNesting state words (drop at bytes) _ _ x n (outline-describes state o .sets) reads in
+      let answer = sym (changed-run 31 (λ z. absurd (omega arith))) ∙ run-set mostNesting state words (drop at bytes) _ _ x n (outline-describes state o .sets) reads in
       (ap (λ (r : SetValue). r .members) answer, ap (λ (r : SetValue). r .used) answer)

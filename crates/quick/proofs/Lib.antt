@@ -1,2 +1,4 @@
 pub mod Changes
-pub mod Sums
+pub mod Compared
+pub mod Totals
+pub mod Memory

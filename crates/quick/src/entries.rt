@@ -6,6 +6,7 @@ ghost use Prim.Native.Nat.{_<_};
 ghost use lib.Signed.{mag};
 ghost use Rattle.model.specs.Numbers.{rangeEnd};
 ghost use Rattle.quick.specs.Entries.{EntryForm, entryAt};
+use crate::places::stands;
 use crate::sets::begins_element;
 use crate::sets::object;
 use laws::byte_at;
@@ -19,15 +20,11 @@ use words::tables::entry;
 pub fn is_entry(model: &[u8], at: usize) -> bool
     ensures { λ r. ⌜ (r ≡ true → EntryForm (now (model .entry)) at) ⌝ }
 {
-    if model.len() < 6 {
-        return false;
-    }
-    if model.len() - 6 < at {
-        return false;
-    }
-    if model[at] == 0x28 {
-        if begins_element(model[at + 2]) {
-            return begins_element(model[at + 4]);
+    if stands(model, at, 6) {
+        if model[at] == 0x28 {
+            if begins_element(model[at + 2]) {
+                return begins_element(model[at + 4]);
+            }
         }
     }
     false

@@ -1,10 +1,12 @@
-// Conditions decided in place, without a call of the evaluators, sound or silent; elements put into sets and entries of tables likewise.
+// Conditions decided in place, without a call of the evaluators, sound or silent; elements put into sets, entries of tables and
+// bounds that sum them likewise.
 
 ghost use mathlib.Core.Path.{_≡_};
 ghost use mathlib.Core.Bool.{true};
 ghost use Prim.Native.Nat.{_+_, _≤_};
 ghost use lib.ListN.{length};
 ghost use Rattle.quick.specs.Quick.{QuickSays, SumForm, SumIs, decided as decidedBy};
+use crate::places::stands;
 use eval_sets::bytes::after;
 use laws::byte_at;
 use laws::wide;
@@ -20,7 +22,9 @@ use words::sizes::MOST_OBJECTS;
 use words::tables::entry;
 
 pub mod entries;
+pub mod places;
 pub mod sets;
+pub mod sums;
 
 // The code that says nothing.
 pub const SILENT: u8 = 2;
@@ -29,19 +33,15 @@ pub const SILENT: u8 = 2;
 fn is_sum(model: &[u8], at: usize) -> bool
     ensures { λ r. ⌜ (r ≡ true → SumForm (now (model .entry)) at) ⌝ }
 {
-    if model.len() < 15 {
-        return false;
-    }
-    if model.len() - 15 < at {
-        return false;
-    }
-    if model[at] == 0x52 {
-        if model[at + 1] == 0x22 {
-            if model[at + 2] == 0x21 {
-                if model[at + 4] == 0x28 {
-                    if model[at + 6] == 0x31 {
-                        if model[at + 8] == 0x30 {
-                            return model[at + 10] == 0x20;
+    if stands(model, at, 15) {
+        if model[at] == 0x52 {
+            if model[at + 1] == 0x22 {
+                if model[at + 2] == 0x21 {
+                    if model[at + 4] == 0x28 {
+                        if model[at + 6] == 0x31 {
+                            if model[at + 8] == 0x30 {
+                                return model[at + 10] == 0x20;
+                            }
                         }
                     }
                 }

@@ -5,6 +5,7 @@ ghost use mathlib.Core.Bool.{true};
 ghost use Prim.Native.Nat.{_<_};
 ghost use Rattle.model.specs.Numbers.{mostObjects};
 ghost use Rattle.quick.specs.Sets.{beginsElement, objectIn, changesSet, ChangedForm, changedIn};
+use crate::places::stands;
 use laws::byte_at;
 use laws::wide;
 use outline::layout::STATE_WORDS;
@@ -48,15 +49,11 @@ fn changes_set(b: u8) -> bool
 pub fn is_changed(model: &[u8], at: usize) -> bool
     ensures { λ r. ⌜ (r ≡ true → ChangedForm (now (model .entry)) at) ⌝ }
 {
-    if model.len() < 5 {
-        return false;
-    }
-    if model.len() - 5 < at {
-        return false;
-    }
-    if changes_set(model[at]) {
-        if begins_element(model[at + 1]) {
-            return model[at + 3] == 0x41;
+    if stands(model, at, 5) {
+        if changes_set(model[at]) {
+            if begins_element(model[at + 1]) {
+                return model[at + 3] == 0x41;
+            }
         }
     }
     false

@@ -5,6 +5,7 @@ use mathlib.Core.Bool.{Bool, true, false, cond}
 use mathlib.Core.List.{List, _∷_}
 use mathlib.Core.Option.{Option, none, some}
 use lib.Dec.{ltb}
+use Rattle.model.specs.Numbers.{rangeEnd}
 use Rattle.model.specs.Meaning.{State}
 use Rattle.search.specs.Search.{Node, Route, Round, refused, Result, on, over, offer, bounded, tried, expand}
 use Rattle.steps.specs.InBytes.{Outlined, stateIn, systemIn}
@@ -14,6 +15,7 @@ use Rattle.beam.specs.Layers.{nodesOf, Indexed, roundWith}
 use Rattle.beam.specs.declared.layer.Inserted.{Inserted}
 use Rattle.search_expansion.specs.declared.trials.Best.{Best}
 use Rattle.search_expansion.specs.declared.trials.Parent.{Parent}
+use Rattle.search_expansion.specs.declared.trials.Arrival.{Arrival}
 use Rattle.search_expansion.specs.declared.trials.Trial.{Trial}
 use Rattle.search_expansion.specs.declared.trials.Trial.the-variants as T
 use Rattle.search_expansion.specs.declared.trials.Expanded.{Expanded}
@@ -38,6 +40,11 @@ abbrev pub Numbered : Trial → Type 0
 Numbered T.On = Unit {0}
 Numbered (T.Before e) = Unit {0}
 Numbered (T.At e c t) = t < 256
+
+-- a transition's number fits a byte, and its cost is in range
+pub record Arrives (a : Arrival) : Type 0 where
+  pub transition : a .transition < 256
+  pub cost : a .cost < rangeEnd
 
 -- rule 4 in the model that stands in the bytes: h of the child by transition t at cost c, whose state the words hold; transition t; all
 -- transitions in number order

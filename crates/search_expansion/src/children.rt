@@ -5,11 +5,12 @@ ghost use mathlib.Core.List.{_++_};
 ghost use Prim.Native.Nat.{_<_};
 ghost use mathlib.Core.Bool.{_||_};
 ghost use lib.ListN.{length};
-ghost use Rattle.model.specs.Numbers.{rangeEnd};
+ghost use Rattle.quick.specs.Sums.{Remembers};
 ghost use Rattle.beam_order.specs.Slots.{headerWords};
 ghost use Rattle.steps.specs.InBytes.{Outlined};
 ghost use Rattle.beam.specs.Layers.{Indexed};
-ghost use Rattle.search_expansion.specs.Expansion.{belowCost, boundedIn, triedIn, expandIn, Offered, Expandable, Grows, GrowsOfAny};
+ghost use Rattle.search_expansion.specs.Expansion.{belowCost, Arrives, boundedIn, triedIn, expandIn, Offered, Expandable, Grows, GrowsOfAny};
+use crate::trials::Arrival;
 use crate::trials::Best;
 use crate::trials::Expanded;
 use crate::trials::Parent;
@@ -23,6 +24,8 @@ use beam_order::slots::H_AT;
 use beam_order::slots::HEADER_WORDS;
 use outline::layout::PREPARED_WORDS;
 use outline::layout::STATE_WORDS;
+use quick::sums::SUM_WORDS;
+use quick::sums::forget;
 use steps::answers::BoundAnswer;
 use steps::answers::MoveAnswer;
 use steps::bounds::bound;
@@ -61,22 +64,23 @@ fn offer(
     }
 }
 
-// The child by transition t at cost c, with this state: h, then the offer.
+// The child that is arrived at, with this state: h, then the offer.
 fn bounded(
     layer: &mut [u64],
     model: &[u8],
     outline: &[u64; PREPARED_WORDS],
     n: usize,
     parent: Parent,
-    t: usize,
-    c: u64,
+    arrival: Arrival,
     state: &[u64; STATE_WORDS],
+    sums: &mut [u64; SUM_WORDS],
 ) -> Expanded
-    requires { ⌜ Expandable (now model) (now outline) n parent (now layer) × ((t < 256) × (c < rangeEnd)) ⌝ }
-    ensures { λ r. ⌜ GrowsOfAny (now (model .entry)) (now (outline .entry)) n parent (now (layer .entry)) (now (layer .exit)) r (boundedIn (now (model .entry)) (now (state .entry)) (parent .width) t c) ⌝ }
+    requires { ⌜ Expandable (now model) (now outline) n parent (now layer) × Arrives arrival × Remembers (now model) (now outline) (now sums) ⌝ }
+    ensures { λ r. ⌜ GrowsOfAny (now (model .entry)) (now (outline .entry)) n parent (now (layer .entry)) (now (layer .exit)) r (boundedIn (now (model .entry)) (now (state .entry)) (parent .width) (arrival .transition) (arrival .cost)) × Remembers (now (model .entry)) (now (outline .entry)) (now (sums .exit)) ⌝ }
 {
-    let g = combine(model, outline, parent.g, c);
-    match bound(model, outline, state) {
+    let t = arrival.transition;
+    let g = combine(model, outline, parent.g, arrival.cost);
+    match bound(model, outline, state, sums) {
         BoundAnswer::Value(h) => {
             let mut header = [0u64; HEADER_WORDS];
             header[G_AT] = g;
@@ -107,9 +111,10 @@ fn try_transition(
     state: &[u64; STATE_WORDS],
     parent: Parent,
     t: usize,
+    sums: &mut [u64; SUM_WORDS],
 ) -> Expanded
-    requires { ⌜ Expandable (now model) (now outline) n parent (now layer) × (t < 256) ⌝ }
-    ensures { λ r. ⌜ Grows (now (model .entry)) (now (outline .entry)) n parent (now (state .entry)) (now (layer .entry)) (now (layer .exit)) r (triedIn (now (model .entry)) (parent .width) t) ⌝ }
+    requires { ⌜ Expandable (now model) (now outline) n parent (now layer) × (t < 256) × Remembers (now model) (now outline) (now sums) ⌝ }
+    ensures { λ r. ⌜ Grows (now (model .entry)) (now (outline .entry)) n parent (now (state .entry)) (now (layer .entry)) (now (layer .exit)) r (triedIn (now (model .entry)) (parent .width) t) × Remembers (now (model .entry)) (now (outline .entry)) (now (sums .exit)) ⌝ }
 {
     let mut child = [0u64; STATE_WORDS];
     match step(model, outline, state, t, &mut child) {
@@ -118,7 +123,13 @@ fn try_transition(
             cut: false,
             trial: Trial::On,
         },
-        MoveAnswer::Moved(c) => bounded(layer, model, outline, n, parent, t, c, &child),
+        MoveAnswer::Moved(c) => {
+            let arrival = Arrival {
+                transition: t,
+                cost: c,
+            };
+            bounded(layer, model, outline, n, parent, arrival, &child, sums)
+        }
         MoveAnswer::Before(e) => Expanded {
             count: n,
             cut: false,
@@ -140,6 +151,7 @@ pub fn either(a: bool, b: bool) -> bool
 }
 
 // Expands the node with this state into the layer in the making. A transition that is not allowed is blocked, and not tried.
+// The bounds' sums are remembered from child to child.
 pub fn expand(
     layer: &mut [u64],
     model: &[u8],
@@ -154,10 +166,12 @@ pub fn expand(
     let all = transitions(model, outline);
     let mut count = n;
     let mut cut = false;
+    let mut sums = [0u64; SUM_WORDS];
+    forget(&mut sums);
     let mut t: usize = 0;
     while t < all {
         if allowed(model, outline, state, t) {
-            let x = try_transition(layer, model, outline, count, state, parent, t);
+            let x = try_transition(layer, model, outline, count, state, parent, t, &mut sums);
             count = x.count;
             cut = either(cut, x.cut);
             let trial = x.trial;

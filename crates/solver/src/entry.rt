@@ -5,6 +5,7 @@ ghost use mathlib.Core.Bool.{true};
 ghost use Prim.Native.Nat.{_≤_, _<_};
 ghost use Rattle.search.specs.Run.{isWidth, settingsFit, lentFits, refusedByInput};
 ghost use Rattle.steps.specs.InBytes.{Outlined, stateIn, systemIn, targetIn};
+ghost use Rattle.steps.specs.Answers.{boundAnswer};
 ghost use Rattle.search_report.specs.Answers.{AnswerIs, numbersOf, outcomeOf};
 ghost use Rattle.solver.specs.Searches.{Searchable, Searched, settings, lentOf, SearchSays, enteredOf, endedAtTarget};
 use crate::roots::write_root;
@@ -12,6 +13,8 @@ use beam_order::slots::SLOT_WORDS;
 use outline::layout::PREPARED_WORDS;
 use outline::layout::STATE_WORDS;
 use prepare::read_and_prepare;
+use quick::sums::SUM_WORDS;
+use quick::sums::forget;
 use search::length_fits;
 use search_report::answers::Answer;
 use search_report::answers::Outcome;
@@ -37,13 +40,27 @@ pub enum Entered {
     Trouble(u8),
 }
 
+// h of the target.
+fn target_bound(
+    model: &[u8],
+    outline: &[u64; PREPARED_WORDS],
+    target: &[u64; STATE_WORDS],
+) -> BoundAnswer
+    requires { ⌜ Outlined (now model) (now outline) ⌝ }
+    ensures { λ r. ⌜ r ≡ boundAnswer (systemIn (now (model .entry)) .bound (stateIn (now (model .entry)) (now (target .entry)))) ⌝ }
+{
+    let mut sums = [0u64; SUM_WORDS];
+    forget(&mut sums);
+    bound(model, outline, target, &mut sums)
+}
+
 // Tries the target: its constraints, then its bounds.
 fn enter(model: &[u8], outline: &[u64; PREPARED_WORDS], target: &[u64; STATE_WORDS]) -> Entered
     requires { ⌜ Outlined (now model) (now outline) × (stateIn (now model) (now target) ≡ targetIn (now model)) ⌝ }
     ensures { λ r. ⌜ r ≡ enteredOf (systemIn (now (model .entry)) .admits (targetIn (now (model .entry)))) (systemIn (now (model .entry)) .bound (targetIn (now (model .entry)))) ⌝ }
 {
     match constraints_hold(model, outline, target) {
-        HeldAnswer::All(_) => match bound(model, outline, target) {
+        HeldAnswer::All(_) => match target_bound(model, outline, target) {
             BoundAnswer::Value(h) => Entered::Bounded(h),
             BoundAnswer::Trouble(t) => Entered::Trouble(t),
         },

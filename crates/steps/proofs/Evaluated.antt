@@ -23,7 +23,7 @@ use Rattle.eval_tests.specs.Stopped.{stopped}
 use Rattle.eval_tests.proofs.Stopping.{stopped-within}
 use Rattle.prepare.proofs.Tested.{outline-describes}
 use Rattle.quick.specs.Entries.{EntryForm, entryAt}
-use Rattle.quick.proofs.Sums.{entry-says}
+use Rattle.quick.proofs.Compared.{entry-says}
 use Rattle.steps.specs.InBytes.{Outlined}
 use Rattle.steps.specs.Says.{ConditionSays, NumberSays, ElementSays, SetSays}
 

@@ -1,5 +1,5 @@
 -- Base cases, conjuncts of the constraints and bounds by their number: what is left of them, and the answers at the end.
-use Prim.Native.Nat.{ℕ, _+_, _*_, _≤_, _<_}
+use Prim.Native.Nat.{ℕ, _+_, _-_, _*_, _≤_, _<_}
 use mathlib.Core.Path.{_≡_, refl, sym, ap, _∙_}
 use mathlib.Core.Bool.{Bool, true, false, cond}
 use mathlib.Core.List.{List, [], _∷_}
@@ -31,7 +31,9 @@ use Rattle.steps.specs.declared.answers.BoundAnswer.the-variants as B
 use Rattle.steps.specs.InBytes.{Outlined, stateIn, systemIn}
 use Rattle.steps.specs.Answers.{heldAnswer, statusAnswer, boundAnswer}
 use Rattle.quick.specs.Quick.{QuickSays}
-use Rattle.steps.specs.Says.{ConditionSays, NumberSays, HeldSays, ConjunctSays, TestedSays}
+use Rattle.quick.specs.Sums.{boundPlace, BoundTold}
+use Rattle.quick.proofs.Totals.{number-is}
+use Rattle.steps.specs.Says.{ConditionSays, NumberSays, BoundSays, HeldSays, ConjunctSays, TestedSays}
 use Rattle.prepare.proofs.Items.{Nth, nth-of, Item, item-at}
 use Rattle.steps.proofs.Holding.{condition-holds, condition-troubles}
 
@@ -54,11 +56,6 @@ unfolding heldAnswer
 one-troubles (value true) n e = let z : _≡_ {A = ℕ} 0 1 = cc in absurd (omega arith)
 one-troubles (value false) n e = let z : _≡_ {A = ℕ} 0 1 = cc in absurd (omega arith)
 one-troubles (trouble t) n e = cc
-
-pub number-is : (v : Value ℤ) (n : ℕ) {z : ℤ} {k : ℕ} → numberAnswer v n ≡ N.Value z k → (v ≡ value z) × (n ≡ k)
-unfolding numberAnswer
-number-is (value a) n e = (cc, cc)
-number-is (trouble t) n e = let z : _≡_ {A = ℕ} 0 1 = cc in absurd (omega arith)
 
 pub number-troubles : (v : Value ℤ) (n : ℕ) {t : ℕ} → numberAnswer v n ≡ N.Trouble t → v ≡ trouble t
 unfolding numberAnswer
@@ -267,6 +264,15 @@ module _ {bytes words state : List ℕ} {k : ℕ} (passed : Meeting bytes words 
 
 -- ---- bounds
 
+-- a bound, in place or by the evaluators
+module _ {bytes words : List ℕ} (o : Outlined bytes words) (state : List ℕ) (k : ℕ) where
+  pub bound-in-place : (z : ℤ) → BoundTold bytes (boundPlace words k) words state z → mag z < rangeEnd → BoundSays bytes words state k (N.Value z 0)
+  unfolding numberAnswer
+  bound-in-place z told l = record { told = λ x n reads. (0, rw (told x n (o .outlines) reads l)); within = (l, omega arith) }
+
+  pub bound-evaluated : (r : NumberValue) → NumberSays bytes (boundPlace words k) state r → NumberWithin (length bytes - boundPlace words k) r → BoundSays bytes words state k r
+  bound-evaluated r says within = record { told = λ x n reads. (n, says x n reads); within = within }
+
 -- h is the greatest of those before k
 abbrev pub Raising : (bytes state : List ℕ) (k h : ℕ) → Type 0
 Raising bytes state k h = systemIn bytes .bound (stateIn bytes state) ≡ greatest rangeEnd (modelOf bytes) (drop k (modelOf bytes .bounds)) (stateIn bytes state) h
@@ -280,17 +286,20 @@ module _ (bytes state : List ℕ) (k h : ℕ) (passed : Raising bytes state k h)
   unfolding boundAnswer greatest bounds-from
   raising-last l = rw (none-left (bounds-from bytes state h) (modelOf bytes .bounds) k passed l)
 
-  module _ {at : ℕ} (i : BoundAt bytes k at) (r : NumberValue) (says : NumberSays bytes at state r) where
-    abbrev number : Value ℤ
-    number = numberValue rangeEnd (modelOf bytes .tables) (i .item) (stateIn bytes state)
+  module _ {words : List ℕ} (o : Outlined bytes words) (more : k < length (modelOf bytes .bounds)) (r : NumberValue) (says : BoundSays bytes words state k r) where
+    placed : BoundAt bytes k (boundPlace words k)
+    placed = bound-at o more refl
 
-    number-said : numberAnswer number (i .used) ≡ r
-    number-said = sym (says (i .item) (i .used) (i .reads))
+    abbrev number : Value ℤ
+    number = numberValue rangeEnd (modelOf bytes .tables) (placed .item) (stateIn bytes state)
+
+    number-said : (used : ℕ) × (numberAnswer number used ≡ r)
+    number-said = let s = says .told (placed .item) (placed .used) (placed .reads) in (s .0, sym (s .1))
 
     pub raising-more : {z : ℤ} {n : ℕ} → r ≡ N.Value z n → Raising bytes state (k + 1) (raise h z)
     unfolding bounds-from
-    raising-more e = with-value (bounds-from bytes state h) (modelOf bytes .bounds) k passed (i .rest) (number-is number (i .used) (number-said ∙ e) .0)
+    raising-more e = with-value (bounds-from bytes state h) (modelOf bytes .bounds) k passed (placed .rest) (number-is number (number-said .0) (number-said .1 ∙ e) .0)
 
     pub raising-troubles : {t : ℕ} → r ≡ N.Trouble t → B.Trouble t ≡ boundAnswer (systemIn bytes .bound (stateIn bytes state))
     unfolding boundAnswer bounds-from
-    raising-troubles e = rw (with-trouble (bounds-from bytes state h) (modelOf bytes .bounds) k passed (i .rest) (number-troubles number (i .used) (number-said ∙ e)))
+    raising-troubles e = rw (with-trouble (bounds-from bytes state h) (modelOf bytes .bounds) k passed (placed .rest) (number-troubles number (number-said .0) (number-said .1 ∙ e)))

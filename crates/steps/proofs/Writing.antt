@@ -35,7 +35,8 @@ use Rattle.steps.specs.Says.{effectList, NumberSays, ElementSays, SetSay
 use Rattle.laws.proofs.Lists.{found-below}
 use Rattle.steps.proofs.StateWords.{state-set}
 use Rattle.steps.proofs.Readings.{Listed, EffectAt, effects-listed, First, first-of, none-of, set-for, element-for, number-for}
-use Rattle.steps.proofs.Trials.{number-is, number-troubles}
+use Rattle.quick.proofs.Totals.{number-is}
+use Rattle.steps.proofs.Trials.{number-troubles}
 
 -- ---- costs and numbers, from the evaluator's answer
 

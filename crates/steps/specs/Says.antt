@@ -1,5 +1,5 @@
 -- What is promised of the parts of a model where they stand in its bytes: values in the state that the words stand for.
-use Prim.Native.Nat.{ℕ, _+_, _≤_, _<_}
+use Prim.Native.Nat.{ℕ, _+_, _-_, _≤_, _<_}
 use mathlib.Core.Path.{_≡_}
 use mathlib.Core.Bool.{Bool, false}
 use mathlib.Core.List.{List, []}
@@ -22,9 +22,11 @@ use Rattle.eval_sets.specs.declared.answers.ConditionValue.{ConditionValue}
 use Rattle.eval_sets.specs.declared.answers.ElementValue.{ElementValue}
 use Rattle.eval_sets.specs.declared.answers.SetValue.{SetValue}
 use Rattle.eval_sets.specs.Answers.{numberAnswer, conditionAnswer}
+use Rattle.eval_sets.specs.Bounds.{NumberWithin}
 use Rattle.eval_tests.specs.Stopped.{stopped}
 use Rattle.outline.specs.Outline.{modelOf}
 use Rattle.prepare.specs.Prepared.{ConjunctAt}
+use Rattle.quick.specs.Sums.{boundPlace}
 use Rattle.steps.specs.declared.answers.HeldAnswer.{HeldAnswer}
 use Rattle.steps.specs.declared.answers.CostAnswer.{CostAnswer}
 use Rattle.steps.specs.declared.answers.CostAnswer.the-variants as C
@@ -165,3 +167,9 @@ module _ (bytes : List ℕ) where
   -- where the answer is no, transition t is blocked
   abbrev pub AllowedSays : (state : List ℕ) (t : ℕ) → Bool → Type 0
   AllowedSays state t r = r ≡ false → systemIn bytes .move (stateIn bytes state) t ≡ blocked
+
+-- bound k's number, whatever bytes are told to be used
+pub record BoundSays (bytes words state : List ℕ) (k : ℕ) (r : NumberValue) : Type 0 where
+  pub told : (x : Number) (n : ℕ) → reading.number (modelOf bytes .variables) (modelOf bytes .tables) mostNesting (drop (boundPlace words k) bytes) ≡ read x n
+      → (used : ℕ) × (r ≡ numberAnswer (numberValue rangeEnd (modelOf bytes .tables) x (stateIn bytes state)) used)
+  pub within : NumberWithin (length bytes - boundPlace words k) r

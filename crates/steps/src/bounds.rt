@@ -2,9 +2,13 @@
 
 ghost use mathlib.Core.Path.{_≡_};
 ghost use Prim.Native.Nat.{_<_};
+ghost use lib.ListN.{length};
 ghost use Rattle.model.specs.Steps as steps;
+ghost use Rattle.outline.specs.Outline.{modelOf};
+ghost use Rattle.quick.specs.Sums.{Remembers};
 ghost use Rattle.steps.specs.InBytes.{Outlined, stateIn, systemIn};
 ghost use Rattle.steps.specs.Answers.{boundAnswer};
+ghost use Rattle.steps.specs.Says.{BoundSays};
 use crate::answers::BoundAnswer;
 use crate::parts::number_at;
 use eval_sets::answers::NumberValue;
@@ -13,6 +17,9 @@ use outline::layout::BOUNDS;
 use outline::layout::PREPARED_WORDS;
 use outline::layout::STATE_WORDS;
 use outline::word_at;
+use quick::sums::SUM_WORDS;
+use quick::sums::bound_sum;
+use words::arithmetic::in_range;
 
 // The greater of h and a bound's number.
 fn raise(h: u64, z: i64) -> u64
@@ -25,21 +32,39 @@ fn raise(h: u64, z: i64) -> u64
     if h < a { a } else { h }
 }
 
+// The value of bound k, a table's sum by its difference from the last one.
+fn bound_number(
+    model: &[u8],
+    outline: &[u64; PREPARED_WORDS],
+    state: &[u64; STATE_WORDS],
+    sums: &mut [u64; SUM_WORDS],
+    k: usize,
+) -> NumberValue
+    requires { ⌜ Outlined (now model) (now outline) × Remembers (now model) (now outline) (now sums) × (k < length (modelOf (now model) .bounds)) ⌝ }
+    ensures { λ r. ⌜ BoundSays (now (model .entry)) (now (outline .entry)) (now (state .entry)) k r × Remembers (now (model .entry)) (now (outline .entry)) (now (sums .exit)) ⌝ }
+{
+    let z = bound_sum(model, outline, state, sums, k);
+    if in_range(z) {
+        return NumberValue::Value(z, 0);
+    }
+    number_at(model, word_at(outline, BOUNDS + k) as usize, outline, state)
+}
+
 // Evaluates the bounds in their order.
 pub fn bound(
     model: &[u8],
     outline: &[u64; PREPARED_WORDS],
     state: &[u64; STATE_WORDS],
+    sums: &mut [u64; SUM_WORDS],
 ) -> BoundAnswer
-    requires { ⌜ Outlined (now model) (now outline) ⌝ }
-    ensures { λ r. ⌜ r ≡ boundAnswer (systemIn (now (model .entry)) .bound (stateIn (now (model .entry)) (now (state .entry)))) ⌝ }
+    requires { ⌜ Outlined (now model) (now outline) × Remembers (now model) (now outline) (now sums) ⌝ }
+    ensures { λ r. ⌜ (r ≡ boundAnswer (systemIn (now (model .entry)) .bound (stateIn (now (model .entry)) (now (state .entry))))) × Remembers (now (model .entry)) (now (outline .entry)) (now (sums .exit)) ⌝ }
 {
     let count = word_at(outline, BOUND_COUNT) as usize;
     let mut h: u64 = 0;
     let mut k: usize = 0;
     while k < count {
-        let at = word_at(outline, BOUNDS + k) as usize;
-        match number_at(model, at, outline, state) {
+        match bound_number(model, outline, state, sums, k) {
             NumberValue::Value(z, _) => {
                 h = raise(h, z);
                 k += 1;

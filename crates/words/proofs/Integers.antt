@@ -35,7 +35,7 @@ mag-sum (pos a) (negsuc b) = omega (arith, mag-sub (ltb a (suc b)) a (suc b))
 mag-sum (negsuc a) (pos b) = omega (arith, mag-sub (ltb b (suc a)) b (suc a))
 mag-sum (negsuc a) (negsuc b) = omega arith
 
-mag-neg : (z : ℤ) → mag (negℤ z) ≤ mag z + 1
+pub mag-neg : (z : ℤ) → mag (negℤ z) ≤ mag z + 1
 mag-neg (pos zero) = omega arith
 mag-neg (pos (suc n)) = omega arith
 mag-neg (negsuc n) = omega arith

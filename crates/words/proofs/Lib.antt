@@ -5,6 +5,7 @@ pub mod Members
 pub mod Entries
 pub mod Parts
 pub mod Sums
+pub mod Differences
 pub mod Covered
 pub mod Bytes
 pub mod FullSets

@@ -13,7 +13,7 @@ use lib.Pow.{pow-mono}
 use mathlib.Core.Bool.{false}
 use Rattle.model.specs.Sets.{isMember, consIf, membersFrom, members}
 
-half-lt : (n s : ℕ) → s < 2 ^ suc n → s / 2 < 2 ^ n
+pub half-lt : (n s : ℕ) → s < 2 ^ suc n → s / 2 < 2 ^ n
 half-lt n s h = omega (arith, pow-suc 2 n)
 
 two-cases : (b : ℕ) → b < 2 → (b ≡ 0) ⊎ (b ≡ 1)

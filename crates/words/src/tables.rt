@@ -7,8 +7,9 @@ ghost use lib.Signed.{mag};
 ghost use Rattle.model.specs.Numbers.{mostObjects, rangeEnd};
 ghost use Rattle.model.specs.Sets.{members};
 ghost use Rattle.model.specs.Meaning.{sumOver};
-ghost use Rattle.words.specs.Tables.{integerAt, cellAt, entryIn, columnsOf, cellsOf, atOf, half, Spaced, SomeOfHalf, Covered};
+ghost use Rattle.words.specs.Tables.{integerAt, cellAt, entryIn, columnsOf, cellsOf, atOf, columnSum, half, Spaced, SomeOfHalf, Covered};
 use crate::literals::integer;
+use crate::sets::difference;
 use crate::sizes::HALF;
 use crate::sizes::HALF_SETS;
 
@@ -99,9 +100,33 @@ fn walked(model: &[u8], table: u64, s: u64, from: u64, j: u64) -> i64
 // The range is not asked here: a half may leave it where the total does not.
 pub fn total(model: &[u8], table: u64, s: u64, j: u64) -> i64
     requires { ⌜ j < mostObjects ⌝ }
-    ensures { λ r. ⌜ r ≡ sumOver (λ i. entryIn (now (model .entry)) (atOf table) (columnsOf table) (cellsOf table) i j) (members s) ⌝ }
+    ensures { λ r. ⌜ r ≡ columnSum (now (model .entry)) table s j ⌝ }
 {
     let lower = walked(model, table, s % HALF_SETS, 0, j);
     let upper = walked(model, table, s / HALF_SETS, HALF, j);
     lower + upper
+}
+
+// The same sum, for a set of few members: each entry is asked for.
+fn few(model: &[u8], table: u64, s: u64, j: u64) -> i64
+    requires { ⌜ j < mostObjects ⌝ }
+    ensures { λ r. ⌜ (r ≡ columnSum (now (model .entry)) table s j) × (mag r ≤ mostObjects * rangeEnd) ⌝ }
+{
+    let mut left = s;
+    let mut sum: i64 = 0;
+    while left != 0 {
+        sum += entry(model, table, u64::trailing_zeros(left) as u64, j);
+        left = left & (left - 1);
+    }
+    sum
+}
+
+// The same sum from the sum over another set: less the entries of the members that are gone, plus those of the members that have come.
+pub fn total_from(model: &[u8], table: u64, known: u64, sum: i64, s: u64, j: u64) -> i64
+    requires { ⌜ (j < mostObjects) × (sum ≡ columnSum (now model) table known j) × (mag sum < rangeEnd) ⌝ }
+    ensures { λ r. ⌜ r ≡ columnSum (now (model .entry)) table s j ⌝ }
+{
+    let gone = few(model, table, difference(known, s), j);
+    let come = few(model, table, difference(s, known), j);
+    sum - gone + come
 }

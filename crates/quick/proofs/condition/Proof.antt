@@ -8,7 +8,7 @@ use mir.Val.{SFits}
 use mir.Syntax.{w64}
 use Rattle.words.proofs.Integers.{back, sum-fits}
 use Rattle.quick.specs.Quick.{SumForm, variableIn, entryIn, decided}
-use Rattle.quick.proofs.Sums.{sum-says, nothing-says}
+use Rattle.quick.proofs.Compared.{sum-says, nothing-says}
 use Rattle.quick.proofs.condition.Statement.{statement}
 use Rattle.quick.proofs.condition.Tie as tie
 

@@ -1,21 +1,26 @@
 -- `quick::entries::is_entry` meets its contract.
+use Prim.Native.Nat.{_+_, _≤_}
 use mathlib.Core.Path.{refl, sym, _∙_}
 use native.Mathlib.Omega.{arith}
 use borrow.Author.Needs.{needs}
+use lib.ListN.{length}
 use Rattle.laws.proofs.Bools.{not-both}
 use Rattle.quick.proofs.entries.is_entry.Statement.{statement}
 use Rattle.quick.proofs.entries.is_entry.Tie as tie
 
-returns-3 : tie.Need-returns-3
-returns-3 c e =
-    let short : tie.Else1 = search in
-    let far : tie.Else2 = search in
-    let first : tie.Then3 = search in
-    let second : tie.Then4 = search in
+-- 6 bytes stand there
+inside : (c : tie.Then1) → c .before .before .before .args .at + 6 ≤ length (c .before .before .before .args .model .now)
+inside c = c .before .stands .ensures (c .if1 .taken)
+
+returns : tie.Need-returns
+returns c e =
+    let t : tie.Then1 = search in
+    let first : tie.Then2 = search in
+    let second : tie.Then3 = search in
     record {
-      inside = omega (arith, far .if2 .left, short .if1 .left);
-      entry = first .if3 .taken;
-      row = sym (second .before .begins-element .ensures) ∙ second .if4 .taken;
+      inside = inside t;
+      entry = first .if2 .taken;
+      row = sym (second .before .begins-element .ensures) ∙ second .if3 .taken;
       column = sym (c .begins-element2 .ensures) ∙ e;
     }
 
@@ -23,16 +28,15 @@ pub is-entry-spec : {M : Type 1} → statement M
 is-entry-spec =
     tie.close
     (tie.spec
-    (λ c e. absurd (not-both e refl))
-    (λ c. search needs)
-    (λ c e. absurd (not-both e refl))
-    (λ c. search needs)
-    (λ c. search needs)
-    (λ c. search needs)
     (λ c κs. search needs)
-    (λ c. search needs)
-    (λ c. search needs)
+    (λ c. let t : tie.Then1 = search in omega (arith, inside t))
+    (λ c. let t : tie.Then1 = search in record { fits = omega (arith, inside t) })
+    (λ c. let t : tie.Then1 = search in omega (arith, inside t))
     (λ c κs. search needs)
-    returns-3
+    (λ c. let t : tie.Then1 = search in record { fits = omega (arith, inside t) })
+    (λ c. let t : tie.Then1 = search in omega (arith, inside t))
+    (λ c κs. search needs)
+    returns
+    (λ c e. absurd (not-both e refl))
     (λ c e. absurd (not-both e refl))
     (λ c e. absurd (not-both e refl)))

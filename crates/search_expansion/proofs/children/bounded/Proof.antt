@@ -11,7 +11,7 @@ abbrev asked : tie.After-combine2 → tie.After-bound
 asked c = c .before .before .before .before
 
 abbrev summed : tie.After-bound → tie.After-combine
-summed c = c .before
+summed c = c .before .before
 
 abbrev begun : tie.After-combine → tie.Start
 begun c = c .before .before .before
@@ -19,14 +19,14 @@ begun c = c .before .before .before
 combine-requires : tie.Need-combine-requires
 combine-requires c κs =
     let start : tie.Start = search in
-    (start .pre .0 .outlined, omega (arith, start .pre .0 .small, start .pre .1 .1))
+    (start .pre .0 .outlined, omega (arith, start .pre .0 .small, start .pre .1 .cost))
 
 combine-requires-2 : tie.Need-combine-requires-2
 combine-requires-2 c κs =
     let start : tie.Start = search in
     let summed : tie.After-combine = search in
     let asked : tie.After-bound = search in
-    (start .pre .0 .outlined, f-fits _ _ _ _ _ _ (start .pre .0 .small) (start .pre .1 .1) (summed .combine .ensures) (sym (asked .bound .ensures) ∙ c .before .h .given .1))
+    (start .pre .0 .outlined, f-fits _ _ _ _ _ _ (start .pre .0 .small) (start .pre .1 .cost) (summed .combine .ensures) (sym (asked .bound .ensures .0) ∙ c .before .h .given .1))
 
 offer-requires : tie.Need-offer-requires
 offer-requires c κs =
@@ -37,28 +37,33 @@ returns : tie.Need-returns
 returns c =
     let offered : tie.After-offer = search in
     let total : tie.After-combine2 = search in
-    let here = asked total in
-    record {
-      grows = λ state.
-          bounded-value _ _ _ _ state _ _ _ _ (offered .offer .result) (begun (summed here) .pre .1 .0) (sym (here .bound .ensures) ∙ total .before .before .h .given .1)
-          (summed here .combine .ensures) (total .combine2 .ensures) (offered .offer .ensures);
-    }
+    let here = asked total in (
+      record {
+        grows = λ state.
+            bounded-value _ _ _ _ state _ _ _ _ (offered .offer .result) (begun (summed here) .pre .1 .transition) (sym (here .bound .ensures .0) ∙ total .before .before .h .given .1)
+            (summed here .combine .ensures) (total .combine2 .ensures) (offered .offer .ensures);
+      },
+      here .bound .ensures .1,
+    )
 
 returns-2 : tie.Need-returns-2
 returns-2 c =
     let start : tie.Start = search in
     let summed : tie.After-combine = search in
-    let asked : tie.After-bound = search in
-    record {
-      grows = λ state. bounded-trouble _ _ _ _ state _ _ _ _ (start .pre .1 .0) (sym (asked .bound .ensures) ∙ c .before .e .given .1) (summed .combine .ensures) (start .pre .0 .held);
-    }
+    let asked : tie.After-bound = search in (
+      record {
+        grows = λ state.
+            bounded-trouble _ _ _ _ state _ _ _ _ (start .pre .1 .transition) (sym (asked .bound .ensures .0) ∙ c .before .e .given .1) (summed .combine .ensures) (start .pre .0 .held);
+      },
+      asked .bound .ensures .1,
+    )
 
 pub bounded-spec : {M : Type 1} → statement M
 bounded-spec =
     tie.close
     (tie.spec
     combine-requires
-    (λ c κs. search needs)
+    (λ c κs. let start : tie.Start = search in (start .pre .0 .outlined, start .pre .2))
     (λ c. search needs)
     (λ c. search needs)
     (λ c. search needs)

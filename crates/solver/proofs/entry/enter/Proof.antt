@@ -9,16 +9,16 @@ returns c =
     let start : tie.Start = search in
     let tried : tie.After-constraints-hold = search in
     let held : tie.After-enum-told = search in
-    let asked : tie.After-bound = search in
-    enter-bounded _ _ (start .pre .1) _ (tried .constraints-hold .ensures) (held .enum-told .given .1) _ (asked .bound .ensures) (c .before .h .given .1)
+    let asked : tie.After-target-bound = search in
+    enter-bounded _ _ (start .pre .1) _ (tried .constraints-hold .ensures) (held .enum-told .given .1) _ (asked .target-bound .ensures) (c .before .h .given .1)
 
 returns-2 : tie.Need-returns-2
 returns-2 c =
     let start : tie.Start = search in
     let tried : tie.After-constraints-hold = search in
     let held : tie.After-enum-told = search in
-    let asked : tie.After-bound = search in
-    enter-unbounded _ _ (start .pre .1) _ (tried .constraints-hold .ensures) (held .enum-told .given .1) _ (asked .bound .ensures) (c .before .t .given .1)
+    let asked : tie.After-target-bound = search in
+    enter-unbounded _ _ (start .pre .1) _ (tried .constraints-hold .ensures) (held .enum-told .given .1) _ (asked .target-bound .ensures) (c .before .t .given .1)
 
 returns-3 : tie.Need-returns-3
 returns-3 c =

@@ -34,7 +34,7 @@ use Rattle.quick.specs.Entries.{EntryForm, entryAt}
 use Rattle.quick.proofs.Changes.{element-run}
 use Rattle.quick.specs.Quick.{SumForm, variableIn, entryIn, SumIs, decided, Told, QuickSays}
 
-fits-value : (z : ℤ) → mag z < rangeEnd → fits z ≡ value z
+pub fits-value : (z : ℤ) → mag z < rangeEnd → fits z ≡ value z
 unfolding inRange
 fits-value z l = rw (lt-ltb (mag z) rangeEnd l)
 
@@ -51,7 +51,7 @@ module _ (p : Environment) (bytes : List ℕ) where
       ∙ ap (λ (v : ℕ). numberAnswer (fits (pos (getD (p .state) v 0 % rangeSize) -ℤ pos rangeEnd)) 2) (sym (first-at (at + 1) bytes))
 
   -- 20 and an i32
-  literal-run : (d at : ℕ) (c : ℤ) → (d ≡ 0 → ⊥) → at + 5 ≤ length bytes → getD bytes at 0 ≡ 0x20 → integer (drop (at + 1) bytes) ≡ read c 4 → runNumber d p (drop at bytes) ≡ numberAnswer (fits c) 5
+  pub literal-run : (d at : ℕ) (c : ℤ) → (d ≡ 0 → ⊥) → at + 5 ≤ length bytes → getD bytes at 0 ≡ 0x20 → integer (drop (at + 1) bytes) ≡ read c 4 → runNumber d p (drop at bytes) ≡ numberAnswer (fits c) 5
   unfolding numberForm numberAt numberBehind literalNumber literalValue
   literal-run d at c some l b h =
       number-opens p .opened d at bytes some (omega arith) b
