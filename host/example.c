@@ -1,11 +1,12 @@
-/* A scheduler's use of the planner: plans the model file named by the first argument, then has the plan checked. */
+/* A scheduler's use of the planner: plans the model file named by the first argument, then has the plan checked. A pure loading order
+ * needs no length limit; other models are searched with one. */
 #include "repgypsum.h"
 
 #include <inttypes.h>
 #include <stdio.h>
 #include <stdlib.h>
 
-enum { WIDTH = 16, LENGTH = 64, BUDGET = 100000, LONGEST_MODEL = REPGYPSUM_MOST_MODEL_BYTES };
+enum { WIDTH = 16, LENGTH = REPGYPSUM_MOST_OBJECTS, BUDGET = 100000, LONGEST_MODEL = REPGYPSUM_MOST_MODEL_BYTES };
 
 /* Reads a file of at most one byte more than the longest model; answers how many bytes it has, or -1. */
 static long read_model(const char *path, uint8_t *model)
@@ -53,8 +54,11 @@ int main(int argc, char **argv)
         perror(argv[1]);
         return 2;
     }
-    struct repgypsum_answer a = repgypsum_search(model, (uintptr_t)n, WIDTH, LENGTH, BUDGET, plan, sizeof plan, words,
-                                                 sizeof words / sizeof *words);
+    uintptr_t lent = sizeof words / sizeof *words;
+    struct repgypsum_answer a = repgypsum_load(model, (uintptr_t)n, WIDTH, BUDGET, plan, sizeof plan, words, lent);
+    if (a.refused && a.verdict == REPGYPSUM_OUTSIDE_PROFILE) {
+        a = repgypsum_search(model, (uintptr_t)n, WIDTH, LENGTH, BUDGET, plan, sizeof plan, words, lent);
+    }
     if (a.refused) {
         printf("refused %" PRIu32 "\n", a.verdict);
         print_plan("path:", plan, a.length);

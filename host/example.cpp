@@ -10,7 +10,7 @@
 
 namespace {
 
-constexpr std::uint32_t width = 16, length = 64, budget = 100000;
+constexpr std::uint32_t width = 16, length = REPGYPSUM_MOST_OBJECTS, budget = 100000;
 
 struct Run {
     std::string path;
@@ -29,8 +29,12 @@ struct Run {
         const std::vector<std::uint8_t> model{std::istreambuf_iterator<char>(file), std::istreambuf_iterator<char>()};
         read = true;
         std::vector<std::uint64_t> words(REPGYPSUM_WORDS(width, length));
-        answer = repgypsum_search(model.data(), model.size(), width, length, budget, plan.data(), plan.size(), words.data(),
-                                  words.size());
+        // A pure loading order needs no length limit; other models are searched with one.
+        answer = repgypsum_load(model.data(), model.size(), width, budget, plan.data(), plan.size(), words.data(), words.size());
+        if (answer.refused && answer.verdict == REPGYPSUM_OUTSIDE_PROFILE) {
+            answer = repgypsum_search(model.data(), model.size(), width, length, budget, plan.data(), plan.size(), words.data(),
+                                      words.size());
+        }
         plan.resize(answer.length);
         checked = repgypsum_check_answer(model.data(), model.size(), plan.data(), plan.size());
         cost = repgypsum_check_cost(model.data(), model.size(), plan.data(), plan.size());

@@ -7,7 +7,8 @@
  *
  * - A pointer has as many elements behind it as its length says, and may be null only where that is 0.
  * - `words` is aligned as uint64_t is, to 8 bytes. Bytes need no alignment.
- * - The buffers of a search do not overlap: `model`, `plan` and `words` are apart. Those of a plan check are only read and may.
+ * - The buffers of a search do not overlap, with a length or without: `model`, `plan` and `words` are apart. Those of a plan check
+ *   are only read and may.
  * - Nobody else writes to a lent buffer during the call.
  *
  * Threads: there is no shared state. Nothing is allocated, nothing is kept between calls, and no variable outlives one; calls with
@@ -28,11 +29,13 @@
 #define REPGYPSUM_VERSION_MINOR 1
 #define REPGYPSUM_VERSION_PATCH 0
 
-/* Limits: bytes of a model, the widest beam, steps of a plan (and so the length limit), transitions. */
+/* Limits: bytes of a model, the widest beam, steps of a plan (and so the length limit), transitions, objects of a set (and so the
+ * length that repgypsum_load chooses). */
 #define REPGYPSUM_MOST_MODEL_BYTES 65536
 #define REPGYPSUM_MOST_WIDTH 4096
 #define REPGYPSUM_MOST_STEPS 256
 #define REPGYPSUM_MOST_TRANSITIONS 256
+#define REPGYPSUM_MOST_OBJECTS 64
 
 #ifdef __cplusplus
 extern "C" {
@@ -44,12 +47,12 @@ enum repgypsum_verdict {
     REPGYPSUM_CHEAPEST = 0,     /* the plan costs no more than any other, if the declarations are true */
     REPGYPSUM_NO_PLAN = 1,      /* there is none, if the declarations are true, or if the target breaks a constraint */
     REPGYPSUM_WIDTH_STOP = 2,   /* some layer has more states than the widest beam */
-    REPGYPSUM_LENGTH_STOP = 3,  /* some unfinished state lies at the length limit */
+    REPGYPSUM_LENGTH_STOP = 3,  /* some unfinished state lies at the length limit; never from repgypsum_load */
     REPGYPSUM_BUDGET_SPENT = 4,
     REPGYPSUM_CONTRADICTED = 5  /* some declaration is false */
 };
 
-/* Why a call was refused: 1 to 9 by the input, 11 to 14 by a state. */
+/* Why a call was refused: 1 to 9 and 15 by the input, 11 to 14 by a state. */
 enum repgypsum_refusal {
     REPGYPSUM_MODEL_TOO_LONG = 1,   /* over 65,536 bytes */
     REPGYPSUM_BAD_SETTING = 2,      /* a setting out of range, or a plan of over 256 steps */
@@ -63,7 +66,8 @@ enum repgypsum_refusal {
     REPGYPSUM_OUT_OF_RANGE = 11,    /* a number expression left -2^31 .. 2^31 - 1 */
     REPGYPSUM_DIVISOR_ZERO = 12,
     REPGYPSUM_NEGATIVE_COST = 13,
-    REPGYPSUM_NOT_A_PLAN = 14       /* plan check only; always where the target breaks a constraint */
+    REPGYPSUM_NOT_A_PLAN = 14,      /* plan check only; always where the target breaks a constraint */
+    REPGYPSUM_OUTSIDE_PROFILE = 15  /* repgypsum_load only: the model is no pure loading order */
 };
 
 /* The answer of a search. At a refusal by the input all fields but the first two are 0. At a refusal by a state cost, length
@@ -89,6 +93,15 @@ struct repgypsum_answer {
  * memory; its values afterwards mean nothing. A refusal by the input changes neither. */
 struct repgypsum_answer repgypsum_search(const uint8_t *model, uintptr_t model_len, uint32_t width, uint32_t length, uint32_t budget,
                                          uint8_t *plan, uintptr_t plan_len, uint64_t *words, uintptr_t words_len);
+
+/* The same for models in the loading profile, where the length is chosen: the number of start members of set variable 0, or 1 if there
+ * are none. Such a model loads each design once: variable 0 is a set, every transition has a condition that a literal object is in
+ * variable 0 and an effect that removes that same literal from it, and the one base case has the one condition that variable 0 is empty
+ * (docs/FORMAT.md, "Loading profile"). No run ends with REPGYPSUM_LENGTH_STOP.
+ * Refusals by the input come in the order 1; 2, for the width alone; 4 to 9; 15; 3, where fewer than REPGYPSUM_PLAN_BYTES or
+ * REPGYPSUM_WORDS for that length are lent. With REPGYPSUM_MOST_OBJECTS as length, enough is lent for every model. */
+struct repgypsum_answer repgypsum_load(const uint8_t *model, uintptr_t model_len, uint32_t width, uint32_t budget, uint8_t *plan,
+                                       uintptr_t plan_len, uint64_t *words, uintptr_t words_len);
 
 /* The plan check, the target's constraints first and then step by step: 0 exactly if the bytes are a plan of the model, else the
  * refusal's number. */

@@ -1,5 +1,6 @@
 //! The stored cases: calls, with the answers of the reference.
 
+pub mod loads;
 pub mod meaning;
 pub mod plans;
 pub mod reading;
@@ -9,7 +10,7 @@ pub mod text;
 use crate::answer::Answer;
 use crate::build::Bytes;
 use crate::numbers::words_needed;
-use crate::reference::{plan_check, search};
+use crate::reference::{load, plan_check, search};
 
 /// The byte with which lent plan buffers are filled.
 pub const FILL: u8 = 0xA5;
@@ -18,6 +19,7 @@ pub const FILL: u8 = 0xA5;
 pub enum Call {
     Check { model: Bytes, plan: Bytes },
     Search(Search),
+    Load(Load),
 }
 
 /// A search at these settings, with what is lent to it: a plan buffer, and so many words.
@@ -26,6 +28,16 @@ pub struct Search {
     pub model: Bytes,
     pub width: u64,
     pub length: u64,
+    pub budget: u64,
+    pub buffer: Bytes,
+    pub words: u64,
+}
+
+/// The same in the loading profile, which chooses the length.
+#[derive(Clone, PartialEq, Eq, Debug)]
+pub struct Load {
+    pub model: Bytes,
+    pub width: u64,
     pub budget: u64,
     pub buffer: Bytes,
     pub words: u64,
@@ -54,6 +66,7 @@ impl Call {
         match self {
             Call::Check { model, .. } => model,
             Call::Search(search) => &search.model,
+            Call::Load(load) => &load.model,
         }
     }
 
@@ -66,6 +79,10 @@ impl Call {
             }
             Call::Search(search) => {
                 let (answer, after) = search.run();
+                Outcome::Search(answer, after)
+            }
+            Call::Load(load) => {
+                let (answer, after) = load.run();
                 Outcome::Search(answer, after)
             }
         }
@@ -84,6 +101,15 @@ impl Search {
             &mut after,
             self.words,
         );
+        (answer, after)
+    }
+}
+
+impl Load {
+    /// The reference's answer, and the plan buffer afterwards.
+    pub fn run(&self) -> (Answer, Bytes) {
+        let mut after = self.buffer.clone();
+        let answer = load(&self.model, self.width, self.budget, &mut after, self.words);
         (answer, after)
     }
 }
@@ -168,6 +194,25 @@ impl Cases {
         let (width, length, budget) = settings;
         self.add(note, Call::search(model, width, length, budget), stated);
     }
+
+    /// A search in the loading profile with these buffers, whose fields are stated.
+    pub fn load(
+        &mut self,
+        note: &str,
+        model: Bytes,
+        (width, budget): (u64, u64),
+        (plan_bytes, words): (usize, u64),
+        stated: &str,
+    ) {
+        let load = Load {
+            model,
+            width,
+            budget,
+            buffer: vec![FILL; plan_bytes],
+            words,
+        };
+        self.add(note, Call::Load(load), stated);
+    }
 }
 
 /// The groups of cases by the name of their files.
@@ -177,5 +222,6 @@ pub fn groups() -> Vec<(&'static str, Vec<Case>)> {
         ("Meaning", meaning::cases()),
         ("Plans", plans::cases()),
         ("Searches", searches::cases()),
+        ("Loads", loads::cases()),
     ]
 }

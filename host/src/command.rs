@@ -14,6 +14,7 @@ mod long_runs;
 mod markup;
 mod part;
 mod plan;
+mod profile;
 mod quotations;
 mod refusals;
 mod settings;

@@ -1,5 +1,7 @@
 //! Seeded random models, well made and damaged, and random settings.
 
+pub mod loading;
+
 use crate::build::*;
 use crate::reference::read_model;
 use crate::reference::syntax::Variable;

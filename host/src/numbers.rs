@@ -1,7 +1,7 @@
 //! The numbers that document 01 fixes, under the names that the definitions give them (crates/model/specs/Numbers.antt,
 //! crates/search/specs/Answer.antt and Run.antt).
 
-/// Refusals: 1 to 9 by the input, 11 to 14 by a state.
+/// Refusals: 1 to 9 and 15 by the input, 11 to 14 by a state.
 pub mod refusal {
     pub const MODEL_TOO_LONG: u8 = 1;
     pub const BAD_SETTING: u8 = 2;
@@ -16,6 +16,12 @@ pub mod refusal {
     pub const DIVISOR_ZERO: u8 = 12;
     pub const NEGATIVE_COST: u8 = 13;
     pub const NOT_A_PLAN: u8 = 14;
+    pub const OUTSIDE_PROFILE: u8 = 15;
+
+    /// Whether the refusal was met in a state of a search, so that a path leads to it.
+    pub fn by_state(number: u8) -> bool {
+        (OUT_OF_RANGE..=NEGATIVE_COST).contains(&number)
+    }
 }
 
 /// How a run that is not refused ends.

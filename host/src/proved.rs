@@ -16,12 +16,38 @@ struct Fields {
     width: u64,
 }
 
+impl Fields {
+    fn answer(self) -> Answer {
+        Answer {
+            refused: self.refused == 1,
+            verdict: self.verdict as u8,
+            flag: self.flag == 1,
+            cost: self.cost,
+            bound: self.bound,
+            length: self.length,
+            expansions: self.expansions,
+            rounds: self.rounds,
+            width: self.width,
+        }
+    }
+}
+
 extern "C" {
     fn repgypsum_search(
         model: *const u8,
         model_len: usize,
         width: u32,
         length: u32,
+        budget: u32,
+        plan: *mut u8,
+        plan_len: usize,
+        words: *mut u64,
+        words_len: usize,
+    ) -> Fields;
+    fn repgypsum_load(
+        model: *const u8,
+        model_len: usize,
+        width: u32,
         budget: u32,
         plan: *mut u8,
         plan_len: usize,
@@ -65,17 +91,25 @@ pub fn search(
             words.len(),
         )
     };
-    Answer {
-        refused: fields.refused == 1,
-        verdict: fields.verdict as u8,
-        flag: fields.flag == 1,
-        cost: fields.cost,
-        bound: fields.bound,
-        length: fields.length,
-        expansions: fields.expansions,
-        rounds: fields.rounds,
-        width: fields.width,
-    }
+    fields.answer()
+}
+
+/// Searches in the loading profile, which chooses the length.
+pub fn load(model: &[u8], width: u32, budget: u32, plan: &mut [u8], words: &mut [u64]) -> Answer {
+    // Safety: as above.
+    let fields = unsafe {
+        repgypsum_load(
+            model.as_ptr(),
+            model.len(),
+            width,
+            budget,
+            plan.as_mut_ptr(),
+            plan.len(),
+            words.as_mut_ptr(),
+            words.len(),
+        )
+    };
+    fields.answer()
 }
 
 /// The plan check's answer number, and the cost where it is 0.

@@ -1,7 +1,8 @@
-//! Documents 01 and 02 as plain code, written for reading: model, meaning, plan check and search.
+//! Documents 01 and 02 as plain code, written for reading: model, meaning, plan check, loading profile and search.
 
 pub mod check;
 pub mod meaning;
+pub mod profile;
 pub mod read;
 pub mod search;
 pub mod syntax;
@@ -9,5 +10,5 @@ pub mod syntax;
 pub use check::plan_check;
 pub use meaning::{State, Value};
 pub use read::read_model;
-pub use search::search;
+pub use search::{load, search};
 pub use syntax::Model;

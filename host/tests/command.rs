@@ -16,6 +16,8 @@ mod fuzz;
 mod json;
 #[path = "command/json_text.rs"]
 mod json_text;
+#[path = "command/loading.rs"]
+mod loading;
 #[path = "command/long_runs.rs"]
 mod long_runs;
 #[path = "command/markup.rs"]
@@ -141,8 +143,9 @@ fn file(name: &str, content: &[u8]) -> String {
 }
 
 /// The names of the examples.
-const EXAMPLES: [&str; 6] = [
+const EXAMPLES: [&str; 7] = [
     "assembly-line",
+    "loading-order",
     "open-stacks",
     "sop",
     "tardiness",

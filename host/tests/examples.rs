@@ -38,6 +38,7 @@ fn model(name: &str) -> Vec<u8> {
 fn examples_print_their_lines() {
     let due = [
         "assembly-line",
+        "loading-order",
         "open-stacks",
         "sop",
         "tardiness",

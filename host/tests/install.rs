@@ -151,7 +151,7 @@ fn installed_programs_run() {
         let several = ["c++", "-std=c++17"];
         for (shared, name) in [(false, "cpp-archive"), (true, "cpp-shared")] {
             let program = compiled(&several, &host().join("example.cpp"), &prefix, shared, name);
-            // Thirty threads at once, five for each example, each with the answer that one alone has.
+            // Thirty-five threads at once, five for each example, each with the answer that one alone has.
             let (mut models, mut lines) = (Vec::new(), String::new());
             for _ in 0..5 {
                 for example in [
@@ -161,6 +161,7 @@ fn installed_programs_run() {
                     "tardiness",
                     "open-stacks",
                     "assembly-line",
+                    "loading-order",
                 ] {
                     models.push(root().join(format!("examples/{example}.model")));
                     lines += &line(example);
@@ -254,6 +255,7 @@ fn what_the_libraries_have() {
     let functions = [
         "repgypsum_check_answer",
         "repgypsum_check_cost",
+        "repgypsum_load",
         "repgypsum_search",
     ];
     let archive = root().join("target/staticlib/librepgypsum.a");
@@ -310,6 +312,7 @@ fn the_header_has_version_and_limits() {
         ("WIDTH", limit::WIDTH),
         ("STEPS", limit::LENGTH),
         ("TRANSITIONS", limit::TRANSITIONS as u64),
+        ("OBJECTS", u64::from(limit::OBJECTS)),
     ];
     for (name, value) in limits {
         assert_eq!(

@@ -53,7 +53,7 @@ fn refusals_and_sizes() {
     let definitions = text("crates/model/specs/Numbers.antt");
     let (refusals, sizes) = definitions.split_once("---- sizes").expect("two parts");
     let refusals = equations(refusals, "");
-    assert_eq!(refusals.len(), 13);
+    assert_eq!(refusals.len(), 14);
     for (name, number) in refusals {
         assert!(in_rust(&name, number) && in_c(&name, number), "{name}");
     }

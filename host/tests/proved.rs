@@ -7,7 +7,10 @@ use repgypsum_host::cases::{groups, Call, Outcome};
 use repgypsum_host::enumerate::Space;
 use repgypsum_host::families::families;
 use repgypsum_host::fast;
+use repgypsum_host::generate::loading::{inside, outside, WAYS};
 use repgypsum_host::generate::{damaged, with_any_target, Random};
+use repgypsum_host::numbers::refusal::{by_state, OUTSIDE_PROFILE};
+use repgypsum_host::numbers::verdict::LENGTH_STOP;
 use repgypsum_host::numbers::words_needed;
 use repgypsum_host::proved;
 use repgypsum_host::reference::{self, read_model};
@@ -53,7 +56,29 @@ fn compare(
     let call = format!("W {width} L {length} budget {budget}: {model:02x?}");
     assert_eq!(answer, expected, "{call}");
     assert_eq!(plan, expected_plan, "{call}");
-    if answer.refused && answer.verdict < 11 {
+    if answer.refused && !by_state(answer.verdict) {
+        assert!(words.iter().all(|word| *word == WORD), "{call}");
+    }
+    (answer, plan)
+}
+
+/// The same for a search in the loading profile.
+fn compare_load(
+    model: &[u8],
+    (width, budget): (u64, u64),
+    plan_bytes: usize,
+    lent: u64,
+) -> (Answer, Vec<u8>) {
+    let mut expected_plan = vec![FILL; plan_bytes];
+    let expected = reference::load(model, width, budget, &mut expected_plan, lent);
+    let mut plan = vec![FILL; plan_bytes];
+    let mut words = vec![WORD; lent as usize];
+    let (narrow, few) = (width as u32, budget as u32);
+    let answer = proved::load(model, narrow, few, &mut plan, &mut words);
+    let call = format!("W {width} budget {budget}, {plan_bytes} bytes, {lent} words: {model:02x?}");
+    assert_eq!(answer, expected, "{call}");
+    assert_eq!(plan, expected_plan, "{call}");
+    if answer.refused && !by_state(answer.verdict) {
         assert!(words.iter().all(|word| *word == WORD), "{call}");
     }
     (answer, plan)
@@ -69,6 +94,7 @@ fn compare_at(model: &[u8], settings: (u64, u64, u64), more: usize) -> (Answer, 
 #[test]
 fn stored_cases() {
     let mut searches = 0;
+    let mut loads = 0;
     let mut checks = 0;
     for (_, cases) in groups() {
         for case in cases {
@@ -83,12 +109,17 @@ fn stored_cases() {
                     compare(&search.model, settings, search.buffer.len(), words);
                     searches += 1;
                 }
+                (Call::Load(load), Outcome::Search(..)) => {
+                    let settings = (load.width, load.budget);
+                    compare_load(&load.model, settings, load.buffer.len(), load.words);
+                    loads += 1;
+                }
                 _ => unreachable!("a call has its own outcome"),
             }
         }
     }
-    println!("{searches} searches, {checks} plan checks");
-    assert!(searches >= 150 && checks >= 400);
+    println!("{searches} searches, {loads} in the loading profile, {checks} plan checks");
+    assert!(searches >= 150 && loads >= 100 && checks >= 400);
 }
 
 /// Random models at random settings; demand 3's sentences by enumeration where the model is small enough.
@@ -239,6 +270,69 @@ fn damaged_calls() {
     assert!([0, 2, 3, 4, 5, 6, 7, 9]
         .iter()
         .all(|number| refusals[*number] >= 20));
+}
+
+/// Models in the loading profile with what is due, a little less and a little more; the plain run at that length is the same.
+#[test]
+fn random_loads() {
+    let mut random = Random::new(0x10AD);
+    let mut verdicts = [0; 6];
+    let mut refusals = [0; 16];
+    for _ in 0..models() {
+        let bytes = inside(&mut random).end();
+        let read = read_model(&bytes).expect("a generated model is well made");
+        let (width, _, budget) = settings(&mut random);
+        let length = read.loading_length();
+        let bytes_lent = random.pick(&[length, length, length, length + 2, length - 1]);
+        let words = words_needed(width, length);
+        let lent = random.pick(&[words, words, words, words + 3, words - 1]);
+        let (answer, plan) = compare_load(&bytes, (width, budget), bytes_lent as usize, lent);
+        let plain = compare(&bytes, (width, length, budget), bytes_lent as usize, lent);
+        assert_eq!((answer, &plan), (plain.0, &plain.1), "{bytes:02x?}");
+        if answer.refused {
+            refusals[usize::from(answer.verdict)] += 1;
+            continue;
+        }
+        verdicts[usize::from(answer.verdict)] += 1;
+        if answer.flag {
+            let plan = &plan[..answer.length as usize];
+            assert_eq!(proved::plan_check(&bytes, plan), (0, answer.cost));
+        }
+    }
+    println!("verdicts 0 to 5 {verdicts:?}, refusals by number {refusals:?}");
+    assert_eq!(verdicts[usize::from(LENGTH_STOP)], 0);
+    let met = verdicts.iter().filter(|met| **met >= 20).count();
+    assert_eq!(met, 5);
+    assert!([3, 11, 12, 13].iter().all(|number| refusals[*number] >= 20));
+}
+
+/// Each way to be outside the loading profile, models of every kind, and damaged ones: the same refusals, and nothing lent is changed.
+#[test]
+fn refused_loads() {
+    let mut random = Random::new(0x0FF);
+    let mut refusals = [0; 16];
+    for turn in 0..models() {
+        let build = match random.below(4) {
+            0 => with_any_target(&mut random),
+            1 => inside(&mut random),
+            _ => outside(&mut random, WAYS[turn % WAYS.len()]),
+        };
+        let damage = random.chance(25);
+        let bytes = match damage {
+            true => damaged(&mut random, &build),
+            false => build.end(),
+        };
+        let width = random.pick(&[1, 2, 4, 16, 16, 16, 16, 0, 3, 5_000]);
+        let lent = random.pick(&[(0, 0), (2, 140), (64, 2_064), (70, 3_000)]);
+        let (answer, _) = compare_load(&bytes, (width, 40), lent.0, lent.1);
+        let number = usize::from(answer.verdict);
+        refusals[if answer.refused { number } else { 0 }] += 1;
+    }
+    println!("refusals by number, 0 for an answer {refusals:?}");
+    assert!([0, 2, 3, 4, 5, 6, 7, 9]
+        .iter()
+        .all(|number| refusals[*number] >= 20));
+    assert!(refusals[usize::from(OUTSIDE_PROFILE)] >= 2_000);
 }
 
 /// Every family, small and at its usual size, against the fast implementation.

@@ -1,6 +1,6 @@
 /* How much stack the proved functions use: each call runs on a painted stack of its own, and what is no longer painted is counted.
- * Models come on standard input, each behind its length, four bytes with the least first. Prints the most bytes that a search and that a
- * plan check used, the thread's own frames included. */
+ * Models come on standard input, each behind its length, four bytes with the least first. Prints the most bytes that a search, one in the
+ * loading profile and a plan check used, the thread's own frames included. */
 #define _POSIX_C_SOURCE 200809L
 
 #include "repgypsum.h"
@@ -20,6 +20,11 @@ static uint8_t *stack;
 
 static void *search(void *unused) {
     repgypsum_search(model, model_len, WIDTH, LENGTH, 1000, plan, LENGTH, words, sizeof words / sizeof *words);
+    return unused;
+}
+
+static void *load(void *unused) {
+    repgypsum_load(model, model_len, WIDTH, 1000, plan, LENGTH, words, sizeof words / sizeof *words);
     return unused;
 }
 
@@ -49,7 +54,7 @@ static size_t used(void *(*call)(void *)) {
 }
 
 int main(void) {
-    size_t most_search = 0, most_check = 0;
+    size_t most_search = 0, most_load = 0, most_check = 0;
     uint8_t head[4];
     stack = aligned_alloc(4096, STACK);
     if (!stack) return 2;
@@ -59,9 +64,11 @@ int main(void) {
         if (model_len > LONGEST || fread(model, 1, model_len, stdin) != model_len) return 2;
         size_t n = used(search);
         if (n > most_search) most_search = n;
+        n = used(load);
+        if (n > most_load) most_load = n;
         n = used(check);
         if (n > most_check) most_check = n;
     }
-    printf("search %zu check %zu thread %zu\n", most_search, most_check, thread);
+    printf("search %zu load %zu check %zu thread %zu\n", most_search, most_load, most_check, thread);
     return 0;
 }

@@ -7,10 +7,10 @@ import ctypes.util
 import os
 from dataclasses import dataclass
 from pathlib import Path
-from typing import List, Optional, Tuple
+from typing import Callable, List, Optional, Tuple
 
 from .errors import MissingLibrary
-from .numbers import MOST_STEPS, MOST_WIDTH, words_needed
+from .numbers import MOST_OBJECTS, MOST_STEPS, MOST_WIDTH, words_needed
 
 #: The environment variable that names the shared library.
 LIBRARY = "REPGYPSUM_LIBRARY"
@@ -85,6 +85,8 @@ def _typed(found: ctypes.CDLL) -> ctypes.CDLL:
     number = ctypes.c_uint32
     found.repgypsum_search.argtypes = [byte, size, number, number, number, word, size, word, size]
     found.repgypsum_search.restype = Fields
+    found.repgypsum_load.argtypes = [byte, size, number, number, word, size, word, size]
+    found.repgypsum_load.restype = Fields
     found.repgypsum_check_answer.argtypes = [byte, size, byte, size]
     found.repgypsum_check_answer.restype = ctypes.c_uint8
     found.repgypsum_check_cost.argtypes = [byte, size, byte, size]
@@ -106,12 +108,21 @@ def _setting(name: str, value: int) -> int:
 def search(model: bytes, width: int, length: int, budget: int) -> Found:
     """The proved search, with buffers of the sizes due; settings that it refuses are lent nothing."""
     width, length = _setting("width", width), _setting("length", length)
-    budget = _setting("budget", budget)
+    return _found(library().repgypsum_search, model, (width, length, _setting("budget", budget)), width, length)
+
+
+def load(model: bytes, width: int, budget: int) -> Found:
+    """The proved search in the loading profile, which chooses the length; what the longest one needs is lent."""
+    width = _setting("width", width)
+    return _found(library().repgypsum_load, model, (width, _setting("budget", budget)), width, MOST_OBJECTS)
+
+
+def _found(call: Callable[..., Fields], model: bytes, settings: Tuple[int, ...], width: int, length: int) -> Found:
+    """What a search gives, with buffers of the sizes due at this width and length."""
     lent = (length, words_needed(width, length)) if fits(width, length) else (0, 0)
     plan = (ctypes.c_uint8 * lent[0])()
     words = (ctypes.c_uint64 * lent[1])()
-    call = library().repgypsum_search
-    got = call(model, len(model), width, length, budget, plan, lent[0], words, lent[1])
+    got = call(model, len(model), *settings, plan, lent[0], words, lent[1])
     same = ("cost", "bound", "length", "expansions", "rounds", "width")
     fields = {name: getattr(got, name) for name in same}
     steps = bytes(plan[: got.length])

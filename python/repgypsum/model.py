@@ -38,6 +38,14 @@ Kind = TypeVar("Kind", bound=Expr)
 
 RULES = {"sum": 0, "largest": 1}
 
+#: The length limit where none is given.
+LENGTH = 64
+
+
+def _without_length(length: Optional[int]) -> None:
+    if length is not None:
+        raise ValueError("the loading profile chooses the length: `loading` or `length`, not both")
+
 
 class Model:
     """A model of docs/FORMAT.md. What it takes, the reader of the proved core accepts."""
@@ -234,9 +242,18 @@ class Model:
 
     # Plans, by the proved library.
 
-    def plan(self, width: int = 16, length: int = 64, budget: int = 100_000) -> Answer:
-        """Looks for the cheapest plan by the proved search. What cannot be searched is a refusal in the answer."""
-        found = library.search(self.to_bytes(), width, length, budget)
+    def plan(
+        self, width: int = 16, length: Optional[int] = None, budget: int = 100_000, loading: bool = False
+    ) -> Answer:
+        """Looks for the cheapest plan by the proved search. What cannot be searched is a refusal in the answer.
+
+        `length` is 64 if none is given. With `loading` the model has to be in the loading profile, which chooses the length.
+        """
+        if loading:
+            _without_length(length)
+            found = library.load(self.to_bytes(), width, budget)
+        else:
+            found = library.search(self.to_bytes(), width, LENGTH if length is None else length, budget)
         steps = follow(self.transitions, self.cost, self.target_state, found.plan)
         return Answer(**vars(found), steps=tuple(steps))
 
@@ -275,12 +292,16 @@ class Model:
         lane: Optional[Union[Variable, str]] = None,
         clock: Optional[Union[Variable, str]] = None,
         width: int = 16,
-        length: int = 64,
+        length: Optional[int] = None,
         budget: int = 100_000,
+        loading: bool = False,
     ) -> str:
         """Plans, and writes the auditor's page, by `repgypsum explain --html`; gives what is printed beside it."""
         path = str(Path(out).absolute())
-        options = [f"--width={width}", f"--length={length}", f"--budget={budget}", f"--html={path}"]
+        if loading:
+            _without_length(length)
+        limit = "--loading" if loading else f"--length={LENGTH if length is None else length}"
+        options = [f"--width={width}", limit, f"--budget={budget}", f"--html={path}"]
         options += [] if lane is None else [f"--lane={lane}"]
         options += [] if clock is None else [f"--clock={clock}"]
         _, output = program.run("explain", options, f"{self.name}.dp", self.to_text())

@@ -52,6 +52,7 @@ REFUSALS = {
     DIVISOR_ZERO: "quotient by zero",
     NEGATIVE_COST: "negative cost",
     14: "not a plan",
+    15: "outside the loading profile",
 }
 
 

@@ -30,6 +30,35 @@ def three_designs() -> Model:
     return model
 
 
+def loading_order() -> Model:
+    model = Model(name="loading-order")
+    designs = ["none", "dma", "firmware", "gpu", "npu", "pcie", "usb"]
+    design = model.add_object_type(objects=designs, name="design")
+    todo = model.add_set_var(design, range(1, 7), name="todo")
+    at = model.add_element_var(design, "none", name="at")
+    rows = [
+        [0, 2, 3, 6, 5, 4, 3],
+        [0, 0, 2, 5, 6, 3, 4],
+        [0, 4, 0, 3, 2, 5, 6],
+        [0, 5, 3, 0, 2, 6, 4],
+        [0, 6, 4, 3, 0, 2, 5],
+        [0, 3, 5, 6, 4, 0, 2],
+        [0, 2, 4, 5, 6, 3, 0],
+    ]
+    hours = model.add_table(rows, name="hours", object_types=[design, design])
+    least = model.add_table([0, 2, 2, 3, 2, 2, 2], name="least", object_types=[design])
+    for d in ["dma", "firmware", "pcie", "usb", "gpu", "npu"]:
+        conditions = [todo.contains(d)]
+        if d in ("gpu", "npu"):
+            conditions.append(~todo.contains("firmware"))
+        effects = [(todo, todo.remove(d)), (at, d)]
+        model.add_transition(Transition(f"load {d}", cost=hours[at, d], preconditions=conditions, effects=effects))
+    model.add_base_case([todo.is_empty()])
+    model.add_state_constr(~(todo.contains("usb") & (at == "pcie")))
+    model.add_dual_bound(least[todo])
+    return model
+
+
 def assembly_line() -> Model:
     model = Model(name="assembly-line")
     task = model.add_object_type(objects=["frame", "wiring", "shelf", "boards", "clock", "test"], name="task")
@@ -206,6 +235,7 @@ def rows(name: str) -> Dict[str, Dict[str, int]]:
 
 EXAMPLES: Dict[str, Callable[[], Model]] = {
     "assembly-line": assembly_line,
+    "loading-order": loading_order,
     "open-stacks": open_stacks,
     "sop": sop,
     "tardiness": tardiness,

@@ -65,6 +65,27 @@ class Answers(unittest.TestCase):
             self.assertEqual(answer.line, said["line"])
             self.assertEqual(list(answer.plan), [step["number"] for step in said["steps"]])
 
+    def test_loading_profile(self) -> None:
+        """The length is chosen; the answer is that of the plain search with it."""
+        designs = three_designs()
+        self.assertEqual(designs.plan(loading=True), designs.plan(length=3))
+        self.assertEqual(designs.plan(loading=True).line, "0 1 7 7 3 14 3 4 : 0 1 2")
+        self.assertEqual(designs.plan(loading=True, width=1), designs.plan(width=1, length=3))
+        inside = {"loading-order", "open-stacks", "sop", "three-designs"}
+        for name, build in EXAMPLES.items():
+            answer = build().plan(loading=True)
+            if name in inside:
+                self.assertEqual(answer.line, build().plan().line, name)
+            else:
+                self.assertEqual((answer.refused, answer.number), (True, 15), name)
+                self.assertEqual(str(answer), "refused 15, outside the loading profile")
+        self.assertEqual(designs.plan(loading=True, width=3).number, 2)
+        with self.assertRaises(ValueError):
+            designs.plan(loading=True, length=3)
+        damaged = designs.to_bytes() + b"\x00"
+        self.assertEqual(library.load(damaged, 16, 100).number, 9)
+        self.assertEqual(library.load(bytes(65_537), 16, 100).number, 1)
+
     def test_settings_that_are_no_numbers(self) -> None:
         for wrong in [-1, 2**32, 1.5, True]:
             with self.assertRaises(ValueError):
@@ -119,7 +140,7 @@ class Answers(unittest.TestCase):
             one.start()
         for one in threads:
             one.join()
-        self.assertEqual(len(found), 30)
+        self.assertEqual(len(found), 5 * len(EXAMPLES))
         self.assertTrue(all(due[name] == line for name, line in found))
 
     def test_damaged_bytes_are_refused(self) -> None:

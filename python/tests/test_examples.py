@@ -1,4 +1,4 @@
-"""The six examples: the same bytes as the text form's, the lines that they print, and their plans."""
+"""The seven examples: the same bytes as the text form's, the lines that they print, and their plans."""
 
 import subprocess
 import unittest

@@ -50,6 +50,12 @@ class Program(unittest.TestCase):
             page = out.read_text(encoding="utf-8")
             for words in ["tsptw.dp: cheapest", "A lane is a value of at.", "visit p2", "repgypsum verify tsptw.quote"]:
                 self.assertIn(words, page)
+            model = three_designs()
+            self.assertIn("length limit 3, which the loading profile chooses", model.page(out, loading=True))
+            self.assertIn("--loading", out.read_text(encoding="utf-8"))
+            with self.assertRaises(ValueError):
+                model.page(out, loading=True, length=3)
+            model = EXAMPLES["tsptw"]()
             with self.assertRaisesRegex(rg.ModelError, "`todo` is no number"):
                 model.page(out, clock="todo")
             out.write_text("something else")

@@ -1,6 +1,7 @@
 -- What is proved of the lower layer's definitions.
 pub mod Opened
 pub mod Examples
+pub mod CasesOfProfile
 pub mod Costs
 pub mod Dominance
 pub mod Reach
@@ -15,3 +16,7 @@ pub mod Consistent
 pub mod PlanCheck
 pub mod Chains
 pub mod Loops
+pub mod Starts
+pub mod Sizes
+pub mod Taken
+pub mod Profile

@@ -1,13 +1,16 @@
 -- The lower layer with every definition opened, for cases that the checker computes.
 use Prim.Native.Nat.{ℕ}
+use mathlib.Core.Bool.{cond}
 use mathlib.Core.List.{List, [], _∷_}
 use lib.IntN.{ℤ}
-use Rattle.model.specs.Numbers.{mostNesting, rangeEnd}
-use Rattle.model.specs.Values.{Value, trouble}
+use Rattle.model.specs.Numbers.{outsideProfile, mostNesting, rangeEnd}
+use Rattle.model.specs.Values.{Value, value, trouble}
 use Rattle.model.specs.Readers.{Read, read, refused}
-use Rattle.model.specs.Syntax.{Number}
+use Rattle.model.specs.Syntax.{Number, Model}
+use Rattle.model.specs.Commands.{model}
 use Rattle.model.specs.Meaning.{numberValue}
 use Rattle.model.specs.Check.{check}
+use Rattle.model.specs.Profile.{inProfile, loadingLength}
 use Rattle.laws.specs.Lists as ofLists
 use Rattle.laws.specs.Hex as ofHex
 use Rattle.model.specs.Values as ofValues
@@ -22,20 +25,28 @@ use Rattle.model.specs.Commands as ofCommands
 use Rattle.model.specs.Meaning as ofMeaning
 use Rattle.model.specs.Steps as ofSteps
 use Rattle.model.specs.Check as ofCheck
+use Rattle.model.specs.Profile as ofProfile
 
 unfoldable pub valueRead : Read Number → Value ℤ
 valueRead (read x n) = numberValue rangeEnd [] x []
 valueRead (refused t) = trouble t
+
+unfoldable pub lengthRead : Read Model → Value ℕ
+lengthRead (read m n) = cond (inProfile m) (value (loadingLength m)) (trouble outsideProfile)
+lengthRead (refused t) = trouble t
 
 pub data Asked : Type 0 where
   -- the value of the bytes of a number expression, without variables and tables
   numberOf : List ℕ → Asked
   -- the plan check of a model and a plan
   checkOf : (bytes plan : List ℕ) → Asked
+  -- the length that the loading profile chooses for a model
+  lengthOf : (bytes : List ℕ) → Asked
 
 pub data Told : Type 0 where
   valued : Value ℤ → Told
   checked : Value ℕ → Told
+  chosen : Value ℕ → Told
 
 unfoldable pub opened : Asked → Told
 unfolding ofLists.any ofLists.filter ofLists.isEmpty ofHex.hex ofHex.zeros _bindValues_ ofValues.inRange ofValues.floorBy ofValues.floorQuotient
@@ -53,9 +64,12 @@ unfolding ofLists.any ofLists.filter ofLists.isEmpty ofHex.hex ofHex.zeros _bind
     ofMeaning.numberValue ofSteps.target ofSteps.combine ofSteps.statusOf ofSteps.costOf ofSteps.noWorse ofSteps.noneWorse ofSteps.raise
     ofSteps.admits ofSteps.status ofSteps.effects ofSteps.attempt ofSteps.constrained ofSteps.moveOf ofSteps.moveBy ofSteps.move ofSteps.greatest ofSteps.bound
     ofSteps.systemOf ofSteps.costsOf ofSteps.originOf ofCheck.final ofCheck.afterMove ofCheck.afterStatus ofCheck.follow ofCheck.afterConstraints ofCheck.followFrom ofCheck.checkModel
-    ofCheck.check ofCheck.answerNumber ofCheck.answerCost valueRead
+    ofCheck.check ofCheck.answerNumber ofCheck.answerCost ofProfile.ofOnly ofProfile.isVariableZero ofProfile.objectBeside ofProfile.requiredObject ofProfile.removedBy
+    ofProfile.removedObject ofProfile.sameObject ofProfile.loads ofProfile.beginsWithSet ofProfile.asksForEmpty ofProfile.endsEmpty ofProfile.inProfile ofProfile.loadingLength
+    valueRead lengthRead
 opened (numberOf bytes) = valued (valueRead (ofExpressions.number [] [] mostNesting bytes))
 opened (checkOf bytes plan) = checked (check bytes plan)
+opened (lengthOf bytes) = chosen (lengthRead (model bytes))
 
 unfoldable pub allOpened : List Asked → List Told
 allOpened [] = []

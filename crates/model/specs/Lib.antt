@@ -11,3 +11,4 @@ pub mod Commands
 pub mod Meaning
 pub mod Steps
 pub mod Check
+pub mod Profile

@@ -1,4 +1,4 @@
--- The numbers that document 01 fixes: refusals and sizes, each said once.
+-- The numbers that documents 01 and 02 fix: refusals and sizes, each said once.
 -- docs/FORMAT.md, "Sizes", "Refusals by the input" and "Refusals by the state".
 use Prim.Native.Nat.{ℕ, _*_, _^_}
 
@@ -34,6 +34,10 @@ tooDeep = 8
 
 abbrev pub bytesAfterEnd : ℕ
 bytesAfterEnd = 9
+
+-- document 02, §2
+abbrev pub outsideProfile : ℕ
+outsideProfile = 15
 
 -- ---- refused by the state
 

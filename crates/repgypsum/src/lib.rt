@@ -1,15 +1,16 @@
-// What C calls, whole: the search and the plan check on the bytes of a model, with the contracts that a host may rely on. Nothing is required of
+// What C calls, whole: the searches and the plan check on the bytes of a model, with the contracts that a host may rely on. Nothing is required of
 // a caller: whatever is wrong with the bytes, the settings or the buffers is told by a refusal.
 
 ghost use mathlib.Core.Path.{_≡_};
 ghost use mathlib.Core.Logic.{_↔_};
 ghost use Rattle.model.specs.Check as plans;
 ghost use Rattle.model.specs.Check.{IsPlan, answerNumber, answerCost};
-ghost use Rattle.solver.specs.Searches.{Searched};
+ghost use Rattle.solver.specs.Searches.{settings, loadingSettings, Searched};
 use plan_check::check;
 use search_report::answers::Fields;
 use search_report::figures::fields;
 use solver::entry::search;
+use solver::load::load;
 
 // The search: its answer in numbers, with the plan at the front of the plan buffer.
 #[no_mangle]
@@ -21,9 +22,25 @@ pub extern "C" fn repgypsum_search(
     plan: &mut [u8],
     words: &mut [u64],
 ) -> Fields
-    ensures { λ r. ⌜ Searched 65536 (now (model .entry)) (now (plan .entry)) (now (plan .exit)) (now (words .entry)) (now (words .exit)) width limit budget r ⌝ }
+    ensures { λ r. ⌜ Searched 65536 (now (model .entry)) (now (plan .entry)) (now (plan .exit)) (now (words .entry)) (now (words .exit)) (settings width limit budget) r ⌝ }
 {
     let answer = search(model, width, limit, budget, plan, words);
+    fields(answer)
+}
+
+// The search in the loading profile: no length is given, the model decides on it, and no answer is a length stop (`no-length-stop-loading` among
+// the demands of `Searched`). A model outside the profile is refused with 15.
+#[no_mangle]
+pub extern "C" fn repgypsum_load(
+    model: &[u8],
+    width: u32,
+    budget: u32,
+    plan: &mut [u8],
+    words: &mut [u64],
+) -> Fields
+    ensures { λ r. ⌜ Searched 65536 (now (model .entry)) (now (plan .entry)) (now (plan .exit)) (now (words .entry)) (now (words .exit)) (loadingSettings width budget) r ⌝ }
+{
+    let answer = load(model, width, budget, plan, words);
     fields(answer)
 }
 

@@ -3,27 +3,24 @@
 use Prim.Native.Nat.{ℕ, zero, suc, _+_, _≤_, _<_}
 use mathlib.Core.Path.{_≡_, refl, sym, _∙_, ap, subst}
 use mathlib.Core.Logic.{_⊎_, inl, inr}
-use mathlib.Core.Bool.{Bool, true, false, cond, not}
+use mathlib.Core.Bool.{Bool, true, false, cond}
 use mathlib.Core.List.{List, [], _∷_}
 use mathlib.Core.Option.{Option, none, some}
 use native.Mathlib.Omega.{arith}
 use lib.ListN.{length}
-use lib.Dec.{ltb}
-use borrow.Author.Tests.{le-ltb}
 use Rattle.laws.specs.Lists.{isEmpty}
-use Rattle.laws.proofs.Bools.{by-cond, not-both, not-false}
-use Rattle.model.specs.Numbers.{rangeEnd, modelTooLong, badSetting, tooLittleLent}
+use Rattle.laws.proofs.Bools.{not-both}
+use Rattle.model.specs.Numbers.{rangeEnd}
 use Rattle.model.specs.Values.{Value, value, trouble}
 use Rattle.model.specs.System.{Costs, CostLaws, System, Origin, base, unfinished}
-use Rattle.model.specs.Readers.{Read, read, refused as unread}
 use Rattle.model.specs.Syntax.{Model}
-use Rattle.model.specs.Commands.{model}
 use Rattle.model.specs.Steps.{costsOf, systemOf, originOf}
 use Rattle.model.proofs.Costs.{cost-laws}
 use Rattle.search.specs.Answer.{cheapest, noPlan, contradicted, budgetSpent, verdict, Answer}
 use Rattle.search.specs.Search.{Node, Route, Progress, Round, Ending, decided, refused, Stop, belowBest, counted, atLimit, improvedBy, layerEnd, nextLayer, root, freshRound, round, After, again, ended, exhausted, afterRound, tallyOf, answerOf, answer, nextWidth, laterWidths, unlessOver, rounds, refusedAtStart, begin, enter, searchWithin, search}
-use Rattle.search.specs.Run.{Settings, Lent, firstWidth, widerThan, limitOf, settingsFit, lentFits, refusedByInput, searchModel, runRead, run}
-use Rattle.search.proofs.Settings.{form-fits, limit-within}
+use Rattle.search.specs.Run.{Settings, Lent, firstWidth, widerThan, limitOf, refusedByInput, searchModel, run}
+use Rattle.search.proofs.Settings.{form-fits, some-limit}
+use Rattle.search.proofs.Source.{Accepted, Source, input-refused, searched, run-source, run-accepted}
 use Rattle.search.proofs.Induction.{Point, taking, expanding, Changes, RoundEnd, round-holds}
 use Rattle.search.proofs.Rounds.{AfterHolds, afterRound-holds, atStart}
 use Rattle.search.proofs.Counts.{offer-progress}
@@ -228,28 +225,20 @@ module _ {S C : Type 0} (K : Costs C) (L : CostLaws K) (M : System S C) (o : Ori
 
 -- ---- from bytes
 
-module _ (most : ℕ) (bytes : List ℕ) (q : Settings) (l : Lent) where
-  -- a run of bytes that are read is the search within any number of rounds above the budget
-  pub any-bound-of-run : (m : Model) (n : ℕ) → model bytes ≡ read m n → length bytes ≤ most → settingsFit q ≡ true → lentFits q l ≡ true → (most-rounds : ℕ) → q .budget < most-rounds
-      → run most bytes q l ≡ searchWithin (costsOf (m .rule)) (systemOf rangeEnd m) most-rounds (q .budget) (limitOf (q .form)) (firstWidth (q .beam)) (widerThan (q .beam)) (originOf m)
-  unfolding run runRead searchModel
-  any-bound-of-run m n reads few fit enough most-rounds lt =
-      rw (le-ltb most (length bytes) few, fit, enough, reads)
-      (sym (any-bound-of-search (costsOf (m .rule)) (cost-laws (m .rule)) (systemOf rangeEnd m) (originOf m) (q .budget) (firstWidth (q .beam)) (widerThan (q .beam)) most-rounds (limitOf (q .form)) (limit-within (q .form) (form-fits q fit) .0) lt))
+-- a run whose bytes and settings are accepted is the search within any number of rounds above the budget
+pub any-bound-of-run : (most : ℕ) (bytes : List ℕ) (q : Settings) (l : Lent) {m : Model} → length bytes ≤ most → Accepted bytes q l m → (most-rounds : ℕ) → q .budget < most-rounds
+    → run most bytes q l ≡ searchWithin (costsOf (m .rule)) (systemOf rangeEnd m) most-rounds (q .budget) (limitOf (q .form) m) (firstWidth (q .beam)) (widerThan (q .beam)) (originOf m)
+unfolding searchModel
+any-bound-of-run most bytes q l {m} few x most-rounds lt =
+    run-accepted most bytes q l few x
+    ∙ sym (any-bound-of-search (costsOf (m .rule)) (cost-laws (m .rule)) (systemOf rangeEnd m) (originOf m) (q .budget) (firstWidth (q .beam)) (widerThan (q .beam)) most-rounds (limitOf (q .form) m) (some-limit (q .form) m (form-fits q (x .fit))) lt)
 
-  input-used : (t : ℕ) → UsedIfSpent (q .budget) (refusedByInput t)
-  unfolding refusedByInput
-  input-used t e = let z : _≡_ {A = ℕ} 0 1 = cc in absurd (omega arith)
+source-used : {bytes : List ℕ} {q : Settings} {l : Lent} {a : Answer ℕ} → Source bytes q l a → UsedIfSpent (q .budget) a
+unfolding refusedByInput searchModel
+source-used (input-refused t r) = λ e. let z : _≡_ {A = ℕ} 0 1 = cc in absurd (omega arith)
+source-used {q = q} (searched m x) =
+    budget-spent-means-used (costsOf (m .rule)) (cost-laws (m .rule)) (systemOf rangeEnd m) (originOf m) (q .budget) (firstWidth (q .beam)) (widerThan (q .beam)) (limitOf (q .form) m) (some-limit (q .form) m (form-fits q (x .fit)))
 
-  read-used : (x : Read Model) → settingsFit q ≡ true → UsedIfSpent (q .budget) (runRead x q)
-  unfolding runRead searchModel
-  read-used (read m n) fit = budget-spent-means-used (costsOf (m .rule)) (cost-laws (m .rule)) (systemOf rangeEnd m) (originOf m) (q .budget) (firstWidth (q .beam)) (widerThan (q .beam)) (limitOf (q .form)) (limit-within (q .form) (form-fits q fit) .0)
-  read-used (unread t) fit = input-used t
-
-  -- a run that ends with "budget spent" has made as many expansions as the budget allows
-  pub run-budget-spent-means-used : run most bytes q l .outcome ≡ verdict budgetSpent → run most bytes q l .tally .expansions ≡ q .budget
-  unfolding run
-  run-budget-spent-means-used =
-      by-cond (UsedIfSpent (q .budget)) (ltb most (length bytes)) (λ _. input-used modelTooLong)
-      (λ _. by-cond (UsedIfSpent (q .budget)) (not (settingsFit q)) (λ _. input-used badSetting)
-      (λ e. by-cond (UsedIfSpent (q .budget)) (not (lentFits q l)) (λ _. input-used tooLittleLent) (λ _. read-used (model bytes) (not-false (settingsFit q) e))))
+-- a run that ends with "budget spent" has made as many expansions as the budget allows
+pub run-budget-spent-means-used : (most : ℕ) (bytes : List ℕ) (q : Settings) (l : Lent) → run most bytes q l .outcome ≡ verdict budgetSpent → run most bytes q l .tally .expansions ≡ q .budget
+run-budget-spent-means-used most bytes q l = source-used (run-source bytes q l most)

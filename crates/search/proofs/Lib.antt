@@ -3,7 +3,10 @@ pub mod Opened
 pub mod Cases
 pub mod CasesOfRules
 pub mod CasesOfTargets
+pub mod CasesOfProfile
 pub mod Settings
+pub mod Numbered
+pub mod Source
 pub mod Induction
 pub mod Rounds
 pub mod Invariant

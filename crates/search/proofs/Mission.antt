@@ -3,17 +3,17 @@
 use Prim.Native.Nat.{ℕ, _≤_, _<_}
 use mathlib.Core.Path.{_≡_, refl, sym, _∙_, ap, subst}
 use mathlib.Core.Logic.{_↔_}
-use mathlib.Core.Bool.{Bool, true, false, not, false≢true}
+use mathlib.Core.Bool.{Bool, true, false, cond, not, _&&_, false≢true}
 use mathlib.Core.List.{List, [], _++_}
 use native.Mathlib.Omega.{arith}
 use lib.ListN.{length, drop, length-append}
 use lib.Dec.{ltb}
 use lib.Seq.{take-at}
-use borrow.Author.Tests.{leb-true, le-leb, le-ltb}
-use Rattle.laws.proofs.Bools.{by-cond, not-false, and-both}
+use borrow.Author.Tests.{leb-true, le-leb}
+use Rattle.laws.proofs.Bools.{and-both}
 use Rattle.model.specs.Numbers.{rangeEnd, mostModelBytes, mostSteps, modelTooLong, badSetting, tooLittleLent, notAPlan}
 use Rattle.model.specs.Values.{Value, value, trouble}
-use Rattle.model.specs.Readers.{Read, read, refused}
+use Rattle.model.specs.Readers.{read}
 use Rattle.model.specs.Syntax.{Model}
 use Rattle.model.specs.Commands.{model}
 use Rattle.model.specs.Steps.{target, costsOf, systemOf, originOf}
@@ -21,15 +21,17 @@ use Rattle.model.proofs.Costs.{cost-laws}
 use Rattle.model.specs.Check.{check, CheckedPlan}
 use Rattle.model.proofs.Dominance.{dominates-self}
 use Rattle.model.proofs.Outcomes.{StateTrouble}
-use Rattle.model.proofs.Reading.{model-refusal}
+use Rattle.model.specs.Profile.{inProfile, loadingLength}
+use Rattle.model.proofs.Profile.{loading-length-some, loading-length-within, none-open-in-profile}
 use Rattle.model.proofs.Troubles.{admits-trouble, status-trouble, move-trouble-before, move-trouble-after, bound-trouble, CheckRefusal, check-numbers}
 use Rattle.model.proofs.PlanCheck.{check-exact, broken-has-no-plan, check-of-broken-target, check-of-target-trouble}
 use Rattle.search.specs.Answer.{Verdict, cheapest, noPlan, widthStop, lengthStop, contradicted, Outcome, verdict, byState, byInput, Answer, bufferAfter, handedBack}
 use Rattle.search.specs.Guarantee.{Stopped, Guarantee}
-use Rattle.search.specs.Demands.{Ends, with-verdict, by-state, by-input, PlanOf, DeclarationsTrue, LayersFit, Marked, Demands}
+use Rattle.search.specs.Demands.{Ends, with-verdict, by-state, PlanOf, DeclarationsTrue, LayersFit, Marked, Demands}
 use Rattle.search.specs.Search.{searchWithin}
-use Rattle.search.specs.Run.{Settings, Lent, firstWidth, widerThan, widestOf, limitOf, settingsFit, lentFits, refusedByInput, searchModel, runRead, run}
+use Rattle.search.specs.Run.{Form, plain, loading, Settings, Lent, firstWidth, widerThan, widestOf, limitOf, beamFits, settingsFit, lentFits, refusedByInput, searchModel, runRead, run}
 use Rattle.search.proofs.Settings.{beam-fits, widest-is-last}
+use Rattle.search.proofs.Source.{Accepted, Source, input-refused, searched, run-source, run-holds, run-accepted}
 use Rattle.search.proofs.Targets.{broken-start, troubled-start}
 use Rattle.search.proofs.Sound.{search-guarantee, steps-within, no-stop-where-fits}
 use Rattle.search.proofs.Refusals.{run-refusal-path}
@@ -38,7 +40,7 @@ use Rattle.search.proofs.Counts.{Troubles, expansions-within-budget, re
 
 -- ---- demand 1
 
-search-ends : (m : Model) (q : Settings) (x : Outcome) → searchModel m q .outcome ≡ x → Ends x
+search-ends : (m : Model) (q : Settings) (x : Outcome) → searchModel m q .outcome ≡ x → Ends (q .form) x
 unfolding searchModel
 search-ends m q (verdict v) e = with-verdict
 search-ends m q (byState t) e =
@@ -50,57 +52,32 @@ search-ends m q (byState t) e =
       of-move-after = λ s t n c lt e. move-trouble-after rangeEnd m s t e;
       of-bound = λ s n e. bound-trouble rangeEnd m s e;
     } in
-    let range = refusals-from-system (costsOf (m .rule)) (systemOf rangeEnd m) (originOf m) (q .budget) (limitOf (q .form)) (firstWidth (q .beam)) (widerThan (q .beam)) StateTrouble known t e in
+    let range = refusals-from-system (costsOf (m .rule)) (systemOf rangeEnd m) (originOf m) (q .budget) (limitOf (q .form) m) (firstWidth (q .beam)) (widerThan (q .beam)) StateTrouble known t e in
     by-state (range .0) (range .1)
-search-ends m q (byInput t) e = absurd (never-by-input (costsOf (m .rule)) (systemOf rangeEnd m) (originOf m) (q .budget) (limitOf (q .form)) (firstWidth (q .beam)) (widerThan (q .beam)) t e)
+search-ends m q (byInput t) e = absurd (never-by-input (costsOf (m .rule)) (systemOf rangeEnd m) (originOf m) (q .budget) (limitOf (q .form) m) (firstWidth (q .beam)) (widerThan (q .beam)) t e)
 
-refusal-ends : (t : ℕ) → 1 ≤ t → t ≤ 9 → Ends (refusedByInput t .outcome)
+source-ends : {bytes : List ℕ} {q : Settings} {l : Lent} {a : Answer ℕ} → Source bytes q l a → Ends (q .form) (a .outcome)
 unfolding refusedByInput
-refusal-ends t a b = by-input a b
-
-read-ends : (q : Settings) (bytes : List ℕ) (x : Read Model) → model bytes ≡ x → Ends (runRead x q .outcome)
-unfolding runRead
-read-ends q bytes (read m n) e = search-ends m q (searchModel m q .outcome) refl
-read-ends q bytes (refused t) e = let range = model-refusal bytes e in refusal-ends t (omega arith) (range .1)
+source-ends (input-refused t r) = r
+source-ends {q = q} (searched m x) = search-ends m q (searchModel m q .outcome) refl
 
 -- "The program as a whole takes every model, setting and plan, well made or damaged, and ends with a verdict or one of the refusals"
-pub every-run-ends : (most : ℕ) (bytes : List ℕ) (q : Settings) (l : Lent) → Ends (run most bytes q l .outcome)
-unfolding run
-every-run-ends most bytes q l =
-    by-cond (λ (a : Answer ℕ). Ends (a .outcome)) (ltb most (length bytes)) (λ _. refusal-ends modelTooLong (omega arith) (omega arith))
-    (λ _. by-cond (λ (a : Answer ℕ). Ends (a .outcome)) (not (settingsFit q)) (λ _. refusal-ends badSetting (omega arith) (omega arith))
-    (λ _. by-cond (λ (a : Answer ℕ). Ends (a .outcome)) (not (lentFits q l)) (λ _. refusal-ends tooLittleLent (omega arith) (omega arith)) (λ _. read-ends q bytes (model bytes) refl)))
+pub every-run-ends : (most : ℕ) (bytes : List ℕ) (q : Settings) (l : Lent) → Ends (q .form) (run most bytes q l .outcome)
+every-run-ends most bytes q l = source-ends (run-source bytes q l most)
 
 -- the same of the plan check: 0 and the cost, or one of 1, 2, 4 to 9, 11 to 14
 pub every-plan-check-ends : (bytes plan : List ℕ) {t : ℕ} → check bytes plan ≡ trouble t → CheckRefusal t
 every-plan-check-ends bytes plan e = check-numbers bytes plan e
 
--- a run is refused by the input, with no other field, or it is the search of the model that the bytes say
-pub data Source (bytes : List ℕ) (q : Settings) : Answer ℕ → Type 0 where
-  input-refused : (t : ℕ) → Source bytes q (refusedByInput t)
-  searched : (m : Model) (n : ℕ) → model bytes ≡ read m n → Source bytes q (searchModel m q)
-
-read-source : (bytes : List ℕ) (q : Settings) (x : Read Model) → model bytes ≡ x → Source bytes q (runRead x q)
-unfolding runRead
-read-source bytes q (read m n) e = searched m n e
-read-source bytes q (refused t) e = input-refused t
-
-pub run-source : (most : ℕ) (bytes : List ℕ) (q : Settings) (l : Lent) → Source bytes q (run most bytes q l)
-unfolding run
-run-source most bytes q l =
-    by-cond (Source bytes q) (ltb most (length bytes)) (λ _. input-refused modelTooLong)
-    (λ _. by-cond (Source bytes q) (not (settingsFit q)) (λ _. input-refused badSetting)
-    (λ _. by-cond (Source bytes q) (not (lentFits q l)) (λ _. input-refused tooLittleLent) (λ _. read-source bytes q (model bytes) refl)))
-
 -- "Refusing a model or a setting changes no lent buffer"
-source-keeps-buffer : {bytes : List ℕ} {q : Settings} {a : Answer ℕ} (buffer : List ℕ) {t : ℕ} → Source bytes q a → a .outcome ≡ byInput t → bufferAfter a buffer ≡ buffer
+source-keeps-buffer : {bytes : List ℕ} {q : Settings} {l : Lent} {a : Answer ℕ} (buffer : List ℕ) {t : ℕ} → Source bytes q l a → a .outcome ≡ byInput t → bufferAfter a buffer ≡ buffer
 unfolding refusedByInput bufferAfter searchModel
-source-keeps-buffer buffer (input-refused t) e = refl
-source-keeps-buffer {q = q} buffer {t} (searched m n r) e =
-    absurd (never-by-input (costsOf (m .rule)) (systemOf rangeEnd m) (originOf m) (q .budget) (limitOf (q .form)) (firstWidth (q .beam)) (widerThan (q .beam)) t e)
+source-keeps-buffer buffer (input-refused t r) e = refl
+source-keeps-buffer {q = q} buffer {t} (searched m x) e =
+    absurd (never-by-input (costsOf (m .rule)) (systemOf rangeEnd m) (originOf m) (q .budget) (limitOf (q .form) m) (firstWidth (q .beam)) (widerThan (q .beam)) t e)
 
 pub refusal-changes-no-buffer : (most : ℕ) (bytes : List ℕ) (q : Settings) (l : Lent) (buffer : List ℕ) {t : ℕ} → run most bytes q l .outcome ≡ byInput t → bufferAfter (run most bytes q l) buffer ≡ buffer
-refusal-changes-no-buffer most bytes q l buffer e = source-keeps-buffer buffer (run-source most bytes q l) e
+refusal-changes-no-buffer most bytes q l buffer e = source-keeps-buffer buffer (run-source bytes q l most) e
 
 -- ---- demand 2
 
@@ -109,42 +86,49 @@ pub plan-check-exact : (bytes plan : List ℕ) (c : ℕ) → (check bytes plan �
 plan-check-exact bytes plan c = check-exact bytes plan c
 
 -- the definition's count of expansions never passes the budget; that the code counts as the definition does is a field of its contract, `Searched`
-source-within-budget : {bytes : List ℕ} {q : Settings} {a : Answer ℕ} → Source bytes q a → a .tally .expansions ≤ q .budget
+source-within-budget : {bytes : List ℕ} {q : Settings} {l : Lent} {a : Answer ℕ} → Source bytes q l a → a .tally .expansions ≤ q .budget
 unfolding refusedByInput searchModel
-source-within-budget {q = q} (input-refused t) = omega arith
-source-within-budget {q = q} (searched m n r) = expansions-within-budget (costsOf (m .rule)) (systemOf rangeEnd m) (originOf m) (q .budget) (limitOf (q .form)) (firstWidth (q .beam)) (widerThan (q .beam))
+source-within-budget {q = q} (input-refused t r) = omega arith
+source-within-budget {q = q} (searched m x) = expansions-within-budget (costsOf (m .rule)) (systemOf rangeEnd m) (originOf m) (q .budget) (limitOf (q .form) m) (firstWidth (q .beam)) (widerThan (q .beam))
 
 pub expansions-never-pass-budget : (most : ℕ) (bytes : List ℕ) (q : Settings) (l : Lent) → run most bytes q l .tally .expansions ≤ q .budget
-expansions-never-pass-budget most bytes q l = source-within-budget (run-source most bytes q l)
+expansions-never-pass-budget most bytes q l = source-within-budget (run-source bytes q l most)
 
 -- "The search follows document 01's rules step for step": these set no bound on the rounds. The definition's own is never met, since every one
 -- above the budget gives the same run
-pub rounds-end-by-rules : (most : ℕ) (bytes : List ℕ) (q : Settings) (l : Lent) (m : Model) (n : ℕ) → model bytes ≡ read m n → length bytes ≤ most → settingsFit q ≡ true → lentFits q l ≡ true
-    → (most-rounds : ℕ) → q .budget < most-rounds → run most bytes q l ≡ searchWithin (costsOf (m .rule)) (systemOf rangeEnd m) most-rounds (q .budget) (limitOf (q .form)) (firstWidth (q .beam)) (widerThan (q .beam)) (originOf m)
-rounds-end-by-rules most bytes q l m n reads few fit enough = any-bound-of-run most bytes q l m n reads few fit enough
+pub rounds-end-by-rules : (most : ℕ) (bytes : List ℕ) (q : Settings) (l : Lent) {m : Model} → length bytes ≤ most → Accepted bytes q l m → (most-rounds : ℕ) → q .budget < most-rounds
+    → run most bytes q l ≡ searchWithin (costsOf (m .rule)) (systemOf rangeEnd m) most-rounds (q .budget) (limitOf (q .form) m) (firstWidth (q .beam)) (widerThan (q .beam)) (originOf m)
+rounds-end-by-rules most bytes q l few x = any-bound-of-run most bytes q l few x
 
-plan-lent : (q : Settings) (l : Lent) → lentFits q l ≡ true → limitOf (q .form) ≤ l .planBytes
+plan-lent : (widest limit : ℕ) (l : Lent) → lentFits widest limit l ≡ true → limit ≤ l .planBytes
 unfolding lentFits
-plan-lent q l e = leb-true (limitOf (q .form)) (l .planBytes) (and-both _ _ e .0)
+plan-lent widest limit l e = leb-true limit (l .planBytes) (and-both _ _ e .0)
 
--- the steps in an answer never outnumber the length limit, so L plan bytes are enough
-source-steps-within : {bytes : List ℕ} {q : Settings} {a : Answer ℕ} → Source bytes q a → length (a .steps) ≤ limitOf (q .form)
-unfolding refusedByInput searchModel
-source-steps-within {q = q} (input-refused t) = omega arith
-source-steps-within {q = q} (searched m n r) =
-    steps-within (costsOf (m .rule)) (cost-laws (m .rule)) (systemOf rangeEnd m) (dominates-self rangeEnd m) (originOf m) (q .budget) (limitOf (q .form)) (firstWidth (q .beam)) (widerThan (q .beam))
+search-steps-within : (m : Model) (q : Settings) → length (searchModel m q .steps) ≤ limitOf (q .form) m
+unfolding searchModel
+search-steps-within m q =
+    steps-within (costsOf (m .rule)) (cost-laws (m .rule)) (systemOf rangeEnd m) (dominates-self rangeEnd m) (originOf m) (q .budget) (limitOf (q .form) m) (firstWidth (q .beam)) (widerThan (q .beam))
 
-pub steps-never-pass-limit : (most : ℕ) (bytes : List ℕ) (q : Settings) (l : Lent) → length (run most bytes q l .steps) ≤ limitOf (q .form)
-steps-never-pass-limit most bytes q l = source-steps-within (run-source most bytes q l)
+-- the steps in an answer never outnumber the length limit, given or chosen, so L plan bytes are enough
+pub steps-never-pass-limit : (most : ℕ) (bytes : List ℕ) (q : Settings) (l : Lent) (m : Model) (n : ℕ) → model bytes ≡ read m n → length (run most bytes q l .steps) ≤ limitOf (q .form) m
+unfolding refusedByInput
+steps-never-pass-limit most bytes q l m n reads =
+    run-holds bytes q l m n reads (λ (a : Answer ℕ). length (a .steps) ≤ limitOf (q .form) m) (λ t. omega arith) (λ _. search-steps-within m q) most
 
--- nor the plan bytes lent
+-- a length that is given bounds them whatever the bytes are
+source-within-given : {bytes : List ℕ} {q : Settings} {l : Lent} {a : Answer ℕ} (limit : ℕ) → q .form ≡ plain limit → Source bytes q l a → length (a .steps) ≤ limit
+unfolding refusedByInput
+source-within-given limit f (input-refused t r) = omega arith
+source-within-given {q = q} limit f (searched m x) = subst (λ k. length (searchModel m q .steps) ≤ k) (ap (λ (g : Form). limitOf g m) f) (search-steps-within m q)
+
+-- nor do they outnumber the plan bytes lent
+source-fits-buffer : {bytes : List ℕ} {q : Settings} {l : Lent} {a : Answer ℕ} → Source bytes q l a → length (a .steps) ≤ l .planBytes
+unfolding refusedByInput
+source-fits-buffer {l = l} (input-refused t r) = omega arith
+source-fits-buffer {q = q} {l = l} (searched m x) = omega (arith, plan-lent (widestOf (q .beam)) (limitOf (q .form) m) l (x .enough), search-steps-within m q)
+
 pub steps-fit-buffer : (most : ℕ) (bytes : List ℕ) (q : Settings) (l : Lent) → length (run most bytes q l .steps) ≤ l .planBytes
-unfolding run refusedByInput
-steps-fit-buffer most bytes q l =
-    by-cond (λ (a : Answer ℕ). length (a .steps) ≤ l .planBytes) (ltb most (length bytes)) (λ _. omega arith)
-    (λ _. by-cond (λ (a : Answer ℕ). length (a .steps) ≤ l .planBytes) (not (settingsFit q)) (λ _. omega arith)
-    (λ _. by-cond (λ (a : Answer ℕ). length (a .steps) ≤ l .planBytes) (not (lentFits q l)) (λ _. omega arith)
-    (λ e. omega (arith, plan-lent q l (not-false (lentFits q l) e), source-steps-within (read-source bytes q (model bytes) refl)))))
+steps-fit-buffer most bytes q l = source-fits-buffer (run-source bytes q l most)
 
 -- what is handed back of the buffer afterwards is the plan
 pub plan-handed-back : (a : Answer ℕ) (buffer : List ℕ) → length (a .steps) ≤ length buffer → handedBack (length (a .steps)) (bufferAfter a buffer) ≡ a .steps
@@ -156,7 +140,7 @@ plan-handed-back a buffer h =
 -- ---- the guarantee, from bytes
 
 abbrev GuaranteeOf : Model → Settings → Answer ℕ → Type 0
-GuaranteeOf m q a = Guarantee (costsOf (m .rule)) (systemOf rangeEnd m) (originOf m) (widestOf (q .beam)) (limitOf (q .form)) a
+GuaranteeOf m q a = Guarantee (costsOf (m .rule)) (systemOf rangeEnd m) (originOf m) (widestOf (q .beam)) (limitOf (q .form) m) a
 
 no-verdict : {t : ℕ} {v : Verdict} {X : Type 0} → byInput t ≡ verdict v → X
 no-verdict e = let z : _≡_ {A = ℕ} 0 1 = cc in absurd (omega arith)
@@ -181,20 +165,12 @@ refusal-guarantee m q t =
 search-model-guarantee : (m : Model) (q : Settings) → settingsFit q ≡ true → GuaranteeOf m q (searchModel m q)
 unfolding searchModel
 search-model-guarantee m q e =
-    subst (λ w. Guarantee (costsOf (m .rule)) (systemOf rangeEnd m) (originOf m) w (limitOf (q .form)) (searchModel m q)) (widest-is-last (q .beam) (beam-fits q e))
-    (search-guarantee (costsOf (m .rule)) (cost-laws (m .rule)) (systemOf rangeEnd m) (dominates-self rangeEnd m) (originOf m) (q .budget) (limitOf (q .form)) (firstWidth (q .beam)) (widerThan (q .beam)))
+    subst (λ w. Guarantee (costsOf (m .rule)) (systemOf rangeEnd m) (originOf m) w (limitOf (q .form) m) (searchModel m q)) (widest-is-last (q .beam) (beam-fits q e))
+    (search-guarantee (costsOf (m .rule)) (cost-laws (m .rule)) (systemOf rangeEnd m) (dominates-self rangeEnd m) (originOf m) (q .budget) (limitOf (q .form) m) (firstWidth (q .beam)) (widerThan (q .beam)))
 
 module _ (most : ℕ) (bytes : List ℕ) (q : Settings) (l : Lent) (m : Model) (n : ℕ) (reads : model bytes ≡ read m n) where
-  read-guarantee : settingsFit q ≡ true → GuaranteeOf m q (runRead (model bytes) q)
-  unfolding runRead
-  read-guarantee e = rw reads (search-model-guarantee m q e)
-
   pub run-guarantee : GuaranteeOf m q (run most bytes q l)
-  unfolding run
-  run-guarantee =
-      by-cond (GuaranteeOf m q) (ltb most (length bytes)) (λ _. refusal-guarantee m q modelTooLong)
-      (λ _. by-cond (GuaranteeOf m q) (not (settingsFit q)) (λ _. refusal-guarantee m q badSetting)
-      (λ e. by-cond (GuaranteeOf m q) (not (lentFits q l)) (λ _. refusal-guarantee m q tooLittleLent) (λ _. read-guarantee (not-false (settingsFit q) e))))
+  run-guarantee = run-holds bytes q l m n reads (GuaranteeOf m q) (refusal-guarantee m q) (λ x. search-model-guarantee m q (x .fit)) most
 
   -- nothing is spent before the target
   nothing-spent : (c : ℕ) → costsOf (m .rule) .combine (originOf m .spent) c ≡ c
@@ -238,12 +214,13 @@ module _ (most : ℕ) (bytes : List ℕ) (q : Settings) (l : Lent) (m : Model) (
   -- "if every layer of the model up to the length limit has at most as many different states as the widest beam, and no unfinished state
   -- lies at the limit, neither the width stop nor the length stop is given"
   pub no-stop-where-layers-fit : LayersFit m q → (run most bytes q l .outcome ≡ verdict widthStop → ⊥) × (run most bytes q l .outcome ≡ verdict lengthStop → ⊥)
-  no-stop-where-layers-fit f = no-stop-where-fits (costsOf (m .rule)) (systemOf rangeEnd m) (originOf m) (widestOf (q .beam)) (limitOf (q .form)) (run most bytes q l) run-guarantee f
+  no-stop-where-layers-fit f = no-stop-where-fits (costsOf (m .rule)) (systemOf rangeEnd m) (originOf m) (widestOf (q .beam)) (limitOf (q .form) m) (run most bytes q l) run-guarantee f
 
   -- all that is said of the model
   run-marked : Marked m q (run most bytes q l)
   run-marked =
       record {
+        within-limit = steps-never-pass-limit most bytes q l m n reads;
         plan-given = a-plan-given-is-a-plan;
         cheapest-given = λ e. cheapest-costs-no-more e .0;
         cheapest-least = λ e. cheapest-costs-no-more e .1;
@@ -254,17 +231,6 @@ module _ (most : ℕ) (bytes : List ℕ) (q : Settings) (l : Lent) (m : Model) (
         no-length-stop = λ f. no-stop-where-layers-fit f .1;
         trouble-there = λ t e. run-refusal-path most bytes q l m n reads e;
       }
-
--- every demand, of every run
-pub run-meets-demands : (most : ℕ) (bytes : List ℕ) (q : Settings) (l : Lent) → Demands bytes q (run most bytes q l)
-run-meets-demands most bytes q l =
-    record {
-      ends = every-run-ends most bytes q l;
-      within-budget = expansions-never-pass-budget most bytes q l;
-      budget-used = run-budget-spent-means-used most bytes q l;
-      within-limit = steps-never-pass-limit most bytes q l;
-      marked = λ m n reads. run-marked most bytes q l m n reads;
-    }
 
 -- ---- document 02, §1: the target must meet the constraints too
 
@@ -277,22 +243,18 @@ pub no-plan-from-broken-target : (m : Model) → targetAdmitted m ≡ value fals
 no-plan-from-broken-target m e p c plan = broken-has-no-plan (costsOf (m .rule)) (systemOf rangeEnd m) e plan
 
 -- of bytes, settings and lent buffers that pass every test before the search
-module _ (most : ℕ) (bytes : List ℕ) (q : Settings) (l : Lent) (m : Model) (n : ℕ) (reads : model bytes ≡ read m n) (few : length bytes ≤ most) (fit : settingsFit q ≡ true) (enough : lentFits q l ≡ true) where
-  searched-run : run most bytes q l ≡ searchModel m q
-  unfolding run runRead
-  searched-run = rw (le-ltb most (length bytes) few, fit, enough, reads)
-
+module _ (most : ℕ) (bytes : List ℕ) (q : Settings) (l : Lent) (m : Model) (few : length bytes ≤ most) (x : Accepted bytes q l m) where
   -- "If one fails, the verdict is 1 with no expansion, one round begun, width 1 and bound 0": the width of round 1
   pub broken-target-has-no-plan : targetAdmitted m ≡ value false
       → run most bytes q l ≡ record { outcome = verdict noPlan; flag = false; cost = 0; bound = 0; steps = []; tally = record { expansions = 0; rounds = 1; width = firstWidth (q .beam) } }
   unfolding searchModel originOf costsOf
-  broken-target-has-no-plan e = searched-run ∙ broken-start (costsOf (m .rule)) (systemOf rangeEnd m) (originOf m) (q .budget) (limitOf (q .form)) (firstWidth (q .beam)) (widerThan (q .beam)) e
+  broken-target-has-no-plan e = run-accepted most bytes q l few x ∙ broken-start (costsOf (m .rule)) (systemOf rangeEnd m) (originOf m) (q .budget) (limitOf (q .form) m) (firstWidth (q .beam)) (widerThan (q .beam)) e
 
   -- trouble in one: a refusal by the state at the target, its fields the same but for the number
   pub target-trouble-refused : {t : ℕ} → targetAdmitted m ≡ trouble t
       → run most bytes q l ≡ record { outcome = byState t; flag = false; cost = 0; bound = 0; steps = []; tally = record { expansions = 0; rounds = 1; width = firstWidth (q .beam) } }
   unfolding searchModel originOf costsOf
-  target-trouble-refused e = searched-run ∙ troubled-start (costsOf (m .rule)) (systemOf rangeEnd m) (originOf m) (q .budget) (limitOf (q .form)) (firstWidth (q .beam)) (widerThan (q .beam)) e
+  target-trouble-refused e = run-accepted most bytes q l few x ∙ troubled-start (costsOf (m .rule)) (systemOf rangeEnd m) (originOf m) (q .budget) (limitOf (q .form) m) (firstWidth (q .beam)) (widerThan (q .beam)) e
 
   -- the plan buffer stays as it is, with either
   pub broken-target-changes-no-buffer : (buffer : List ℕ) → targetAdmitted m ≡ value false → bufferAfter (run most bytes q l) buffer ≡ buffer
@@ -310,3 +272,46 @@ module _ (bytes plan : List ℕ) (m : Model) (n : ℕ) (reads : model bytes ≡ 
 
   pub plan-check-target-trouble : {t : ℕ} → targetAdmitted m ≡ trouble t → check bytes plan ≡ trouble t
   plan-check-target-trouble e = check-of-target-trouble bytes plan m n reads few short e
+
+-- ---- document 02, §2: a profile for pure loading orders
+
+source-loading-ends : {bytes : List ℕ} {q : Settings} {l : Lent} {a : Answer ℕ} → q .form ≡ loading → Source bytes q l a → a .outcome ≡ verdict lengthStop → ⊥
+unfolding refusedByInput
+source-loading-ends f (input-refused t r) e = no-verdict e
+source-loading-ends {q = q} f (searched m x) e =
+    none-open-in-profile rangeEnd m (rw f at (x .in-form)) (unfold originOf in (rw f at (search-model-guarantee m q (x .fit) .length-witness e)))
+
+-- "No model in the profile ends in a length stop", whatever the widths and the budget are
+pub no-length-stop-in-profile : (most : ℕ) (bytes : List ℕ) (q : Settings) (l : Lent) → q .form ≡ loading → run most bytes q l .outcome ≡ verdict lengthStop → ⊥
+no-length-stop-in-profile most bytes q l f = source-loading-ends f (run-source bytes q l most)
+
+abbrev pub withForm : Settings → Form → Settings
+withForm q f = record { beam = q .beam; form = f; budget = q .budget }
+
+asked-twice : {A : Type 0} (b : Bool) (x y : A) → cond b x y ≡ cond b x (cond b x y)
+asked-twice true x y = refl
+asked-twice false x y = refl
+
+-- the run of a model in the profile is the plain run with the length that the profile chooses, in every field, whatever is lent
+pub loading-is-plain : (most : ℕ) (bytes : List ℕ) (q : Settings) (l : Lent) (m : Model) (n : ℕ) → model bytes ≡ read m n → inProfile m ≡ true
+    → run most bytes (withForm q loading) l ≡ run most bytes (withForm q (plain (loadingLength m))) l
+unfolding run runRead settingsFit searchModel
+loading-is-plain most bytes q l m n reads p =
+    let short : loadingLength m ≤ mostSteps = omega (arith, loading-length-within bytes reads p) in
+    rw (le-leb 1 (loadingLength m) (loading-length-some m), le-leb (loadingLength m) mostSteps short, reads, p)
+    (ap (λ (a : Answer ℕ). cond (ltb most (length bytes)) (refusedByInput modelTooLong) (cond (not (beamFits (q .beam) && true)) (refusedByInput badSetting) a))
+    (asked-twice (not (lentFits (widestOf (q .beam)) (loadingLength m) l)) (refusedByInput tooLittleLent) (searchModel m (withForm q loading))))
+
+-- ---- all of them
+
+-- every demand, of every run
+pub run-meets-demands : (most : ℕ) (bytes : List ℕ) (q : Settings) (l : Lent) → Demands bytes q (run most bytes q l)
+run-meets-demands most bytes q l =
+    record {
+      ends = every-run-ends most bytes q l;
+      within-budget = expansions-never-pass-budget most bytes q l;
+      budget-used = run-budget-spent-means-used most bytes q l;
+      within-given = λ limit f. source-within-given limit f (run-source bytes q l most);
+      no-length-stop-loading = no-length-stop-in-profile most bytes q l;
+      marked = λ m n reads. run-marked most bytes q l m n reads;
+    }

@@ -10,7 +10,7 @@ use Rattle.model.specs.Meaning.{numberValue}
 use Rattle.model.specs.Check.{check, answerNumber, answerCost}
 use Rattle.model.proofs.Opened.{valueRead}
 use Rattle.search.specs.Answer.{Answer, isRefusal, bufferAfter}
-use Rattle.search.specs.Run.{upTo, plain, run, fields}
+use Rattle.search.specs.Run.{upTo, plain, loading, run, fields}
 use Rattle.laws.specs.Lists as ofLists
 use Rattle.laws.specs.Hex as ofHex
 use Rattle.model.specs.Values as ofValues
@@ -25,6 +25,7 @@ use Rattle.model.specs.Commands as ofCommands
 use Rattle.model.specs.Meaning as ofMeaning
 use Rattle.model.specs.Steps as ofSteps
 use Rattle.model.specs.Check as ofCheck
+use Rattle.model.specs.Profile as ofProfile
 use Rattle.search.specs.Answer as ofAnswer
 use Rattle.search.specs.Search as ofSearch
 use Rattle.search.specs.Run as ofRun
@@ -32,6 +33,8 @@ use Rattle.search.specs.Run as ofRun
 pub data Asked : Type 0 where
   -- a run: model, W, L, budget, plan buffer, working words
   runOf : (bytes : List ℕ) (widest limit budget : ℕ) (buffer : List ℕ) (words : ℕ) → Asked
+  -- a run in the loading profile: the same without L
+  loadOf : (bytes : List ℕ) (widest budget : ℕ) (buffer : List ℕ) (words : ℕ) → Asked
   -- the plan check of a model and a plan
   checkOf : (bytes plan : List ℕ) → Asked
   -- the value of the bytes of a number expression, without variables and tables
@@ -66,7 +69,8 @@ unfolding ofLists.any ofLists.filter ofLists.isEmpty ofHex.hex ofHex.zeros _bind
     ofMeaning.numberValue ofSteps.target ofSteps.combine ofSteps.statusOf ofSteps.costOf ofSteps.noWorse ofSteps.noneWorse ofSteps.raise
     ofSteps.admits ofSteps.status ofSteps.effects ofSteps.attempt ofSteps.constrained ofSteps.moveOf ofSteps.moveBy ofSteps.move ofSteps.greatest ofSteps.bound
     ofSteps.systemOf ofSteps.costsOf ofSteps.originOf ofCheck.final ofCheck.afterMove ofCheck.afterStatus ofCheck.follow ofCheck.afterConstraints ofCheck.followFrom ofCheck.checkModel
-    ofCheck.check ofCheck.answerNumber ofCheck.answerCost ofAnswer.verdictNumber ofAnswer.outcomeNumber ofAnswer.isRefusal ofAnswer.bufferAfter
+    ofCheck.check ofCheck.answerNumber ofCheck.answerCost ofProfile.ofOnly ofProfile.isVariableZero ofProfile.objectBeside ofProfile.requiredObject ofProfile.removedBy
+    ofProfile.removedObject ofProfile.sameObject ofProfile.loads ofProfile.beginsWithSet ofProfile.asksForEmpty ofProfile.endsEmpty ofProfile.inProfile ofProfile.loadingLength ofAnswer.verdictNumber ofAnswer.outcomeNumber ofAnswer.isRefusal ofAnswer.bufferAfter
     ofAnswer.handedBack ofSearch.andThen ofSearch.less ofSearch.belowBest ofSearch.before ofSearch.place ofSearch.beats ofSearch.cut ofSearch.insert
     ofSearch.offer ofSearch.refuse ofSearch.routeTo ofSearch.routeOver ofSearch.child ofSearch.bounded ofSearch.tried ofSearch.expand ofSearch.counted
     ofSearch.atLimit ofSearch.advance ofSearch.improvedBy ofSearch.newBest ofSearch.reached ofSearch.visit ofSearch.layer ofSearch.leastF
@@ -76,6 +80,7 @@ unfolding ofLists.any ofLists.filter ofLists.isEmpty ofHex.hex ofHex.zeros _bind
     ofSearch.searchWithin ofSearch.search ofRun.widerUpTo ofRun.settingsFit ofRun.wordsNeeded ofRun.lentFits ofRun.refusedByInput ofRun.searchModel ofRun.runRead ofRun.run
     ofRun.fields valueRead told toldCheck
 opened (runOf bytes widest limit budget buffer words) = told (run mostModelBytes bytes (record { beam = upTo widest; form = plain limit; budget = budget }) (record { planBytes = length buffer; words = words })) buffer
+opened (loadOf bytes widest budget buffer words) = told (run mostModelBytes bytes (record { beam = upTo widest; form = loading; budget = budget }) (record { planBytes = length buffer; words = words })) buffer
 opened (checkOf bytes plan) = toldCheck (check bytes plan)
 opened (numberOf bytes) = valued (valueRead (ofExpressions.number [] [] mostNesting bytes))
 

@@ -2,13 +2,10 @@
 -- trouble, at the answer's cost. Of any system, then of a run from bytes.
 use Prim.Native.Nat.{ℕ}
 use mathlib.Core.Path.{_≡_, refl}
-use mathlib.Core.Bool.{true, not}
+use mathlib.Core.Bool.{true}
 use mathlib.Core.List.{List}
 use native.Mathlib.Omega.{arith}
-use lib.ListN.{length}
-use lib.Dec.{ltb}
-use Rattle.laws.proofs.Bools.{by-cond}
-use Rattle.model.specs.Numbers.{rangeEnd, modelTooLong, badSetting, tooLittleLent}
+use Rattle.model.specs.Numbers.{rangeEnd}
 use Rattle.model.specs.System.{Costs, CostLaws, System, Origin}
 use Rattle.model.specs.Readers.{read}
 use Rattle.model.specs.Syntax.{Model}
@@ -19,10 +16,11 @@ use Rattle.model.proofs.Dominance.{dominates-self}
 use Rattle.search.specs.Answer.{byState, Answer}
 use Rattle.search.specs.Search.{Progress, Ending, decided, refused, answerOf, answer, search}
 use Rattle.search.specs.Guarantee.{widest, TroubleAt}
-use Rattle.search.specs.Run.{Settings, Lent, firstWidth, widerThan, limitOf, settingsFit, lentFits, refusedByInput, searchModel, runRead, run}
+use Rattle.search.specs.Run.{Settings, Lent, firstWidth, widerThan, limitOf, refusedByInput, searchModel, run}
 use Rattle.search.proofs.Rounds.{search-holds}
 use Rattle.search.proofs.Invariant.{Supported, Claim, Justified}
 use Rattle.search.proofs.Sound.{run-kept}
+use Rattle.search.proofs.Source.{run-holds}
 
 -- of an answer that is a refusal by the state
 abbrev pub PathToTrouble : {S C : Type 0} → Costs C → System S C → Origin S C → Answer C → Type 0
@@ -45,21 +43,15 @@ refusal-path K L M self o budget limit width wider {t} =
 
 -- ---- from bytes
 
+input-path : {S : Type 0} (K : Costs ℕ) (M : System S ℕ) (o : Origin S ℕ) (t : ℕ) → PathToTrouble K M o (refusedByInput t)
+unfolding refusedByInput
+input-path K M o t u e = let z : _≡_ {A = ℕ} 0 1 = cc in absurd (omega arith)
+
 module _ (most : ℕ) (bytes : List ℕ) (q : Settings) (l : Lent) (m : Model) (n : ℕ) (reads : model bytes ≡ read m n) where
-  abbrev ToTrouble : Answer ℕ → Type 0
-  ToTrouble = PathToTrouble (costsOf (m .rule)) (systemOf rangeEnd m) (originOf m)
-
-  input-path : (u : ℕ) → ToTrouble (refusedByInput u)
-  unfolding refusedByInput
-  input-path u t e = let z : _≡_ {A = ℕ} 0 1 = cc in absurd (omega arith)
-
-  read-path : ToTrouble (runRead (model bytes) q)
-  unfolding runRead searchModel
-  read-path = rw reads (λ t e. refusal-path (costsOf (m .rule)) (cost-laws (m .rule)) (systemOf rangeEnd m) (dominates-self rangeEnd m) (originOf m) (q .budget) (limitOf (q .form)) (firstWidth (q .beam)) (widerThan (q .beam)) e)
+  search-path : PathToTrouble (costsOf (m .rule)) (systemOf rangeEnd m) (originOf m) (searchModel m q)
+  unfolding searchModel
+  search-path t e = refusal-path (costsOf (m .rule)) (cost-laws (m .rule)) (systemOf rangeEnd m) (dominates-self rangeEnd m) (originOf m) (q .budget) (limitOf (q .form) m) (firstWidth (q .beam)) (widerThan (q .beam)) e
 
   pub run-refusal-path : {t : ℕ} → run most bytes q l .outcome ≡ byState t → TroubleAt (costsOf (m .rule)) (systemOf rangeEnd m) (originOf m) t (run most bytes q l .steps) (run most bytes q l .cost)
-  unfolding run
   run-refusal-path {t} =
-      by-cond ToTrouble (ltb most (length bytes)) (λ _. input-path modelTooLong)
-      (λ _. by-cond ToTrouble (not (settingsFit q)) (λ _. input-path badSetting)
-      (λ _. by-cond ToTrouble (not (lentFits q l)) (λ _. input-path tooLittleLent) (λ _. read-path))) t
+      run-holds bytes q l m n reads (PathToTrouble (costsOf (m .rule)) (systemOf rangeEnd m) (originOf m)) (input-path (costsOf (m .rule)) (systemOf rangeEnd m) (originOf m)) (λ _. search-path) most t

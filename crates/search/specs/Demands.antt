@@ -4,7 +4,7 @@ use mathlib.Core.Path.{_≡_}
 use mathlib.Core.Bool.{true}
 use mathlib.Core.List.{List}
 use lib.ListN.{length}
-use Rattle.model.specs.Numbers.{rangeEnd}
+use Rattle.model.specs.Numbers.{outsideProfile, rangeEnd}
 use Rattle.model.specs.Plans.{PlanFrom, TrueDeclarations}
 use Rattle.model.specs.Readers.{read}
 use Rattle.model.specs.Syntax.{Model}
@@ -12,13 +12,14 @@ use Rattle.model.specs.Commands.{model}
 use Rattle.model.specs.Steps.{target, costsOf, systemOf, originOf}
 use Rattle.search.specs.Answer.{Verdict, cheapest, noPlan, widthStop, lengthStop, budgetSpent, contradicted, Outcome, verdict, byState, byInput, Answer}
 use Rattle.search.specs.Guarantee.{Stopped, TroubleAt, Fits}
-use Rattle.search.specs.Run.{Settings, widestOf, limitOf}
+use Rattle.search.specs.Run.{Form, plain, loading, Settings, widestOf, limitOf}
 
--- how a run may end: a verdict, or one of document 01's refusals
-pub data Ends : Outcome → Type 0 where
-  with-verdict : {v : Verdict} → Ends (verdict v)
-  by-state : {t : ℕ} → 11 ≤ t → t ≤ 13 → Ends (byState t)
-  by-input : {t : ℕ} → 1 ≤ t → t ≤ 9 → Ends (byInput t)
+-- how a run of this form may end: a verdict, or one of document 01's refusals; or, in the loading profile, document 02's 15
+pub data Ends (f : Form) : Outcome → Type 0 where
+  with-verdict : {v : Verdict} → Ends f (verdict v)
+  by-state : {t : ℕ} → 11 ≤ t → t ≤ 13 → Ends f (byState t)
+  by-input : {t : ℕ} → 1 ≤ t → t ≤ 9 → Ends f (byInput t)
+  outside-profile : f ≡ loading → Ends f (byInput outsideProfile)
 
 -- a plan of the model, from its target, which meets the constraints, at this cost
 abbrev pub PlanOf : Model → List ℕ → (cost : ℕ) → Type 0
@@ -31,10 +32,12 @@ DeclarationsTrue m = TrueDeclarations (costsOf (m .rule)) (systemOf rangeEnd m) 
 -- "every layer of the model up to the length limit has at most as many different states as the widest beam, and no unfinished state
 -- lies at the limit"
 abbrev pub LayersFit : Model → Settings → Type 0
-LayersFit m q = Fits (costsOf (m .rule)) (systemOf rangeEnd m) (originOf m) (widestOf (q .beam)) (limitOf (q .form))
+LayersFit m q = Fits (costsOf (m .rule)) (systemOf rangeEnd m) (originOf m) (widestOf (q .beam)) (limitOf (q .form) m)
 
--- what the answer to a run of the model m says of that model: demand 3, and the path at a refusal by the state
+-- what the answer to a run of the model m says of that model: demand 3, the length limit, and the path at a refusal by the state
 pub record Marked (m : Model) (q : Settings) (a : Answer ℕ) : Type 0 where
+  -- the steps never outnumber the length limit, given or chosen
+  pub within-limit : length (a .steps) ≤ limitOf (q .form) m
   -- "under every verdict a plan given is a plan of the model, at the cost stated"
   pub plan-given : a .flag ≡ true → PlanOf m (a .steps) (a .cost)
   -- "a plan marked cheapest costs no more than every other plan of the model, of every length, those beyond the limit included"
@@ -55,12 +58,14 @@ pub record Marked (m : Model) (q : Settings) (a : Answer ℕ) : Type 0 where
 -- the demands on the answer to a run of these bytes with these settings
 pub record Demands (bytes : List ℕ) (q : Settings) (a : Answer ℕ) : Type 0 where
   -- "ends with a verdict or one of the refusals in document 01"
-  pub ends : Ends (a .outcome)
+  pub ends : Ends (q .form) (a .outcome)
   -- "counts included": "the count … never passes the budget"
   pub within-budget : a .tally .expansions ≤ q .budget
   -- "expanded, unless the budget is used up: verdict 4"
   pub budget-used : a .outcome ≡ verdict budgetSpent → a .tally .expansions ≡ q .budget
-  -- the steps never outnumber the length limit
-  pub within-limit : length (a .steps) ≤ limitOf (q .form)
+  -- the steps never outnumber a length limit that is given
+  pub within-given : (limit : ℕ) → q .form ≡ plain limit → length (a .steps) ≤ limit
+  -- document 02, §2: "No model in the profile ends in a length stop"
+  pub no-length-stop-loading : q .form ≡ loading → a .outcome ≡ verdict lengthStop → ⊥
   -- of the model that the bytes are read as
   pub marked : (m : Model) (n : ℕ) → model bytes ≡ read m n → Marked m q a

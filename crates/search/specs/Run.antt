@@ -1,16 +1,17 @@
--- A run from the bytes of a model and the settings: refusals 1, 2 and 3, then reading, then the search.
--- docs/FORMAT.md, "Settings", "Refusals by the input" and "Program".
+-- A run from the bytes of a model and the settings: refusals 1, 2 and 3, then reading, 15 and 3 in the loading profile, then the search.
+-- docs/FORMAT.md, "Settings", "Refusals by the input", "Loading profile" and "Program".
 use Prim.Native.Nat.{ℕ, _+_, _*_}
-use mathlib.Core.Bool.{Bool, false, cond, not, _&&_}
+use mathlib.Core.Bool.{Bool, true, false, cond, not, _&&_}
 use mathlib.Core.List.{List, [], _∷_}
 use lib.ListN.{length}
 use lib.Dec.{leb, ltb, eqb}
 use Rattle.laws.specs.Lists.{any, filter}
-use Rattle.model.specs.Numbers.{modelTooLong, badSetting, tooLittleLent, mostSteps, rangeEnd}
+use Rattle.model.specs.Numbers.{modelTooLong, badSetting, tooLittleLent, outsideProfile, mostSteps, rangeEnd}
 use Rattle.model.specs.Readers.{Read, read, refused}
 use Rattle.model.specs.Syntax.{Model}
 use Rattle.model.specs.Commands.{model}
 use Rattle.model.specs.Steps.{costsOf, systemOf, originOf}
+use Rattle.model.specs.Profile.{inProfile, loadingLength}
 use Rattle.search.specs.Answer.{byInput, Answer, outcomeNumber}
 use Rattle.search.specs.Search.{search}
 
@@ -18,9 +19,10 @@ use Rattle.search.specs.Search.{search}
 pub data Beam : Type 0 where
   upTo : (widest : ℕ) → Beam
 
--- how far a run goes: "length L"
+-- how far a run goes: "length L"; or, with no length given, as far as the loading profile says
 pub data Form : Type 0 where
   plain : (limit : ℕ) → Form
+  loading : Form
 
 -- the settings of a run
 pub record Settings : Type 0 where
@@ -54,9 +56,10 @@ widerThan (upTo widest) = widerUpTo widest
 abbrev pub widestOf : Beam → ℕ
 widestOf (upTo widest) = widest
 
--- the steps that a plan may have
-abbrev pub limitOf : Form → ℕ
-limitOf (plain limit) = limit
+-- the steps that a plan may have. "The profile's entry chooses the length itself"
+abbrev pub limitOf : Form → Model → ℕ
+limitOf (plain limit) m = limit
+limitOf loading m = loadingLength m
 
 -- "widest beam W, a power of two, 1..4,096"
 abbrev pub beamFits : Beam → Bool
@@ -65,35 +68,51 @@ beamFits (upTo widest) = isWidth widest
 -- "length L, 1..256"
 abbrev pub formFits : Form → Bool
 formFits (plain limit) = leb 1 limit && leb limit mostSteps
+formFits loading = true
 
 unfoldable pub settingsFit : Settings → Bool
 settingsFit q = beamFits (q .beam) && formFits (q .form)
 
 -- "The caller lends at least L plan bytes and 64 × W + W × (L + 1) working words"
-unfoldable pub wordsNeeded : Settings → ℕ
-wordsNeeded q = 64 * widestOf (q .beam) + widestOf (q .beam) * (limitOf (q .form) + 1)
+unfoldable pub wordsNeeded : (widest limit : ℕ) → ℕ
+wordsNeeded widest limit = 64 * widest + widest * (limit + 1)
 
-unfoldable pub lentFits : Settings → Lent → Bool
-lentFits q l = leb (limitOf (q .form)) (l .planBytes) && leb (wordsNeeded q) (l .words)
+unfoldable pub lentFits : (widest limit : ℕ) → Lent → Bool
+lentFits widest limit l = leb limit (l .planBytes) && leb (wordsNeeded widest limit) (l .words)
+
+-- what can be asked before the reading: all of it where the length is given, nothing where the model decides on it
+abbrev pub lentBefore : Form → (widest : ℕ) → Lent → Bool
+lentBefore (plain limit) widest l = lentFits widest limit l
+lentBefore loading widest l = true
+
+-- whether a run of this form takes the model
+abbrev pub accepts : Form → Model → Bool
+accepts (plain limit) m = true
+accepts loading m = inProfile m
 
 -- "All other answer fields 0"
 unfoldable pub refusedByInput : ℕ → Answer ℕ
 refusedByInput t = record { outcome = byInput t; flag = false; cost = 0; bound = 0; steps = []; tally = record { expansions = 0; rounds = 0; width = 0 } }
 
 unfoldable pub searchModel : Model → Settings → Answer ℕ
-searchModel m q = search (costsOf (m .rule)) (systemOf rangeEnd m) (q .budget) (limitOf (q .form)) (firstWidth (q .beam)) (widerThan (q .beam)) (originOf m)
+searchModel m q = search (costsOf (m .rule)) (systemOf rangeEnd m) (q .budget) (limitOf (q .form) m) (firstWidth (q .beam)) (widerThan (q .beam)) (originOf m)
 
-unfoldable pub runRead : Read Model → Settings → Answer ℕ
-runRead (read m n) q = searchModel m q
-runRead (refused t) q = refusedByInput t
+-- "15, model outside the profile, … comes after a complete reading and before the search; 3 is tested right after it here"; where the
+-- length is given, 3 has been passed already
+unfoldable pub runRead : Read Model → Settings → Lent → Answer ℕ
+runRead (read m n) q l =
+    cond (not (accepts (q .form) m)) (refusedByInput outsideProfile)
+    (cond (not (lentFits (widestOf (q .beam)) (limitOf (q .form) m) l)) (refusedByInput tooLittleLent)
+    (searchModel m q))
+runRead (refused t) q l = refusedByInput t
 
 -- most: the bytes that a model may have, 65,536, or 16,384 for the program
 unfoldable pub run : (most : ℕ) (bytes : List ℕ) → Settings → Lent → Answer ℕ
 run most bytes q l =
     cond (ltb most (length bytes)) (refusedByInput modelTooLong)
     (cond (not (settingsFit q)) (refusedByInput badSetting)
-    (cond (not (lentFits q l)) (refusedByInput tooLittleLent)
-    (runRead (model bytes) q)))
+    (cond (not (lentBefore (q .form) (widestOf (q .beam)) l)) (refusedByInput tooLittleLent)
+    (runRead (model bytes) q l)))
 
 -- the answer's fields in document 01's order, as the program's line has them in front of the colon
 unfoldable pub fields : Answer ℕ → List ℕ

@@ -3,13 +3,13 @@ use Prim.Native.Nat.{ℕ, _≤_}
 use mathlib.Core.Path.{_≡_, refl, ap}
 use mathlib.Core.Bool.{Bool, true, false, cond}
 use mathlib.Core.List.{List}
-use native.Mathlib.Omega.{arith}
 use lib.ListN.{length}
 use lib.Dec.{eqb}
-use borrow.Author.Tests.{lt-ltb, le-ltb}
 use Rattle.search.specs.Answer as A
-use Rattle.search.specs.Answer.{cheapest, noPlan, widthStop, lengthStop, budgetSpent, contradicted, verdict, byState, byInput, verdictNumber, outcomeNumber, isRefusal, verdictNumbered, outcomeNumbered, bufferAfter, handedBack}
-use Rattle.search.specs.Demands.{Ends, by-state, by-input}
+use Rattle.search.specs.Answer.{outcomeNumber, isRefusal, outcomeNumbered, bufferAfter, handedBack}
+use Rattle.search.specs.Demands.{Ends}
+use Rattle.search.specs.Run.{Form}
+use Rattle.search.proofs.Numbered.{outcome-back}
 use Rattle.search.proofs.Mission.{plan-handed-back}
 use Rattle.search_report.specs.Answers.{outcomeOf, AnswerIs, FieldsAre, numbersOf, answerIn}
 use Rattle.search_report.specs.declared.answers.Answer.{Answer}
@@ -35,26 +35,11 @@ numbers-told a er ev ef = rw (er, ev, ef)
 
 -- ---- read back
 
-verdict-back : (v : A.Verdict) → verdictNumbered (verdictNumber v) ≡ v
-unfolding verdictNumbered verdictNumber
-verdict-back cheapest = refl
-verdict-back noPlan = refl
-verdict-back widthStop = refl
-verdict-back lengthStop = refl
-verdict-back budgetSpent = refl
-verdict-back contradicted = refl
-
-outcome-back : (o : A.Outcome) → Ends o → outcomeNumbered (cond (isRefusal o) 1 0) (outcomeNumber o) ≡ o
-unfolding outcomeNumbered isRefusal outcomeNumber
-outcome-back (verdict v) e = ap verdict (verdict-back v)
-outcome-back (byState t) (by-state a b) = rw (le-ltb t 10 (omega arith))
-outcome-back (byInput t) (by-input a b) = rw (lt-ltb t 10 (omega arith))
-
 flag-back : (b : Bool) → eqb (cond b 1 0) 1 ≡ b
 flag-back true = refl
 flag-back false = refl
 
-pub read-back : (d : A.Answer ℕ) (x : Fields) (plan plan′ : List ℕ) → Ends (d .outcome) → length (d .steps) ≤ length plan → FieldsAre d x → plan′ ≡ bufferAfter d plan → answerIn x plan′ ≡ d
+pub read-back : (d : A.Answer ℕ) (x : Fields) (plan plan′ : List ℕ) {f : Form} → Ends f (d .outcome) → length (d .steps) ≤ length plan → FieldsAre d x → plan′ ≡ bufferAfter d plan → answerIn x plan′ ≡ d
 read-back d x plan plan′ ends room is after =
     let outcome : outcomeNumbered (x .refused) (x .verdict) ≡ d .outcome = rw (is .refused, is .verdict-number) (outcome-back (d .outcome) ends) in
     let flag : eqb (x .flag) 1 ≡ d .flag = rw (is .flag) (flag-back (d .flag)) in

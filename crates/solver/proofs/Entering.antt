@@ -10,19 +10,26 @@ use native.Mathlib.Omega.{arith}
 use lib.ListN.{length, drop, getD}
 use lib.Dec.{eqb, leb}
 use lib.Seq.{drop-cons}
-use borrow.Author.Tests.{lt-ltb, le-ltb, le-leb, lt-leb, leb-true, eq-eqb, ne-eqb}
+use borrow.Author.Tests.{le-leb, lt-leb, leb-true, eq-eqb, ne-eqb}
 use Rattle.laws.specs.Lists.{any}
 use Rattle.laws.proofs.Bools.{and-both}
 use Rattle.model.specs.Numbers.{mostSteps}
 use Rattle.model.specs.Values.{Value, value, trouble}
+use Rattle.model.specs.Readers.{Read, read, refused}
+use Rattle.model.specs.Syntax.{Model}
+use Rattle.model.specs.Commands.{model}
+use Rattle.model.specs.Profile.{inProfile, loadingLength}
 use Rattle.model.specs.Meaning.{State}
+use Rattle.model.proofs.Reading.{model-refusal}
+use Rattle.outline.specs.Outline.{modelOf, readModel, refusalOf}
 use Rattle.search.specs.Answer as A
 use Rattle.search.specs.Answer.{noPlan, verdict, byState, byInput, bufferAfter}
 use Rattle.search.specs.Search as S
 use Rattle.search.specs.Search.{root, search, searchWithin, enter, begin}
 use Rattle.search.specs.Demands.{Demands}
-use Rattle.search.specs.Run.{upTo, plain, widerWidths, isWidth, widerUpTo, settingsFit, wordsNeeded, lentFits, refusedByInput, searchModel, runRead, run}
-use Rattle.search.proofs.Settings.{beam-fits, form-fits, widest-within, limit-within}
+use Rattle.search.specs.Run.{upTo, Form, plain, loading, Settings, widerWidths, isWidth, widerUpTo, limitOf, settingsFit, wordsNeeded, lentFits, refusedByInput, searchModel}
+use Rattle.search.proofs.Settings.{beam-fits, form-fits, widest-within, given-within, limit-within, loading-fits}
+use Rattle.search.proofs.Source.{Accepted, run-unread, run-accepted, load-unread, load-outside, load-little-lent}
 use Rattle.search.proofs.Targets.{broken-start, troubled-start, unbounded-start}
 use Rattle.search.proofs.Counts.{never-by-input}
 use Rattle.search.proofs.Mission.{run-meets-demands, steps-fit-buffer, refusal-changes-no-buffer}
@@ -37,12 +44,12 @@ use Rattle.beam.specs.Nodes.{headerOf, nodeAt}
 use Rattle.search_paths.specs.Routes.{RootIs}
 use Rattle.search_runs.specs.Runs.{Runs}
 use Rattle.search_report.specs.Answers.{AnswerIs, stopAnswer, Reports, numbersOf}
-use Rattle.solver.specs.Searches.{SearchSays, settings, lentOf, lent, runOf, Searched, enteredOf, endedAtTarget}
+use Rattle.solver.specs.Searches.{SearchSays, settings, loadingSettings, lentOf, lent, runOf, Searched, enteredOf, endedAtTarget}
 use Rattle.solver.specs.declared.entry.Entered.{Entered}
 use Rattle.solver.specs.declared.entry.Entered.the-variants as E
 use Rattle.search_report.specs.declared.answers.Answer.{Answer}
 use Rattle.search_runs.specs.declared.Stop.{Stop}
-use Rattle.steps.proofs.Promises.{refused-in, read-in, cost-laws, cost-empty, origin-start, origin-spent}
+use Rattle.steps.proofs.Promises.{refused-in, cost-laws, cost-empty, origin-start, origin-spent}
 use Rattle.steps.proofs.Trials.{all-held, one-fails, one-troubles}
 use Rattle.search_report.proofs.Reporting.{answer-same}
 use Rattle.search_report.proofs.Numbers.{in-numbers, read-back}
@@ -107,7 +114,7 @@ module _ (w l b : ℕ) where
   narrow e = widest-within (upTo w) (width-fits e)
 
   pub some-steps : settingsFit (settings w l b) ≡ true → l ≤ mostSteps
-  some-steps e = limit-within (plain l) (form-fits (settings w l b) e) .1
+  some-steps e = given-within l (form-fits (settings w l b) e) .1
 
 -- ---- what is lent
 
@@ -115,19 +122,15 @@ module _ (w l p n : ℕ) where
   pub words-bound : w ≤ 4096 → l ≤ mostSteps → w * (l + 1) ≤ 4096 * 257
   words-bound a b = let more : l + 1 ≤ 257 = omega arith in mul-le-mul a more
 
-  pub lent-short : p < l → lentFits (settings w l 0) (lentOf p n) ≡ false
+  pub lent-short : p < l → lentFits w l (lentOf p n) ≡ false
   unfolding lentFits
   lent-short h = rw (lt-leb l p h)
 
-  pub lent-words : l ≤ p → leb (64 * w + w * (l + 1)) n ≡ lentFits (settings w l 0) (lentOf p n)
+  pub lent-words : l ≤ p → leb (64 * w + w * (l + 1)) n ≡ lentFits w l (lentOf p n)
   unfolding lentFits wordsNeeded
   lent-words h = rw (le-leb l p h)
 
-  pub lent-whatever : (b c : ℕ) → lentFits (settings w l b) (lentOf p n) ≡ lentFits (settings w l c) (lentOf p n)
-  unfolding lentFits wordsNeeded
-  lent-whatever b c = refl
-
-  pub lent-both : lentFits (settings w l 0) (lentOf p n) ≡ true → (l ≤ p) × (64 * w + w * (l + 1) ≤ n)
+  pub lent-both : lentFits w l (lentOf p n) ≡ true → (l ≤ p) × (64 * w + w * (l + 1) ≤ n)
   unfolding lentFits wordsNeeded
   lent-both e =
       let both = and-both (leb l p) (leb (64 * w + w * (l + 1)) n) e in
@@ -235,15 +238,23 @@ module _ (bytes : List ℕ) (widest limit budget : ℕ) where
 
 -- ---- the run, test by test
 
-module _ (most : ℕ) (bytes plan words : List ℕ) (w l b : ℕ) where
+-- bytes that are not refused are read as their model
+reads-as : (bytes : List ℕ) (x : Read Model) → model bytes ≡ x → 0 ≡ refusalOf x → (n : ℕ) × (model bytes ≡ read (modelOf bytes) n)
+unfolding refusalOf modelOf readModel
+reads-as bytes (read m n) e z = (n, rw e)
+reads-as bytes (refused t) e z = absurd (omega (arith, model-refusal bytes e))
+
+pub reads-in : (bytes : List ℕ) → 0 ≡ refusalIn bytes → (n : ℕ) × (model bytes ≡ read (modelOf bytes) n)
+reads-in bytes z = reads-as bytes (model bytes) refl z
+
+module _ (most : ℕ) (bytes plan words : List ℕ) (q : Settings) where
   -- what the code has shown of an answer, with what is known of every run
-  told : (plan′ words′ : List ℕ) (x : Answer) → AnswerIs (runOf most bytes plan words w l b) x → plan′ ≡ bufferAfter (runOf most bytes plan words w l b) plan
-      → ((t : ℕ) → runOf most bytes plan words w l b .outcome ≡ byInput t → words′ ≡ words) → Searched most bytes plan plan′ words words′ w l b (numbersOf x)
+  told : (plan′ words′ : List ℕ) (x : Answer) → AnswerIs (runOf most bytes plan words q) x → plan′ ≡ bufferAfter (runOf most bytes plan words q) plan
+      → ((t : ℕ) → runOf most bytes plan words q .outcome ≡ byInput t → words′ ≡ words) → Searched most bytes plan plan′ words words′ q (numbersOf x)
   told plan′ words′ x is after kept =
-      let q = settings w l b in
       let meets = run-meets-demands most bytes q (lent plan words) in
-      let fields = in-numbers (runOf most bytes plan words w l b) x is in
-      let same = read-back (runOf most bytes plan words w l b) (numbersOf x) plan plan′ (meets .ends) (steps-fit-buffer most bytes q (lent plan words)) fields after in
+      let fields = in-numbers (runOf most bytes plan words q) x is in
+      let same = read-back (runOf most bytes plan words q) (numbersOf x) plan plan′ (meets .ends) (steps-fit-buffer most bytes q (lent plan words)) fields after in
       let outcome = ap (λ (a : A.Answer ℕ). a .outcome) same in
       record {
         fields = fields;
@@ -252,47 +263,53 @@ module _ (most : ℕ) (bytes plan words : List ℕ) (w l b : ℕ) where
         demands = subst (Demands bytes q) (sym same) meets;
       }
 
-  pub refused-says : (t : ℕ) (x : Answer) → runOf most bytes plan words w l b ≡ refusedByInput t → AnswerIs (refusedByInput t) x → Searched most bytes plan plan words words w l b (numbersOf x)
+  pub refused-says : (t : ℕ) (x : Answer) → runOf most bytes plan words q ≡ refusedByInput t → AnswerIs (refusedByInput t) x → Searched most bytes plan plan words words q (numbersOf x)
   unfolding refusedByInput bufferAfter
   refused-says t x e h = told plan words x (answer-same x e h) (rw e) (λ u f. refl)
 
-  pub run-long : most < length bytes → runOf most bytes plan words w l b ≡ refusedByInput 1
-  unfolding run
-  run-long h = rw (lt-ltb most (length bytes) h)
+-- at widths up to the widest: the model has passed every test, and was searched
+module _ (most : ℕ) (bytes plan words : List ℕ) (w : ℕ) (f : Form) (b : ℕ) (few : length bytes ≤ most) where
+  abbrev asked : Settings
+  asked = record { beam = upTo w; form = f; budget = b }
 
-  module _ (few : length bytes ≤ most) where
-    pub run-unfit : settingsFit (settings w l 0) ≡ false → runOf most bytes plan words w l b ≡ refusedByInput 2
-    unfolding run
-    run-unfit e = let f : settingsFit (settings w l b) ≡ false = fit-whatever w l b 0 ∙ e in rw (le-ltb most (length bytes) few, f)
+  pub accepted-says : Accepted bytes asked (lent plan words) (modelOf bytes) → (plan′ words′ : List ℕ) (x : Answer) → SearchSays bytes plan plan′ w (limitOf f (modelOf bytes)) b x
+      → Searched most bytes plan plan′ words words′ asked (numbersOf x)
+  unfolding searchModel
+  accepted-says passed plan′ words′ x says =
+      let limit = limitOf f (modelOf bytes) in
+      let same : runOf most bytes plan words asked ≡ searched bytes w limit b = run-accepted most bytes asked (lent plan words) few passed in
+      told most bytes plan words asked plan′ words′ x (answer-same x same (says .answer)) (says .plan-after ∙ ap (λ (a : A.Answer ℕ). bufferAfter a plan) (sym same))
+      (λ t e. absurd (never-by-input (costsIn bytes) (systemIn bytes) (originIn bytes) b limit 1 (widerUpTo w) t (ap (λ (a : A.Answer ℕ). a .outcome) (sym same) ∙ e)))
 
-    module _ (fit : settingsFit (settings w l 0) ≡ true) where
-      pub run-unlent : lentFits (settings w l 0) (lentOf (length plan) (length words)) ≡ false → runOf most bytes plan words w l b ≡ refusedByInput 3
-      unfolding run
-      run-unlent e =
-          let f : settingsFit (settings w l b) ≡ true = fit-whatever w l b 0 ∙ fit in
-          let g : lentFits (settings w l b) (lent plan words) ≡ false = lent-whatever w l (length plan) (length words) b 0 ∙ e in
-          rw (le-ltb most (length bytes) few, f, g)
+-- where the length is given
+module _ (most : ℕ) (bytes plan words : List ℕ) (w l b : ℕ) (few : length bytes ≤ most) (fit : settingsFit (settings w l b) ≡ true) (enough : lentFits w l (lent plan words) ≡ true) where
+  pub unread-run : (t : ℕ) → t ≡ refusalIn bytes → 0 < t → runOf most bytes plan words (settings w l b) ≡ refusedByInput t
+  unread-run t e p = run-unread most bytes (settings w l b) (lent plan words) few fit enough (refused-in bytes t e p)
 
-      module _ (enough : lentFits (settings w l 0) (lentOf (length plan) (length words)) ≡ true) where
-        fit-now : settingsFit (settings w l b) ≡ true
-        fit-now = fit-whatever w l b 0 ∙ fit
+  pub read-says : 0 ≡ refusalIn bytes → (plan′ words′ : List ℕ) (x : Answer) → SearchSays bytes plan plan′ w l b x → Searched most bytes plan plan′ words words′ (settings w l b) (numbersOf x)
+  read-says z =
+      let reads = reads-in bytes z in
+      accepted-says most bytes plan words w (plain l) b few (record { used = reads .0; reads = reads .1; fit = fit; in-form = refl; enough = enough })
 
-        enough-now : lentFits (settings w l b) (lent plan words) ≡ true
-        enough-now = lent-whatever w l (length plan) (length words) b 0 ∙ enough
+-- in the loading profile
+module _ (most : ℕ) (bytes plan words : List ℕ) (w b : ℕ) (few : length bytes ≤ most) (width : isWidth w ≡ true) where
+  pub unread-load : (t : ℕ) → t ≡ refusalIn bytes → 0 < t → runOf most bytes plan words (loadingSettings w b) ≡ refusedByInput t
+  unread-load t e p = load-unread most bytes (upTo w) b (lent plan words) few width (refused-in bytes t e p)
 
-        pub run-refused : (t : ℕ) → t ≡ refusalIn bytes → 0 < t → runOf most bytes plan words w l b ≡ refusedByInput t
-        unfolding run runRead
-        run-refused t e p = rw (le-ltb most (length bytes) few, fit-now, enough-now, refused-in bytes t e p)
+  module _ (z : 0 ≡ refusalIn bytes) where
+    pub outside-load : inProfile (modelOf bytes) ≡ false → runOf most bytes plan words (loadingSettings w b) ≡ refusedByInput 15
+    outside-load = load-outside most bytes (upTo w) b (lent plan words) few width (reads-in bytes z .1)
 
-        run-read : 0 ≡ refusalIn bytes → runOf most bytes plan words w l b ≡ searched bytes w l b
-        unfolding run runRead searchModel
-        run-read z =
-            rw (le-ltb most (length bytes) few, fit-now, enough-now)
-            (read-in bytes (λ x. runRead x (settings w l b)) (λ K M o. search K M b l 1 (widerUpTo w) o) (λ m n. refl) z)
+    -- l: the length that the model decides on
+    module _ (inside : inProfile (modelOf bytes) ≡ true) (l : ℕ) (chosen : l ≡ loadingLength (modelOf bytes)) where
+      pub loading-few-steps : l ≤ mostSteps
+      loading-few-steps = rw chosen (limit-within loading bytes (reads-in bytes z .1) refl inside)
 
-        pub run-says : 0 ≡ refusalIn bytes → (plan′ words′ : List ℕ) (x : Answer) → SearchSays bytes plan plan′ w l b x
-            → Searched most bytes plan plan′ words words′ w l b (numbersOf x)
-        run-says e plan′ words′ x says =
-            let same = run-read e in
-            told plan′ words′ x (answer-same x same (says .answer)) (says .plan-after ∙ ap (λ (a : A.Answer ℕ). bufferAfter a plan) (sym same))
-            (λ t f. absurd (never-by-input (costsIn bytes) (systemIn bytes) (originIn bytes) b l 1 (widerUpTo w) t (ap (λ (a : A.Answer ℕ). a .outcome) (sym same) ∙ f)))
+      pub unlent-load : lentFits w l (lent plan words) ≡ false → runOf most bytes plan words (loadingSettings w b) ≡ refusedByInput 3
+      unlent-load e = load-little-lent most bytes (upTo w) b (lent plan words) few width (reads-in bytes z .1) inside (rw (sym chosen) e)
+
+      pub load-says : lentFits w l (lent plan words) ≡ true → (plan′ words′ : List ℕ) (x : Answer) → SearchSays bytes plan plan′ w l b x → Searched most bytes plan plan′ words words′ (loadingSettings w b) (numbersOf x)
+      load-says enough plan′ words′ x says =
+          let reads = reads-in bytes z in
+          accepted-says most bytes plan words w loading b few (record { used = reads .0; reads = reads .1; fit = loading-fits (upTo w) b ∙ width; in-form = inside; enough = rw (sym chosen) enough })
+          plan′ words′ x (subst (λ k. SearchSays bytes plan plan′ w k b x) chosen says)

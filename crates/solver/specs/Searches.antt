@@ -8,7 +8,7 @@ use Rattle.model.specs.Values.{Value, value, trouble}
 use Rattle.search.specs.Answer as A
 use Rattle.search.specs.Answer.{byInput, bufferAfter}
 use Rattle.search.specs.Search.{search}
-use Rattle.search.specs.Run.{Settings, upTo, plain, Lent, isWidth, widerUpTo, run}
+use Rattle.search.specs.Run.{Settings, upTo, plain, loading, Lent, isWidth, widerUpTo, run}
 use Rattle.search.specs.Demands.{Demands}
 use Rattle.steps.specs.InBytes.{Outlined, systemIn, originIn}
 use Rattle.steps.specs.Follow.{costsIn}
@@ -42,10 +42,15 @@ pub record SearchSays (bytes plan plan′ : List ℕ) (widest limit budget : ℕ
   pub answer : AnswerIs (search (costsIn bytes) (systemIn bytes) budget limit 1 (widerUpTo widest) (originIn bytes)) x
   pub plan-after : plan′ ≡ bufferAfter (search (costsIn bytes) (systemIn bytes) budget limit 1 (widerUpTo widest) (originIn bytes)) plan
 
--- the settings and what is lent
+-- the settings where the length is given
 abbrev pub settings : (widest limit budget : ℕ) → Settings
 settings w limit budget = record { beam = upTo w; form = plain limit; budget = budget }
 
+-- the settings in the loading profile, where the model decides on the length
+abbrev pub loadingSettings : (widest budget : ℕ) → Settings
+loadingSettings w budget = record { beam = upTo w; form = loading; budget = budget }
+
+-- what is lent
 abbrev pub lentOf : (planBytes words : ℕ) → Lent
 lentOf p n = record { planBytes = p; words = n }
 
@@ -53,15 +58,16 @@ abbrev pub lent : (plan words : List ℕ) → Lent
 lent plan words = lentOf (length plan) (length words)
 
 -- the run of these bytes with these settings and buffers; most: the bytes that a model may have
-abbrev pub runOf : (most : ℕ) (bytes plan words : List ℕ) (widest limit budget : ℕ) → A.Answer ℕ
-runOf most bytes plan words w limit budget = run most bytes (settings w limit budget) (lent plan words)
+abbrev pub runOf : (most : ℕ) (bytes plan words : List ℕ) → Settings → A.Answer ℕ
+runOf most bytes plan words q = run most bytes q (lent plan words)
 
 -- what a caller of the search is given, x being the answer in numbers
-pub record Searched (most : ℕ) (bytes plan plan′ words words′ : List ℕ) (widest limit budget : ℕ) (x : Fields) : Type 0 where
+pub record Searched (most : ℕ) (bytes plan plan′ words words′ : List ℕ) (q : Settings) (x : Fields) : Type 0 where
   -- "the answer and the plan buffer are as document 01's rules give them"
-  pub fields : FieldsAre (runOf most bytes plan words widest limit budget) x
-  pub plan-after : plan′ ≡ bufferAfter (runOf most bytes plan words widest limit budget) plan
+  pub fields : FieldsAre (runOf most bytes plan words q) x
+  pub plan-after : plan′ ≡ bufferAfter (runOf most bytes plan words q) plan
   -- "Refusing a model or a setting changes no lent buffer"
   pub kept : (t : ℕ) → answerIn x plan′ .outcome ≡ byInput t → (plan′ ≡ plan) × (words′ ≡ words)
-  -- the mission's demands, of these very numbers and of the plan at the front of the buffer
-  pub demands : Demands bytes (settings widest limit budget) (answerIn x plan′)
+  -- the mission's demands, of these very numbers and of the plan at the front of the buffer; in the loading profile they say besides that
+  -- no run ends in a length stop
+  pub demands : Demands bytes q (answerIn x plan′)

@@ -70,7 +70,7 @@ fn enter(model: &[u8], outline: &[u64; PREPARED_WORDS], target: &[u64; STATE_WOR
 }
 
 // The run of a model that was read, at widths up to that of the limits.
-fn search_model(
+pub fn search_model(
     model: &[u8],
     outline: &[u64; PREPARED_WORDS],
     limits: Limits,
@@ -116,7 +116,7 @@ fn ended_at_target(outcome: Outcome) -> Answer
 }
 
 // A refusal by the input: all other fields 0.
-fn refusal(number: u8) -> Answer
+pub fn refusal(number: u8) -> Answer
     ensures { λ r. ⌜ AnswerIs (refusedByInput number) r ⌝ }
 {
     Answer {
@@ -134,7 +134,7 @@ fn refusal(number: u8) -> Answer
 }
 
 // Whether the width is one of 1, 2, 4 up to 4,096.
-fn is_width(width: u32) -> bool
+pub fn is_width(width: u32) -> bool
     ensures { λ r. ⌜ r ≡ isWidth width ⌝ }
 {
     let mut i: usize = 0;
@@ -161,9 +161,9 @@ fn settings_fit(width: u32, limit: u32) -> bool
 }
 
 // Whether the caller lends enough: plan bytes, and working words.
-fn lent_fits(width: usize, limit: usize, bytes: usize, words: usize) -> bool
+pub fn lent_fits(width: usize, limit: usize, bytes: usize, words: usize) -> bool
     requires { ⌜ (width ≤ 4096) × (limit ≤ 256) ⌝ }
-    ensures { λ r. ⌜ r ≡ lentFits (settings width limit 0) (lentOf bytes words) ⌝ }
+    ensures { λ r. ⌜ r ≡ lentFits width limit (lentOf bytes words) ⌝ }
 {
     if bytes < limit {
         return false;
@@ -182,7 +182,7 @@ pub fn search_up_to(
     words: &mut [u64],
 ) -> Answer
     requires { ⌜ most ≤ 65536 ⌝ }
-    ensures { λ r. ⌜ Searched most (now (model .entry)) (now (plan .entry)) (now (plan .exit)) (now (words .entry)) (now (words .exit)) width limit budget (numbersOf r) ⌝ }
+    ensures { λ r. ⌜ Searched most (now (model .entry)) (now (plan .entry)) (now (plan .exit)) (now (words .entry)) (now (words .exit)) (settings width limit budget) (numbersOf r) ⌝ }
 {
     if most < model.len() {
         return refusal(1);
@@ -217,7 +217,7 @@ pub fn search(
     plan: &mut [u8],
     words: &mut [u64],
 ) -> Answer
-    ensures { λ r. ⌜ Searched 65536 (now (model .entry)) (now (plan .entry)) (now (plan .exit)) (now (words .entry)) (now (words .exit)) width limit budget (numbersOf r) ⌝ }
+    ensures { λ r. ⌜ Searched 65536 (now (model .entry)) (now (plan .entry)) (now (plan .exit)) (now (words .entry)) (now (words .exit)) (settings width limit budget) (numbersOf r) ⌝ }
 {
     search_up_to(65536, model, width, limit, budget, plan, words)
 }

@@ -2,4 +2,5 @@
 
 pub mod buffers;
 pub mod entry;
+pub mod load;
 pub mod roots;

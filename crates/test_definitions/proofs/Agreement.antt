@@ -5,8 +5,8 @@ use mathlib.Core.Bool.{Bool, true, false, cond, _&&_}
 use mathlib.Core.List.{List, [], _∷_}
 use lib.Dec.{eqb}
 use Rattle.laws.specs.Hex.{hex, zeros}
-use Rattle.search.proofs.Opened.{Told, answer, checked, valued, runOf, checkOf, opened}
-use Rattle.test_definitions.specs.Case.{Case, searched}
+use Rattle.search.proofs.Opened.{Told, answer, checked, valued, runOf, loadOf, checkOf, opened}
+use Rattle.test_definitions.specs.Case.{Case, searched, loaded}
 use Rattle.test_definitions.specs.Case as Case
 use Rattle.test_definitions.specs.Reading1 as Reading1
 use Rattle.test_definitions.specs.Reading2 as Reading2
@@ -23,6 +23,9 @@ use Rattle.test_definitions.specs.Searches2 as Searches2
 use Rattle.test_definitions.specs.Searches3 as Searches3
 use Rattle.test_definitions.specs.Searches4 as Searches4
 use Rattle.test_definitions.specs.Searches5 as Searches5
+use Rattle.test_definitions.specs.Loads1 as Loads1
+use Rattle.test_definitions.specs.Loads2 as Loads2
+use Rattle.test_definitions.specs.Loads3 as Loads3
 
 unfoldable pub sameList : List ℕ → List ℕ → Bool
 sameList [] [] = true
@@ -38,6 +41,7 @@ isTold (valued v) fields′ after′ = false
 
 unfoldable pub agrees : Case → Bool
 agrees (searched model widest limit budget buffer words fields after) = isTold (opened (runOf model widest limit budget buffer words)) fields after
+agrees (loaded model widest budget buffer words fields after) = isTold (opened (loadOf model widest budget buffer words)) fields after
 agrees (Case.checked model plan number cost) = isTold (opened (checkOf model plan)) (number ∷ cost ∷ []) []
 
 -- the places, counted from k, of the cases that disagree
@@ -104,3 +108,15 @@ searches-4 = refl
 pub searches-5 : disagreeing 1 Searches5.cases ≡ []
 unfolding disagreeing agrees isTold sameList opened hex zeros
 searches-5 = refl
+
+pub loads-1 : disagreeing 1 Loads1.cases ≡ []
+unfolding disagreeing agrees isTold sameList opened hex zeros
+loads-1 = refl
+
+pub loads-2 : disagreeing 1 Loads2.cases ≡ []
+unfolding disagreeing agrees isTold sameList opened hex zeros
+loads-2 = refl
+
+pub loads-3 : disagreeing 1 Loads3.cases ≡ []
+unfolding disagreeing agrees isTold sameList opened hex zeros
+loads-3 = refl

@@ -15,4 +15,7 @@ pub mod Searches2
 pub mod Searches3
 pub mod Searches4
 pub mod Searches5
+pub mod Loads1
+pub mod Loads2
+pub mod Loads3
 pub mod All

@@ -1,13 +1,16 @@
 // Plans the models of data/ at the settings among the arguments, and writes a line for each: the case's name, then the answer's line.
-// A case is seven arguments: its name, the model's file, the widest beam, the length limit, the budget, and the plan bytes and words lent.
+// A case is seven arguments: its name, the model's file, the widest beam, the length limit or the word `loading` for the loading profile, the
+// budget, and the plan bytes and words lent.
 
 ghost use Prim.Native.Nat.{_≤_, _<_, _^_};
 ghost use lib.ListN.{length};
 use libc::STDOUT_FILENO;
 use line::write_answer;
 use line::write_fields;
+use search_report::answers::Answer;
 use search_report::answers::Outcome;
 use solver::entry::search;
+use solver::load::load;
 
 const ARGUMENTS: usize = 7;
 
@@ -64,16 +67,15 @@ fn write_name(i: usize) {
     io::write_all(STDOUT_FILENO, b": ");
 }
 
-// Plans a model with these buffers, and writes its line; a second one gives the fields and the path at a refusal by the state.
-fn write_search(
-    model: &[u8],
-    width: u32,
-    limit: u32,
-    budget: u32,
-    plan: &mut [u8],
-    words: &mut [u64],
-) {
-    let answer = search(model, width, limit, budget, plan, words);
+// Whether argument i begins with a letter: a word, and no number.
+fn is_word(i: usize) -> bool {
+    let mut text = io::buffer();
+    os::arg(i, &mut text);
+    text[0] > 57
+}
+
+// Writes an answer's line; a second one gives the fields and the path at a refusal by the state.
+fn write_lines(answer: Answer, plan: &mut [u8]) {
     write_answer(answer, plan);
     let outcome = answer.outcome;
     match outcome {
@@ -86,17 +88,43 @@ fn write_search(
     }
 }
 
+// Plans a model with these buffers, and writes its lines.
+fn write_search(
+    model: &[u8],
+    width: u32,
+    limit: u32,
+    budget: u32,
+    plan: &mut [u8],
+    words: &mut [u64],
+) {
+    let answer = search(model, width, limit, budget, plan, words);
+    write_lines(answer, plan);
+}
+
+// The same in the loading profile.
+fn write_load(model: &[u8], width: u32, budget: u32, plan: &mut [u8], words: &mut [u64]) {
+    let answer = load(model, width, budget, plan, words);
+    write_lines(answer, plan);
+}
+
 // Plans the case whose first argument is number i, with the buffers that it says.
 fn write_case(i: usize, model: &[u8], plan: &mut [u8], words: &mut [u64])
     requires { ⌜ i < 2 ^ 32 ⌝ }
 {
     let bytes = least(argument(i + 5) as usize, plan.len());
     let lent = least(argument(i + 6) as usize, words.len());
+    let width = argument(i + 2);
+    let budget = argument(i + 4);
+    if is_word(i + 3) {
+        write_load(model, width, budget, &mut plan[..bytes], &mut words[..lent]);
+        return;
+    }
+    let limit = argument(i + 3);
     write_search(
         model,
-        argument(i + 2),
-        argument(i + 3),
-        argument(i + 4),
+        width,
+        limit,
+        budget,
         &mut plan[..bytes],
         &mut words[..lent],
     );

@@ -1,7 +1,7 @@
 //! The cases as stored: the modules of crates/test_definitions, and what the programs test_plan_checks and test_searches are
 //! given and write.
 
-use super::{groups, Call, Case, Outcome, Search};
+use super::{groups, loads, searches, Call, Case, Outcome};
 use crate::line::{answer_line, fields, LONGEST_MODEL};
 use crate::numbers::refusal;
 use crate::reference::plan_check;
@@ -29,24 +29,44 @@ fn case_text(case: &Case) -> String {
         (Call::Check { model, plan }, Outcome::Check(answer, cost)) => {
             format!("checked {} {} {answer} {cost}", hex(model), hex(plan))
         }
-        (Call::Search(search), outcome) => {
-            let fields: Vec<String> = outcome.fields().iter().map(u64::to_string).collect();
-            let Outcome::Search(_, after) = outcome else {
-                unreachable!("a search has a search's outcome")
-            };
-            format!(
-                "searched {} {} {} {} {} {} ({} ∷ []) {}",
-                hex(&search.model),
-                search.width,
-                search.length,
-                search.budget,
-                hex(&search.buffer),
-                search.words,
-                fields.join(" ∷ "),
-                hex(&after)
-            )
-        }
+        (Call::Search(search), outcome) => format!(
+            "searched {} {} {} {} {} {} {}",
+            hex(&search.model),
+            search.width,
+            search.length,
+            search.budget,
+            hex(&search.buffer),
+            search.words,
+            outcome_text(&outcome)
+        ),
+        (Call::Load(load), outcome) => format!(
+            "loaded {} {} {} {} {} {}",
+            hex(&load.model),
+            load.width,
+            load.budget,
+            hex(&load.buffer),
+            load.words,
+            outcome_text(&outcome)
+        ),
         _ => unreachable!("a check has a check's outcome"),
+    }
+}
+
+/// The fields of a search and the buffer afterwards.
+fn outcome_text(outcome: &Outcome) -> String {
+    let Outcome::Search(_, after) = outcome else {
+        unreachable!("a search has a search's outcome")
+    };
+    let fields: Vec<String> = outcome.fields().iter().map(u64::to_string).collect();
+    format!("({} ∷ []) {}", fields.join(" ∷ "), hex(after))
+}
+
+/// The constructors that the cases are written with.
+fn constructors(cases: &[Case]) -> &'static str {
+    let loads = cases.iter().all(|case| matches!(case.call, Call::Load(_)));
+    match loads {
+        true => "loaded",
+        false => "searched, checked",
     }
 }
 
@@ -60,7 +80,13 @@ fn module(group: &str, part: usize, cases: &[Case]) -> String {
     .unwrap();
     text += "use Prim.Native.Nat.{ℕ}\n";
     text += "use mathlib.Core.List.{List, [], _∷_}\n";
-    text += "use Rattle.laws.specs.Hex.{hex, zeros}\nuse Rattle.test_definitions.specs.Case.{Case, searched, checked}\n\n";
+    text += "use Rattle.laws.specs.Hex.{hex, zeros}\n";
+    let constructors = constructors(cases);
+    writeln!(
+        text,
+        "use Rattle.test_definitions.specs.Case.{{Case, {constructors}}}\n"
+    )
+    .unwrap();
     text += "abbrev pub cases : List Case\ncases =\n";
     for (place, case) in cases.iter().enumerate() {
         if let Some(note) = &case.note {
@@ -131,6 +157,9 @@ pub fn plan_checks() -> (Vec<u8>, String) {
 const MOST_WORDS: u64 = 300_000;
 const MOST_PLAN_BYTES: usize = 300;
 
+/// What stands in the place of the length limit where the loading profile chooses it.
+const LOADING: &str = "loading";
+
 /// What the program `test_searches` is given and writes: its arguments, the model files, a line for each case, and one more with the path
 /// at a refusal by the state.
 #[derive(Default, PartialEq, Eq, Debug)]
@@ -164,21 +193,36 @@ impl SearchCases {
         file
     }
 
-    fn add(&mut self, name: &str, search: &Search) {
-        let (answer, after) = search.run();
-        let file = self.file(name, &search.model);
-        let plan_bytes = search.buffer.len().min(MOST_PLAN_BYTES);
-        let words = search.words.min(MOST_WORDS);
-        let settings = [search.width, search.length, search.budget];
-        for word in [name, &file] {
+    /// A search by its name, its model's file, the widest beam, the length limit or the word `loading` for the loading profile, the
+    /// budget, and the plan bytes and words lent.
+    fn add(&mut self, name: &str, call: &Call) {
+        let (width, length, budget, buffer, words) = match call {
+            Call::Check { .. } => return,
+            Call::Search(search) => {
+                let length = search.length.to_string();
+                let lent = (&search.buffer, search.words);
+                (search.width, length, search.budget, lent.0, lent.1)
+            }
+            Call::Load(load) => {
+                let length = LOADING.to_string();
+                (load.width, length, load.budget, &load.buffer, load.words)
+            }
+        };
+        let Outcome::Search(answer, after) = call.run() else {
+            unreachable!("a search has a search's outcome")
+        };
+        let file = self.file(name, call.model());
+        let plan_bytes = buffer.len().min(MOST_PLAN_BYTES);
+        let words = words.min(MOST_WORDS);
+        for word in [name, &file, &width.to_string(), &length] {
             writeln!(self.arguments, "{word}").unwrap();
         }
-        for number in settings.into_iter().chain([plan_bytes as u64, words]) {
+        for number in [budget, plan_bytes as u64, words] {
             writeln!(self.arguments, "{number}").unwrap();
         }
         let line = answer_line(&answer, &after);
         writeln!(self.output, "{name}: {line}").unwrap();
-        if answer.refused && answer.verdict >= refusal::OUT_OF_RANGE {
+        if answer.refused && refusal::by_state(answer.verdict) {
             let fields = fields(&answer, &after);
             writeln!(self.output, "  at {} {fields}", answer.verdict).unwrap();
         }
@@ -188,13 +232,10 @@ impl SearchCases {
 /// The stored searches that were chosen by hand, as the program `test_searches` runs them.
 pub fn search_cases() -> SearchCases {
     let mut all = SearchCases::default();
-    for case in super::searches::cases() {
+    for case in searches::cases().into_iter().chain(loads::cases()) {
         let Some(note) = &case.note else { continue };
-        let Call::Search(search) = &case.call else {
-            continue;
-        };
-        if search.model.len() <= LONGEST_MODEL {
-            all.add(&slug(note), search);
+        if case.call.model().len() <= LONGEST_MODEL {
+            all.add(&slug(note), &case.call);
         }
     }
     // the lengths at which 1 is told, which the program makes itself

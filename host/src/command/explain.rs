@@ -20,10 +20,11 @@ use super::known::Known;
 use super::long_runs::{self, Finished, Watch};
 use super::part::Part;
 use super::plan::status;
-use super::settings::{Run, Settings, OPTIONS};
-use super::words::{by_state, counted, grouped, refusal_name, verdict_name};
-use super::{refusals, target, warnings, Complaint, Done, CANNOT};
+use super::settings::{self, Run, Settings, OPTIONS};
+use super::words::{counted, grouped, refusal_name, verdict_name};
+use super::{profile, refusals, target, warnings, Complaint, Done, CANNOT};
 use crate::numbers::limit;
+use crate::numbers::refusal::by_state;
 use crate::reference::syntax::CostRule;
 use std::ffi::{OsStr, OsString};
 use std::io::Read;
@@ -41,6 +42,9 @@ const ENDED: usize = 2;
 pub struct Explained<'a> {
     source: &'a Source,
     finished: &'a Finished,
+    /// The model as it is read, whatever refuses it then.
+    read: Option<&'a Known>,
+    /// The same, if no refusal by the input keeps it from being searched.
     known: Option<&'a Known>,
     /// The plan's steps, or those of the path to a refusal; nothing where they cannot be followed.
     stages: Option<Vec<Stage>>,
@@ -51,7 +55,7 @@ pub struct Explained<'a> {
 pub fn run(arguments: &[OsString], input: &mut dyn Read) -> Result<Done, Complaint> {
     let files = [SVG, HTML, LANE, CLOCK];
     let valued = [&OPTIONS[..], &long_runs::VALUED, &files].concat();
-    let flags = [&long_runs::FLAGS[..], &[JSON]].concat();
+    let flags = [&long_runs::FLAGS[..], &settings::FLAGS, &[JSON]].concat();
     let arguments = Arguments::read(arguments, &valued, &flags)?;
     drawn_somewhere(&arguments)?;
     let mut settings = Settings::read(&arguments)?;
@@ -60,9 +64,8 @@ pub fn run(arguments: &[OsString], input: &mut dyn Read) -> Result<Done, Complai
     // What is asked of the view is looked at before the run, which may take long.
     let known = Known::of(&source).ok();
     let view = View::read(&arguments, known.as_ref())?;
-    let finished = watch.search(&source.model, settings);
-    let known = known.as_ref().filter(|_| !refused_by_input(&finished.run));
-    let mut explained = Explained::new(&source, &finished, known, view);
+    let finished = watch.search(&source.model, settings.for_model(&source.model));
+    let mut explained = Explained::new(&source, &finished, known.as_ref(), view);
     let (made, wrong) = explained.files(&arguments);
     explained.parts.extend(made);
     let status = match wrong.is_empty() {
@@ -98,14 +101,16 @@ impl Explained<'_> {
     fn new<'a>(
         source: &'a Source,
         finished: &'a Finished,
-        known: Option<&'a Known>,
+        read: Option<&'a Known>,
         view: View,
     ) -> Explained<'a> {
         let (run, settings) = (&finished.run, &finished.settings);
+        let known = read.filter(|_| !refused_by_input(run));
         let stages = known.and_then(|known| walk::follow(&known.model, &run.steps));
         Explained {
             source,
             finished,
+            read,
             known,
             parts: parts(source, settings, run, known, stages.as_deref()),
             stages,
@@ -137,9 +142,9 @@ impl Explained<'_> {
                 rule(self.known)
             ),
             format!(
-                "Widest beam {}, length limit {}, budget {}.",
+                "Widest beam {}, {}, budget {}.",
                 grouped(settings.width.into()),
-                grouped(settings.length.into()),
+                length_limit(settings),
                 counted(settings.budget.into(), "expansion")
             ),
             ended(self.run()),
@@ -190,6 +195,16 @@ impl Explained<'_> {
 
 fn refused_by_input(run: &Run) -> bool {
     run.answer.refused && !by_state(run.answer.verdict)
+}
+
+/// The length limit; in the loading profile the one that is chosen, if one is.
+fn length_limit(settings: &Settings) -> String {
+    let length = grouped(settings.length.into());
+    match (settings.loading, settings.length) {
+        (false, _) => format!("length limit {length}"),
+        (true, 0) => "no length limit chosen".to_string(),
+        (true, _) => format!("length limit {length}, which the loading profile chooses"),
+    }
 }
 
 fn rule(known: Option<&Known>) -> &'static str {
@@ -262,6 +277,7 @@ fn parts(
             parts.push(verdicts::checked_again(source, run));
         }
     }
+    parts.push(profile::part(known, settings));
     parts.extend(warnings::part(warnings::of_model(known)));
     parts.push(work(run));
     parts

@@ -30,6 +30,8 @@ is always text.
 plan and explain:
   --width W        widest beam: 1, 2, 4 up to 4096 (16)
   --length L       length limit: 1 to 256 (64)
+  --loading        in place of --length, for pure loading orders: the loading profile chooses the limit
+  --profile        the same
   --budget N       the most expansions (100000; no limit of its own with --seconds or --gap)
   --seconds N      stops after N seconds with the last finished answer and its budget
   --gap N          stops when a plan costs at most N more than the bound
@@ -41,7 +43,8 @@ Where a run is watched (a terminal, --progress, --seconds, --gap), budgets are d
 last finished answer.
 
 plan:
-  --fields         every field of the answer by name, one a line, then the plan, or the path at refusals 11 to 13
+  --fields         every field of the answer by name, one a line, with --loading the length chosen, then the plan, or the path at
+                   refusals 11 to 13
   --unconditional  plans again without bounds and preferences, and says whether the mark rests on them
   --quote OUT      also writes a quotation to the new file OUT: model, settings, line and steps
 

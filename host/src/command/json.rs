@@ -49,6 +49,7 @@ pub fn search(source: &Source, settings: &Settings, run: &Run) -> Members {
                 ("width", settings.width.into()),
                 ("length", settings.length.into()),
                 ("budget", settings.budget.into()),
+                ("loading", settings.loading.into()),
             ]),
         ),
         ("answer", answer(run)),

@@ -127,7 +127,8 @@ impl Watch {
         let mut last: Option<(Run, Settings)> = None;
         let mut budget = FIRST;
         loop {
-            let now = Settings { budget, ..settings };
+            let mut now = settings;
+            now.budget = budget;
             let started = Instant::now();
             let result = start(&model, now);
             let run = match self.wait(&result, begun, last.is_some()) {

@@ -4,11 +4,12 @@ use super::arguments::Arguments;
 use super::input::source;
 use super::json::{self, JSON};
 use super::long_runs::{self, Stop, Watch};
-use super::settings::{Run, Settings, OPTIONS};
-use super::words::{by_state, refusal_name, spaced, verdict_name};
+use super::settings::{self, Run, Settings, OPTIONS};
+use super::words::{refusal_name, spaced, verdict_name};
 use super::{quotations, refusals, unconditional, Complaint, Done, ANSWERED, CANNOT, REFUSED};
 use crate::json::Json;
 use crate::line::answer_line;
+use crate::numbers::refusal::by_state;
 use std::ffi::OsString;
 use std::io::Read;
 
@@ -18,7 +19,8 @@ const UNCONDITIONAL: &str = "--unconditional";
 
 pub fn run(arguments: &[OsString], input: &mut dyn Read) -> Result<Done, Complaint> {
     let valued = [&OPTIONS[..], &long_runs::VALUED, &[QUOTE]].concat();
-    let flags = [&[FIELDS, UNCONDITIONAL, JSON], &long_runs::FLAGS[..]].concat();
+    let own = [FIELDS, UNCONDITIONAL, JSON];
+    let flags = [&own[..], &long_runs::FLAGS, &settings::FLAGS].concat();
     let arguments = Arguments::read(arguments, &valued, &flags)?;
     if arguments.flag(FIELDS) && arguments.flag(JSON) {
         return Err(Complaint::new(format!("{FIELDS} or {JSON}, not both")));
@@ -26,10 +28,10 @@ pub fn run(arguments: &[OsString], input: &mut dyn Read) -> Result<Done, Complai
     let mut settings = Settings::read(&arguments)?;
     let watch = Watch::read(&arguments, &mut settings)?;
     let source = source(arguments.file(), input)?;
-    let finished = watch.search(&source.model, settings);
+    let finished = watch.search(&source.model, settings.for_model(&source.model));
     let (run, settings) = (&finished.run, &finished.settings);
     let beside = beside(&arguments, &source.model, settings, run);
-    let note = refusals::note(&source.model, settings, run);
+    let note = refusals::note(&source, settings, run);
     let wrong = arguments.value(QUOTE).and_then(|out| {
         let quotation = quotations::quotation(&source, settings, run);
         quotations::quote(out, quotation)
@@ -50,7 +52,7 @@ pub fn run(arguments: &[OsString], input: &mut dyn Read) -> Result<Done, Complai
         return Ok(Done::new(text, status).failed(wrong));
     }
     let mut text = if arguments.flag(FIELDS) {
-        fields(run)
+        fields(settings, run)
     } else {
         format!("{}\n", answer_line(&run.answer, &run.steps))
     };
@@ -87,8 +89,8 @@ pub fn status(run: &Run) -> u8 {
     }
 }
 
-/// Every field by name, one a line; last the plan, or the path to the state of a refusal.
-fn fields(run: &Run) -> String {
+/// Every field by name, one a line; in the loading profile the length that is chosen; last the plan, or the path to the state of a refusal.
+fn fields(settings: &Settings, run: &Run) -> String {
     let answer = &run.answer;
     let number = answer.verdict;
     let (what, name) = if answer.refused {
@@ -101,7 +103,7 @@ fn fields(run: &Run) -> String {
     } else {
         "plan"
     };
-    let lines = [
+    let mut lines = vec![
         (what, format!("{number} {name}")),
         ("plan flag", u8::from(answer.flag).to_string()),
         ("cost", answer.cost.to_string()),
@@ -110,9 +112,11 @@ fn fields(run: &Run) -> String {
         ("expansions", answer.expansions.to_string()),
         ("rounds", answer.rounds.to_string()),
         ("width", answer.width.to_string()),
-        (steps, spaced(&run.steps)),
     ];
-    let lines = lines.map(|(name, value)| format!("{name}: {value}"));
-    let lines = lines.map(|line| format!("{}\n", line.trim_end()));
-    lines.concat()
+    if settings.loading && settings.length > 0 {
+        lines.push(("length chosen", settings.length.to_string()));
+    }
+    lines.push((steps, spaced(&run.steps)));
+    let line = |(name, value)| format!("{}\n", format!("{name}: {value}").trim_end());
+    lines.into_iter().map(line).collect()
 }

@@ -2,6 +2,7 @@
 
 use super::input::{looks_like_text, Source};
 use super::part::Part;
+use super::profile;
 use super::settings::{due, length_fits, width_fits, Run, Settings};
 use super::words::{counted, grouped};
 use crate::numbers::{limit, refusal};
@@ -17,6 +18,7 @@ pub fn by_input(source: &Source, settings: &Settings, number: u8) -> Part {
         )),
         refusal::BAD_SETTING => out_of_range(settings, &mut part),
         refusal::TOO_LITTLE_LENT => too_little_lent(settings, &mut part),
+        refusal::OUTSIDE_PROFILE => profile::say_outside(source, &mut part),
         _ => {
             part.say(meaning(number));
             if number == refusal::NOT_DUE && looks_like_text(&source.model) {
@@ -29,8 +31,9 @@ pub fn by_input(source: &Source, settings: &Settings, number: u8) -> Part {
     part
 }
 
-/// The line that goes with a bare refusal: which setting, how much is lent too little, or text in place of bytes.
-pub fn note(model: &[u8], settings: &Settings, run: &Run) -> Option<String> {
+/// The line that goes with a bare refusal: which setting, how much is lent too little, text in place of bytes, or why a model is outside the
+/// loading profile.
+pub fn note(source: &Source, settings: &Settings, run: &Run) -> Option<String> {
     if !run.answer.refused {
         return None;
     }
@@ -38,10 +41,12 @@ pub fn note(model: &[u8], settings: &Settings, run: &Run) -> Option<String> {
     match run.answer.verdict {
         refusal::BAD_SETTING => out_of_range(settings, &mut part),
         refusal::TOO_LITTLE_LENT => too_little_lent(settings, &mut part),
-        refusal::NOT_DUE if looks_like_text(model) => part.say(LOOKS_LIKE_TEXT),
+        refusal::NOT_DUE if looks_like_text(&source.model) => part.say(LOOKS_LIKE_TEXT),
+        refusal::OUTSIDE_PROFILE => profile::say_outside(source, &mut part),
         _ => return None,
     }
-    Some(part.lines.join(" "))
+    let lines: Vec<&str> = part.lines.iter().map(|line| line.trim_start()).collect();
+    Some(lines.join(" "))
 }
 
 /// What is said of text where bytes are due.
@@ -62,7 +67,7 @@ fn meaning(number: u8) -> &'static str {
         }
         refusal::TOO_DEEP => "An expression is nested deeper than 32.",
         refusal::BYTES_AFTER_END => "Bytes follow the end command 0E.",
-        _ => "Document 01 has no such refusal of the input.",
+        _ => "There is no such refusal by the input.",
     }
 }
 
@@ -74,7 +79,7 @@ fn out_of_range(settings: &Settings, part: &mut Part) {
             grouped(limit::WIDTH)
         ));
     }
-    if !length_fits(settings.length) {
+    if !settings.loading && !length_fits(settings.length) {
         part.say(format!(
             "The length limit is {}; it has to be from 1 to {}.",
             grouped(settings.length.into()),
@@ -84,14 +89,19 @@ fn out_of_range(settings: &Settings, part: &mut Part) {
 }
 
 fn too_little_lent(settings: &Settings, part: &mut Part) {
-    let (plan_bytes, words) = due(settings.width, settings.length);
+    let (plan_bytes, words) = settings.lent();
     part.say(format!(
         "Lent: {} and {}.",
-        counted(settings.plan_bytes as u64, "plan byte"),
-        counted(settings.words as u64, "working word")
+        counted(plan_bytes as u64, "plan byte"),
+        counted(words as u64, "working word")
     ));
+    let (plan_bytes, words) = due(settings.width, settings.length);
+    let settings = match settings.loading {
+        true => format!("the length chosen, {}", settings.length),
+        false => "these settings".to_string(),
+    };
     part.say(format!(
-        "Due at these settings: {} and {}.",
+        "Due at {settings}: {} and {}.",
         counted(plan_bytes as u64, "plan byte"),
         counted(words as u64, "working word")
     ));

@@ -6,6 +6,7 @@ use crate::answer::Answer;
 use crate::line;
 use crate::numbers::{limit, words_needed};
 use crate::proved;
+use crate::reference::read_model;
 
 /// The options that `Settings::read` understands.
 pub const OPTIONS: [&str; 5] = ["--width", "--length", "--budget", "--plan-bytes", "--words"];
@@ -13,14 +14,19 @@ pub const OPTIONS: [&str; 5] = ["--width", "--length", "--budget", "--plan-bytes
 /// The most bytes or words that can be asked to be lent.
 const MOST_LENT: u32 = 1 << 24;
 
-/// The settings, and how many plan bytes and working words are lent.
+/// The flags that ask for the loading profile, which are the same.
+pub const FLAGS: [&str; 2] = ["--loading", "--profile"];
+
+/// The settings, and how many plan bytes and working words are asked to be lent.
 #[derive(Clone, Copy, PartialEq, Eq, Debug)]
 pub struct Settings {
     pub width: u32,
+    /// The length limit. In the loading profile it is the one that is chosen, and 0 where none is.
     pub length: u32,
     pub budget: u32,
-    pub plan_bytes: usize,
-    pub words: usize,
+    pub loading: bool,
+    plan_bytes: Option<usize>,
+    words: Option<usize>,
 }
 
 /// An answer of the proved search, and the steps at the front of the plan buffer.
@@ -57,31 +63,61 @@ impl Settings {
         let width = setting("--width", line::WIDTH)?;
         let length = setting("--length", line::LENGTH)?;
         let budget = setting("--budget", line::BUDGET)?;
-        let (plan_bytes, words) = due(width, length);
-        let lent = |name, due| -> Result<usize, Complaint> {
+        let asked = FLAGS.into_iter().find(|flag| arguments.flag(flag));
+        if let (Some(flag), true) = (asked, arguments.value("--length").is_some()) {
+            return Err(Complaint::new(format!(
+                "{flag} chooses the length itself: {flag} or --length, not both"
+            )));
+        }
+        let lent = |name| -> Result<Option<usize>, Complaint> {
             let asked = arguments.number(name, MOST_LENT)?;
-            Ok(asked.map_or(due, |number| number as usize))
+            Ok(asked.map(|number| number as usize))
         };
         Ok(Settings {
             width,
             length,
             budget,
-            plan_bytes: lent("--plan-bytes", plan_bytes)?,
-            words: lent("--words", words)?,
+            loading: asked.is_some(),
+            plan_bytes: lent("--plan-bytes")?,
+            words: lent("--words")?,
         })
+    }
+
+    /// The same for a model. Which length the loading profile chooses is found by the independent implementation; the proved search chooses
+    /// it itself, and is lent what that length needs.
+    pub fn for_model(mut self, model: &[u8]) -> Settings {
+        if self.loading {
+            let model = read_model(model).ok();
+            let model = model.filter(|model| model.in_profile());
+            self.length = model.map_or(0, |model| model.loading_length() as u32);
+        }
+        self
+    }
+
+    /// How many plan bytes and working words are lent: those asked for, else those due.
+    pub fn lent(&self) -> (usize, usize) {
+        let (plan_bytes, words) = due(self.width, self.length);
+        (
+            self.plan_bytes.unwrap_or(plan_bytes),
+            self.words.unwrap_or(words),
+        )
     }
 
     /// Searches the model with buffers of these sizes.
     pub fn search(&self, model: &[u8]) -> Run {
-        let mut plan = vec![0; self.plan_bytes];
-        let mut words = vec![0; self.words];
+        let (plan_bytes, words) = self.lent();
+        let mut plan = vec![0; plan_bytes];
+        let mut words = vec![0; words];
         let Settings {
             width,
             length,
             budget,
             ..
         } = *self;
-        let answer = proved::search(model, width, length, budget, &mut plan, &mut words);
+        let answer = match self.loading {
+            true => proved::load(model, width, budget, &mut plan, &mut words),
+            false => proved::search(model, width, length, budget, &mut plan, &mut words),
+        };
         plan.truncate(answer.length as usize);
         Run {
             answer,

@@ -14,13 +14,14 @@ pub const STOPPED: &str = "stopped-bound-below-every-plan";
 pub const CONTRADICTED: &str = "contradicted-only-if-false";
 pub const BROKEN_TARGET: &str = "no-plan-from-broken-target";
 pub const BROKEN_TARGET_ANSWER: &str = "broken-target-has-no-plan";
+pub const NO_LENGTH_STOP: &str = "no-length-stop-in-profile";
 pub const NOTHING_DECLARED: &str = "nothing-declared-is-true";
 pub const PLAN_CHECK: &str = "plan-check-exact";
 
 const MISSION: &str = "crates/search/proofs/Mission.antt";
 
 /// All of them.
-pub const THEOREMS: [Theorem; 9] = [
+pub const THEOREMS: [Theorem; 10] = [
     Theorem {
         name: A_PLAN,
         says: "Under every verdict a plan given is a plan of the model, at the cost stated.",
@@ -54,6 +55,11 @@ pub const THEOREMS: [Theorem; 9] = [
     Theorem {
         name: BROKEN_TARGET_ANSWER,
         says: "Where the target breaks a constraint the answer is no plan, without an expansion, in one round.",
+        file: MISSION,
+    },
+    Theorem {
+        name: NO_LENGTH_STOP,
+        says: "No run in the loading profile ends in a length stop, whatever the widths and the budget are.",
         file: MISSION,
     },
     Theorem {

@@ -2,9 +2,10 @@
 
 use super::settings::{Run, Settings};
 use super::theorems::{BROKEN_TARGET, NOTHING_DECLARED};
-use super::words::{by_state, refusal_name, verdict_name};
+use super::words::{refusal_name, verdict_name};
 use crate::declarations::broken_by_target;
 use crate::line::answer_line;
+use crate::numbers::refusal::by_state;
 use crate::numbers::verdict;
 use crate::reference::read_model;
 use crate::variants::undeclared;

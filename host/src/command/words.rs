@@ -31,13 +31,9 @@ pub fn refusal_name(number: u8) -> &'static str {
         refusal::DIVISOR_ZERO => "quotient by zero",
         refusal::NEGATIVE_COST => "negative cost",
         refusal::NOT_A_PLAN => "not a plan",
+        refusal::OUTSIDE_PROFILE => "outside the loading profile",
         _ => "unknown",
     }
-}
-
-/// Whether the refusal was met in a state, so that a path leads to it.
-pub fn by_state(number: u8) -> bool {
-    (refusal::OUT_OF_RANGE..=refusal::NEGATIVE_COST).contains(&number)
 }
 
 /// The sentence with a capital letter at its front.

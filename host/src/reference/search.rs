@@ -1,10 +1,11 @@
-//! The search: complete anytime beam search by the rules of document 01, with the target tested as document 02, §1 says.
+//! The search: complete anytime beam search by the rules of document 01, with the target tested as document 02, §1 says, and
+//! with the length of the loading profile, §2.
 
 use super::meaning::State;
 use super::read::read_model;
 use super::syntax::{Model, Transition};
 use crate::answer::Answer;
-use crate::numbers::refusal::{BAD_SETTING, MODEL_TOO_LONG, TOO_LITTLE_LENT};
+use crate::numbers::refusal::{BAD_SETTING, MODEL_TOO_LONG, OUTSIDE_PROFILE, TOO_LITTLE_LENT};
 use crate::numbers::{limit, verdict, words_needed};
 use std::cmp::Ordering;
 
@@ -17,23 +18,22 @@ pub fn search(
     buffer: &mut [u8],
     words: u64,
 ) -> Answer {
-    let model = match admitted(model, width, length, buffer.len() as u64, words) {
-        Ok(model) => model,
-        Err(refusal) => return Answer::refused_by_input(refusal),
-    };
-    let mut run = Run {
-        model: &model,
-        widest: width,
-        length,
-        budget,
-        low: 0,
-        best: None,
-        expansions: 0,
-        rounds: 1,
-        width: 1,
-    };
-    let end = run.all_rounds();
-    run.answer(end, buffer)
+    match admitted(model, width, length, buffer.len() as u64, words) {
+        Ok(model) => Run::of(&model, width, length, budget).answered(buffer),
+        Err(refusal) => Answer::refused_by_input(refusal),
+    }
+}
+
+/// The same in the loading profile, which chooses the length.
+pub fn load(model: &[u8], width: u64, budget: u64, buffer: &mut [u8], words: u64) -> Answer {
+    match admitted_loading(model, width, buffer.len() as u64, words) {
+        Ok((model, length)) => Run::of(&model, width, length, budget).answered(buffer),
+        Err(refusal) => Answer::refused_by_input(refusal),
+    }
+}
+
+fn width_fits(width: u64) -> bool {
+    (1..=limit::WIDTH).contains(&width) && width.is_power_of_two()
 }
 
 /// The model, or the refusal by the input.
@@ -47,14 +47,37 @@ fn admitted(
     if model.len() > limit::MODEL_BYTES {
         return Err(MODEL_TOO_LONG);
     }
-    let width_fits = (1..=limit::WIDTH).contains(&width) && width.is_power_of_two();
-    if !width_fits || !(1..=limit::LENGTH).contains(&length) {
+    if !width_fits(width) || !(1..=limit::LENGTH).contains(&length) {
         return Err(BAD_SETTING);
     }
     if plan_bytes < length || words < words_needed(width, length) {
         return Err(TOO_LITTLE_LENT);
     }
     read_model(model)
+}
+
+/// The model and the length that is chosen for it, or the refusal by the input.
+fn admitted_loading(
+    model: &[u8],
+    width: u64,
+    plan_bytes: u64,
+    words: u64,
+) -> Result<(Model, u64), u8> {
+    if model.len() > limit::MODEL_BYTES {
+        return Err(MODEL_TOO_LONG);
+    }
+    if !width_fits(width) {
+        return Err(BAD_SETTING);
+    }
+    let model = read_model(model)?;
+    if !model.in_profile() {
+        return Err(OUTSIDE_PROFILE);
+    }
+    let chosen = model.loading_length();
+    if plan_bytes < chosen || words < words_needed(width, chosen) {
+        return Err(TOO_LITTLE_LENT);
+    }
+    Ok((model, chosen))
 }
 
 /// How a run ends: with a verdict, or with trouble in a state reached by a path.
@@ -114,6 +137,25 @@ struct Run<'a> {
 }
 
 impl Run<'_> {
+    fn of(model: &Model, width: u64, length: u64, budget: u64) -> Run<'_> {
+        Run {
+            model,
+            widest: width,
+            length,
+            budget,
+            low: 0,
+            best: None,
+            expansions: 0,
+            rounds: 1,
+            width: 1,
+        }
+    }
+
+    fn answered(mut self, buffer: &mut [u8]) -> Answer {
+        let end = self.all_rounds();
+        self.answer(end, buffer)
+    }
+
     /// Whether a cost is below the best; without a plan every cost is.
     fn below_best(&self, cost: i64) -> bool {
         match &self.best {

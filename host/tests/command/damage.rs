@@ -10,7 +10,7 @@ use std::ffi::OsString;
 const THROUGH_PROGRAM: usize = 300;
 const THROUGH_FUNCTION: usize = 10_000;
 
-const COMMANDS: [&[&str]; 4] = [
+const COMMANDS: [&[&str]; 6] = [
     &["plan", "--budget", "200"],
     &[
         "plan", "--fields", "--width", "4", "--length", "6", "--budget", "200",
@@ -18,6 +18,8 @@ const COMMANDS: [&[&str]; 4] = [
     &[
         "explain", "--width", "4", "--length", "6", "--budget", "200",
     ],
+    &["plan", "--loading", "--budget", "200"],
+    &["explain", "--loading", "--width", "4", "--budget", "200"],
     &["check", "--plan", "0,1"],
 ];
 
@@ -86,7 +88,7 @@ fn through_the_function() {
         }
     }
     println!("refusals by number {met:?}");
-    let due = [4, 5, 6, 7, 9, 11, 12];
+    let due = [4, 5, 6, 7, 9, 11, 12, 15];
     assert!(due.iter().all(|number| met[*number] >= 10));
 }
 

@@ -167,7 +167,7 @@ fn theorems_are_on_the_page() {
             cited += 1;
         }
     }
-    assert_eq!(cited, 15);
+    assert_eq!(cited, 20);
 }
 
 /// Every stored search is explained, and the two implementations agree on all that is said.

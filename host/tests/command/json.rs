@@ -285,8 +285,16 @@ fn failures() {
 #[test]
 fn damaged_models() {
     let page = &mut Page::read();
-    let commands: [&[&str]; 4] = [
+    let commands: [&[&str]; 6] = [
         &["plan", "--json", "--unconditional", "--budget=200"],
+        &[
+            "plan",
+            "--json",
+            "--loading",
+            "--unconditional",
+            "--budget=200",
+        ],
+        &["explain", "--json", "--loading", "--budget=200"],
         &[
             "explain",
             "--json",

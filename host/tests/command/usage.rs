@@ -25,7 +25,15 @@ fn help_and_version() {
         run(&[command, "--help"]).is(0, &page.text());
         run(&[command, "--width", "16", "-h"]).is(0, &page.text());
     }
-    for option in ["--width", "--length", "--budget", "--plan-bytes", "--words"] {
+    for option in [
+        "--width",
+        "--length",
+        "--loading",
+        "--profile",
+        "--budget",
+        "--plan-bytes",
+        "--words",
+    ] {
         assert!(page.text().contains(option), "{option}");
     }
     run(&["--help"]).is(0, &page.text());

@@ -5,12 +5,14 @@ use super::Explained;
 use crate::command::json::{self, Members};
 use crate::command::known::Known;
 use crate::command::long_runs::Stop;
+use crate::command::profile;
 use crate::json::Json;
 
 pub fn document(explained: &Explained, status: u8) -> Vec<u8> {
     let finished = explained.finished;
     let mut members = json::search(explained.source, &finished.settings, &finished.run);
     members.push(("stopped_by", finished.stop.map(Stop::name).into()));
+    members.push(("profile", explained.read.map(profile::json).into()));
     members.extend(walked(explained));
     members.push(("parts", json::parts(&explained.parts)));
     json::document("explain", status, members)

@@ -113,7 +113,9 @@ fn width_stop(settings: &Settings, part: &mut Part) {
     } else {
         part.say("The beam is the widest there is. Higher bounds, preferences or constraints would leave fewer states.");
     }
-    part.say("Then the length limit may stop the run, which shows only when no state is cut.");
+    if !settings.loading {
+        part.say("Then the length limit may stop the run, which shows only when no state is cut.");
+    }
 }
 
 fn length_stop(settings: &Settings, part: &mut Part) {

@@ -6,9 +6,10 @@ use native.Mathlib.Omega.{arith}
 use lib.ListN.{length}
 use Rattle.steps.specs.InBytes.{refusalIn}
 use Rattle.search.specs.Run.{settingsFit, lentFits}
-use Rattle.solver.specs.Searches.{settings, lentOf}
+use Rattle.solver.specs.Searches.{settings, lent}
 use Rattle.steps.proofs.Promises.{ready}
-use Rattle.solver.proofs.Entering.{width-fits, some-steps, narrow, lent-both, refused-says, run-long, run-unfit, run-unlent, run-refused, run-says}
+use Rattle.search.proofs.Source.{run-too-long, run-bad-setting, run-lent-before}
+use Rattle.solver.proofs.Entering.{fit-whatever, width-fits, some-steps, narrow, lent-both, refused-says, unread-run, read-says}
 use borrow.Author.Needs.{needs}
 use Rattle.solver.proofs.entry.search_up_to.Statement.{statement}
 use Rattle.solver.proofs.entry.search_up_to.Tie as tie
@@ -21,17 +22,17 @@ short c = c .before .before .before .before
 abbrev start : tie.Then2 → tie.Start
 start c = short (c .before .before)
 
-fit : (c : tie.Then2) → settingsFit (settings (start c .args .width) (start c .args .limit) 0) ≡ true
-fit c = sym (c .before .settings-fit .ensures) ∙ c .if2 .taken
+fit : (c : tie.Then2) → settingsFit (settings (start c .args .width) (start c .args .limit) (start c .args .budget)) ≡ true
+fit c = fit-whatever (start c .args .width) (start c .args .limit) (start c .args .budget) 0 ∙ sym (c .before .settings-fit .ensures) ∙ c .if2 .taken
 
 is-width : (c : tie.Then2) → (0 < start c .args .width) × (start c .args .width ≤ 4096)
-is-width c = narrow (start c .args .width) (start c .args .limit) 0 (fit c)
+is-width c = narrow (start c .args .width) (start c .args .limit) (start c .args .budget) (fit c)
 
 few-steps : (c : tie.Then2) → start c .args .limit ≤ 256
-few-steps c = some-steps (start c .args .width) (start c .args .limit) 0 (fit c)
+few-steps c = some-steps (start c .args .width) (start c .args .limit) (start c .args .budget) (fit c)
 
 -- enough is lent
-enough : (c : tie.Then3) → let a = start (c .before .before) .args in lentFits (settings (a .width) (a .limit) 0) (lentOf (length (a .plan .now)) (length (a .words .now))) ≡ true
+enough : (c : tie.Then3) → let a = start (c .before .before) .args in lentFits (a .width) (a .limit) (lent (a .plan .now) (a .words .now)) ≡ true
 enough c = sym (c .before .lent-fits .ensures) ∙ c .if3 .taken
 
 -- the model is read
@@ -47,8 +48,8 @@ searching c = c .before .before .before .before
 returns : tie.Need-returns
 returns c =
     let a = c .before .before .before .before .before .args in
-    refused-says (a .most) (a .model .now) (a .plan .now) (a .words .now) (a .width) (a .limit) (a .budget) 1 _
-    (run-long (a .most) (a .model .now) (a .plan .now) (a .words .now) (a .width) (a .limit) (a .budget) (c .before .if1 .taken)) (c .refusal .ensures)
+    refused-says (a .most) (a .model .now) (a .plan .now) (a .words .now) (settings (a .width) (a .limit) (a .budget)) 1 _
+    (run-too-long (a .most) (a .model .now) (settings (a .width) (a .limit) (a .budget)) (lent (a .plan .now) (a .words .now)) (c .before .if1 .taken)) (c .refusal .ensures)
 
 lent-fits-requires : tie.Need-lent-fits-requires
 lent-fits-requires c κs = (is-width c .1, few-steps c)
@@ -64,7 +65,7 @@ search-model-requires c κs =
     record {
       outlined = ready (outlined .1 (read .if4 .taken));
       room = record { some-width = is-width tests .0; narrow = is-width tests .1; few-steps = few-steps tests; plan-room = both .0; words-room = both .1 };
-      width = width-fits (a .width) (a .limit) 0 (fit tests);
+      width = width-fits (a .width) (a .limit) (a .budget) (fit tests);
       small-budget = search needs;
     }
 
@@ -74,7 +75,7 @@ returns-2 c =
     let room = reading (searching found) in
     let tests = room .before .before in
     let a = start tests .args in
-    run-says (a .most) (a .model .now) (a .plan .now) (a .words .now) (a .width) (a .limit) (a .budget) (tests .before .before .if1 .left) (fit tests) (enough room)
+    read-says (a .most) (a .model .now) (a .plan .now) (a .words .now) (a .width) (a .limit) (a .budget) (tests .before .before .if1 .left) (fit tests) (enough room)
     (read (searching found)) _ _ _ (found .search-model .ensures)
 
 returns-3 : tie.Need-returns-3
@@ -83,8 +84,8 @@ returns-3 c =
     let room = read .before .before in
     let tests = room .before .before in
     let a = start tests .args in
-    refused-says (a .most) (a .model .now) (a .plan .now) (a .words .now) (a .width) (a .limit) (a .budget) _ _
-    (run-refused (a .most) (a .model .now) (a .plan .now) (a .words .now) (a .width) (a .limit) (a .budget) (tests .before .before .if1 .left) (fit tests) (enough room)
+    refused-says (a .most) (a .model .now) (a .plan .now) (a .words .now) (settings (a .width) (a .limit) (a .budget)) _ _
+    (unread-run (a .most) (a .model .now) (a .plan .now) (a .words .now) (a .width) (a .limit) (a .budget) (tests .before .before .if1 .left) (fit tests) (enough room)
     _ (read .read-and-prepare .ensures .0) (omega (arith, c .before .if4 .left)))
     (c .refusal2 .ensures)
 
@@ -92,8 +93,8 @@ returns-4 : tie.Need-returns-4
 returns-4 c =
     let tests = c .before .before .before in
     let a = start tests .args in
-    refused-says (a .most) (a .model .now) (a .plan .now) (a .words .now) (a .width) (a .limit) (a .budget) 3 _
-    (run-unlent (a .most) (a .model .now) (a .plan .now) (a .words .now) (a .width) (a .limit) (a .budget) (tests .before .before .if1 .left) (fit tests)
+    refused-says (a .most) (a .model .now) (a .plan .now) (a .words .now) (settings (a .width) (a .limit) (a .budget)) 3 _
+    (run-lent-before (a .most) (a .model .now) (settings (a .width) (a .limit) (a .budget)) (lent (a .plan .now) (a .words .now)) (tests .before .before .if1 .left) (fit tests)
     (sym (c .before .before .lent-fits .ensures) ∙ c .before .if3 .left))
     (c .refusal3 .ensures)
 
@@ -101,8 +102,9 @@ returns-5 : tie.Need-returns-5
 returns-5 c =
     let tested = c .before .before in
     let a = short (tested .before) .args in
-    refused-says (a .most) (a .model .now) (a .plan .now) (a .words .now) (a .width) (a .limit) (a .budget) 2 _
-    (run-unfit (a .most) (a .model .now) (a .plan .now) (a .words .now) (a .width) (a .limit) (a .budget) (tested .before .if1 .left) (sym (tested .settings-fit .ensures) ∙ c .before .if2 .left))
+    refused-says (a .most) (a .model .now) (a .plan .now) (a .words .now) (settings (a .width) (a .limit) (a .budget)) 2 _
+    (run-bad-setting (a .most) (a .model .now) (settings (a .width) (a .limit) (a .budget)) (lent (a .plan .now) (a .words .now)) (tested .before .if1 .left)
+    (fit-whatever (a .width) (a .limit) (a .budget) 0 ∙ sym (tested .settings-fit .ensures) ∙ c .before .if2 .left))
     (c .refusal4 .ensures)
 
 pub search-up-to-spec : {M : Type 1} → statement M

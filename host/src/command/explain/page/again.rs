@@ -12,9 +12,13 @@ pub fn html(explained: &Explained) -> String {
     let finished = explained.finished;
     let settings = &finished.settings;
     let title = word(&explained.source.title);
+    let length = match settings.loading {
+        true => "--loading".to_string(),
+        false => format!("--length {}", settings.length),
+    };
     let plan = format!(
-        "repgypsum plan --width {} --length {} --budget {} {title}",
-        settings.width, settings.length, settings.budget
+        "repgypsum plan --width {} {length} --budget {} {title}",
+        settings.width, settings.budget
     );
     let Some(quotation) = quotation(explained.source, settings, &finished.run) else {
         return heading("How to run it again")

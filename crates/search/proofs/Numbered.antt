@@ -1,0 +1,24 @@
+-- The outcome of a run is read back from its number and the mark of a refusal.
+use mathlib.Core.Path.{_≡_, refl, ap}
+use mathlib.Core.Bool.{cond}
+use native.Mathlib.Omega.{arith}
+use borrow.Author.Tests.{le-leb, lt-leb}
+use Rattle.search.specs.Answer.{Verdict, cheapest, noPlan, widthStop, lengthStop, budgetSpent, contradicted, Outcome, verdict, byState, byInput, verdictNumber, outcomeNumber, isRefusal, verdictNumbered, outcomeNumbered}
+use Rattle.search.specs.Demands.{Ends, by-state, by-input, outside-profile}
+use Rattle.search.specs.Run.{Form}
+
+verdict-back : (v : Verdict) → verdictNumbered (verdictNumber v) ≡ v
+unfolding verdictNumbered verdictNumber
+verdict-back cheapest = refl
+verdict-back noPlan = refl
+verdict-back widthStop = refl
+verdict-back lengthStop = refl
+verdict-back budgetSpent = refl
+verdict-back contradicted = refl
+
+pub outcome-back : {f : Form} (o : Outcome) → Ends f o → outcomeNumbered (cond (isRefusal o) 1 0) (outcomeNumber o) ≡ o
+unfolding outcomeNumbered isRefusal outcomeNumber
+outcome-back (verdict v) e = ap verdict (verdict-back v)
+outcome-back (byState t) (by-state a b) = rw (le-leb 11 t a, le-leb t 13 b)
+outcome-back (byInput t) (by-input a b) = rw (lt-leb 11 t (omega arith))
+outcome-back (byInput t) (outside-profile f) = refl
