@@ -8,7 +8,7 @@ use lib.ListN.{drop}
 use lib.Dec.{eqb}
 use Rattle.model.specs.Numbers.{mostNesting}
 use Rattle.model.specs.Readers.{Read, read, refused, Reader, after, continue, _>>=_, _>>_, refuse, byte, one, two, three}
-use Rattle.model.specs.Syntax.{Element, Set, Condition, Variable, Table}
+use Rattle.model.specs.Syntax.{Element, Set, Number, Condition, Variable, Table}
 use Rattle.model.specs.Expressions.{Form, _⇒_, formOf, noDepth, elementAndSet, twoSets, inTable, element, set, number, condition}
 
 -- the first is refused, or both are the same
@@ -131,10 +131,24 @@ module _ (vs : List Variable) (ts : List Table) where
         (row (one-below _ (set-below d)) (row (two-sets-below _ (set-below d))
         (row (one-below _ (condition-below d)) (row (two-below _ (condition-below d) (condition-below d)) (row (two-below _ (condition-below d) (condition-below d)) done)))))))))))
 
-  deeper : (k d top : ℕ) → top ≡ k + d → (e : List ℕ) {x : Condition} {n : ℕ} → condition vs ts d e ≡ read x n → condition vs ts top e ≡ read x n
-  deeper zero d top l e h = let same-depth : top ≡ d = omega arith in rw same-depth h
-  deeper (suc k) d top l e h = deeper k (suc d) top (omega arith) e (below-read (condition-below d e) h)
+  -- ---- what is read with some depth left is read with more
 
-  -- what is read with some depth left is read with all of it
+  module _ {A : Type 0} (r : ℕ → Reader A) (below : (d : ℕ) → Deepens (r d) (r (suc d))) where
+    deeper : (k d top : ℕ) → top ≡ k + d → (e : List ℕ) {x : A} {n : ℕ} → r d e ≡ read x n → r top e ≡ read x n
+    deeper zero d top l e h = let same-depth : top ≡ d = omega arith in rw same-depth h
+    deeper (suc k) d top l e h = deeper k (suc d) top (omega arith) e (below-read (below d e) h)
+
+    with-depth : (d top : ℕ) → d ≤ top → (e : List ℕ) {x : A} {n : ℕ} → r d e ≡ read x n → r top e ≡ read x n
+    with-depth d top l e h = deeper (top - d) d top (omega arith) e h
+
+  pub set-with-depth : (d top : ℕ) → d ≤ top → (e : List ℕ) {x : Set} {n : ℕ} → set vs ts d e ≡ read x n → set vs ts top e ≡ read x n
+  set-with-depth = with-depth (set vs ts) set-below
+
+  pub number-with-depth : (d top : ℕ) → d ≤ top → (e : List ℕ) {x : Number} {n : ℕ} → number vs ts d e ≡ read x n → number vs ts top e ≡ read x n
+  number-with-depth = with-depth (number vs ts) number-below
+
+  pub condition-with-depth : (d top : ℕ) → d ≤ top → (e : List ℕ) {x : Condition} {n : ℕ} → condition vs ts d e ≡ read x n → condition vs ts top e ≡ read x n
+  condition-with-depth = with-depth (condition vs ts) condition-below
+
   pub with-all-depth : (d : ℕ) → d ≤ mostNesting → (e : List ℕ) {x : Condition} {n : ℕ} → condition vs ts d e ≡ read x n → condition vs ts mostNesting e ≡ read x n
-  with-all-depth d l e h = deeper (mostNesting - d) d mostNesting (omega arith) e h
+  with-all-depth d l e h = condition-with-depth d mostNesting l e h

@@ -58,7 +58,7 @@ module _ (ws os bytes : List ℕ) where
       ∙ ap (setPast 1) (variable-some ws os (drop (at + 1) bytes) (λ z. absurd (omega arith)) ∙ ap (λ (u : ℕ). setAnswer (getD ws u 0) (objectsIn os u) 1) is)
 
   -- 40 n and the members s
-  literal-run : (d at s : ℕ) → (d ≡ 0 → ⊥) → at + 10 ≤ length bytes → getD bytes at 0 ≡ 0x40 → word 8 (drop (at + 2) bytes) ≡ read s 8
+  pub literal-run : (d at s : ℕ) → (d ≡ 0 → ⊥) → at + 10 ≤ length bytes → getD bytes at 0 ≡ 0x40 → word 8 (drop (at + 2) bytes) ≡ read s 8
       → runSet d ws os (drop at bytes) ≡ setAnswer s (getD (drop (at + 1) bytes) 0 0) 10
   unfolding setForm setBehind
   literal-run d at s some l b h =

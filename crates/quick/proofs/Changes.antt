@@ -46,7 +46,7 @@ element-run state bytes at l h =
 
 -- ---- 42 and 43
 
-changed-of : (state words : List ℕ) (runs : List ℕ → SetValue) (b : ℕ) (e : List ℕ) → changesSet b ≡ true → (k s objects n : ℕ) → elementThenSet state runs e ≡ parts k s objects n
+pub changed-of : (state words : List ℕ) (runs : List ℕ → SetValue) (b : ℕ) (e : List ℕ) → changesSet b ≡ true → (k s objects n : ℕ) → elementThenSet state runs e ≡ parts k s objects n
     → setBehind state words runs (setForm b) e ≡ setAnswer (changedBy b k s) objects n
 unfolding changesSet changedBy setForm setBehind changed
 changed-of state words runs b e h k s objects n q = go (eqb b 0x42) refl (eqb b 0x43) refl

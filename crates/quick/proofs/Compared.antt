@@ -40,7 +40,7 @@ fits-value z l = rw (lt-ltb (mag z) rangeEnd l)
 
 module _ (p : Environment) (bytes : List ℕ) where
   -- 21 v
-  variable-run : (d at : ℕ) → (d ≡ 0 → ⊥) → at + 2 ≤ length bytes → getD bytes at 0 ≡ 0x21
+  pub variable-run : (d at : ℕ) → (d ≡ 0 → ⊥) → at + 2 ≤ length bytes → getD bytes at 0 ≡ 0x21
       → runNumber d p (drop at bytes) ≡ numberAnswer (fits (pos (getD (p .state) (getD bytes (at + 1) 0) 0 % rangeSize) -ℤ pos rangeEnd)) 2
   unfolding numberForm numberAt numberBehind
   variable-run d at some l b =
@@ -59,7 +59,7 @@ module _ (p : Environment) (bytes : List ℕ) where
       ∙ number-past (fits c) 1 4
 
   -- 28 t e e
-  entry-run : (d at : ℕ) → (d ≡ 0 → ⊥) → EntryForm bytes at
+  pub entry-run : (d at : ℕ) → (d ≡ 0 → ⊥) → EntryForm bytes at
       → runNumber d p (drop at bytes)
       ≡ numberAnswer (fits (entryOf (p .model) (tableIn (p .outline) (getD bytes (at + 1) 0)) (objectIn (getD bytes (at + 2) 0) (getD bytes (at + 3) 0) (p .state)) (objectIn (getD bytes (at + 4) 0) (getD bytes (at + 5) 0) (p .state)))) 6
   unfolding numberForm numberAt numberBehind

@@ -1,17 +1,19 @@
 -- The evaluators on a model's own bytes: what their answers are of expressions that stand there, by the outline's words.
 use Prim.Native.Nat.{ℕ, _-_, _≤_, _<_}
 use mathlib.Core.Path.{_≡_, ap}
+use mathlib.Core.Bool.{true, false}
 use mathlib.Core.List.{List}
 use native.Mathlib.Omega.{arith}
 use lib.ListN.{length, take, drop, length-drop}
-use lib.IntN.{ℤ}
-use lib.Signed.{mag}
+use lib.IntN.{ℤ, pos}
+use lib.Signed.{mag, ltZ}
 use Rattle.model.specs.Numbers.{rangeEnd, mostNesting, mostObjects}
 use Rattle.words.proofs.Literal.{suffix}
 use Rattle.outline.specs.Outline.{modelOf}
 use Rattle.eval_sets.specs.declared.answers.NumberValue.{NumberValue}
 use Rattle.eval_sets.specs.declared.answers.NumberValue.the-variants as N
 use Rattle.eval_sets.specs.declared.answers.ConditionValue.{ConditionValue}
+use Rattle.eval_sets.specs.declared.answers.ConditionValue.the-variants as C
 use Rattle.eval_sets.specs.declared.answers.ElementValue.{ElementValue}
 use Rattle.eval_sets.specs.declared.answers.SetValue.{SetValue}
 use Rattle.eval_sets.specs.Bounds.{NumberWithin, ConditionWithin}
@@ -19,11 +21,14 @@ use Rattle.eval_sets.specs.Runs.{Environment, environment, runElement, runSet, 
 use Rattle.eval_sets.specs.Promise.{Describes}
 use Rattle.eval_sets.proofs.Promises.{run-number, run-condition, run-set, run-element}
 use Rattle.eval_sets.proofs.Within.{number-within, condition-within, set-within, element-within, element-small}
+use Rattle.eval_sets.specs.Answers.{conditionAnswer}
 use Rattle.eval_tests.specs.Stopped.{stopped}
 use Rattle.eval_tests.proofs.Stopping.{stopped-within}
 use Rattle.prepare.proofs.Tested.{outline-describes}
 use Rattle.quick.specs.Entries.{EntryForm, entryAt}
 use Rattle.quick.proofs.Compared.{entry-says}
+use Rattle.cursor.specs.Told.{silentFrom, NumberTold, SetTold, TestTold}
+use Rattle.cursor.proofs.Says.{number-says, condition-says, fails-says, set-says}
 use Rattle.steps.specs.InBytes.{Outlined}
 use Rattle.steps.specs.Says.{ConditionSays, NumberSays, ElementSays, SetSays}
 
@@ -54,6 +59,29 @@ module _ (bytes words : List ℕ) (o : Outlined bytes words) (at : ℕ) (state :
   -- 28 t e e, in place
   pub entry-promised : EntryForm bytes at → (z : ℤ) → z ≡ entryAt bytes at words state → mag z < rangeEnd → NumberSays bytes at state (N.Value z 6) × NumberWithin (length bytes - at) (N.Value z 6)
   entry-promised f z e l = (λ x n h. rw e (entry-says bytes at words state f (rw e at l) x n (o .outlines) h), (l, omega (arith, f .inside)))
+
+  -- ---- told along a cursor
+
+  module _ (q : ℕ) where
+    pub condition-told : (code : ℕ) → TestTold bytes words state at code q → code ≡ 1 → ConditionSays bytes at state (C.Holds true (q - at)) × ConditionWithin (length bytes - at) (C.Holds true (q - at))
+    unfolding stopped
+    condition-told code told one =
+        let holds = told .holds one in
+        (λ x n h. ap stopped (condition-says bytes words state (o .outlines) at holds x n h), omega (arith, holds .ends, holds .is .there .inside))
+
+    pub failure-told : (code : ℕ) → TestTold bytes words state at code q → code ≡ 0 → ConditionSays bytes at state (C.Holds false 0) × ConditionWithin (length bytes - at) (C.Holds false 0)
+    unfolding stopped conditionAnswer
+    failure-told code told none = (λ x n h. rw (fails-says bytes words state (o .outlines) at (told .fails none) x n h), omega arith)
+
+    pub number-told : (z : ℤ) → NumberTold bytes words state at z q → ltZ z (pos silentFrom) ≡ true → NumberSays bytes at state (N.Value z (q - at)) × NumberWithin (length bytes - at) (N.Value z (q - at))
+    number-told z told below =
+        let is = told below in
+        (λ x n h. number-says bytes words state (o .outlines) at is x n h, (is .is .fits, omega (arith, is .ends, is .is .there .inside)))
+
+    pub set-told : (s : ℕ) → SetTold bytes words state at s q → (q ≡ at → ⊥) → (c : ℕ) → SetSays bytes at state (record { members = s; objects = c; used = q - at }) × (q - at ≤ length bytes - at)
+    set-told s told moved c =
+        let is = told moved in
+        (λ x n h. set-says bytes words state (o .outlines) at is x n h, omega (arith, is .ends, is .is .there .inside))
 
   pub set-promised : (r : SetValue) → r ≡ runSet mostNesting state words (lent at bytes) → SetSays bytes at state r × (r .used ≤ length bytes - at)
   set-promised r e =

@@ -10,6 +10,7 @@ ghost use Rattle.steps.specs.Says.{HeldSays, TestedSays, ConjunctSays};
 use crate::answers::HeldAnswer;
 use crate::answers::StatusAnswer;
 use crate::parts::condition_at;
+use crate::parts::condition_near;
 use eval_sets::answers::ConditionValue;
 use laws::byte_at;
 use outline::layout::BASE_CASE_COUNT;
@@ -34,7 +35,7 @@ pub fn conditions_hold(
 {
     let mut next = at;
     while byte_at(model, next) == 8 {
-        match condition_at(model, next + 1, outline, state) {
+        match condition_near(model, next + 1, outline, state) {
             ConditionValue::Holds(holds, used) => {
                 if holds {
                     next = next + 1 + used;

@@ -21,6 +21,7 @@ use crate::conditions::constraints_hold;
 use crate::parts::element_at;
 use crate::parts::number_at;
 use crate::parts::set_at;
+use cursor::numbers::SILENT;
 use eval_sets::answers::NumberValue;
 use laws::byte_at;
 use outline::layout::GUARDS;
@@ -37,7 +38,7 @@ use quick::sets::is_changed;
 use words::arithmetic::biased;
 use words::sizes::MOST_OBJECTS;
 
-// The value of the number at a place, a table's entry without a call of the evaluators.
+// The value of the number at a place: a table's entry in place, terms along a cursor, any other by the evaluators.
 fn cost_number(
     model: &[u8],
     at: usize,
@@ -49,6 +50,13 @@ fn cost_number(
 {
     if is_entry(model, at) {
         return NumberValue::Value(entry_at(model, at, outline, state), 6);
+    }
+    let whole = model;
+    let mut end = at;
+    let told = cursor::terms::number(&whole, &mut end, outline, state);
+    if told < SILENT {
+        let used = end - at;
+        return NumberValue::Value(told, used);
     }
     number_at(model, at, outline, state)
 }

@@ -30,6 +30,29 @@ pub fn condition_at(
     test(&model[at..], model, state, outline, 32)
 }
 
+// The same, along a cursor where that tells it, else by the evaluators.
+pub fn condition_near(
+    model: &[u8],
+    at: usize,
+    outline: &[u64; PREPARED_WORDS],
+    state: &[u64; STATE_WORDS],
+) -> ConditionValue
+    requires { ⌜ Outlined (now model) (now outline) × (at ≤ length (now model)) ⌝ }
+    ensures { λ r. ⌜ ConditionSays (now (model .entry)) at (now (state .entry)) r × ConditionWithin (length (now (model .entry)) - at) r ⌝ }
+{
+    let whole = model;
+    let mut end = at;
+    let told = cursor::conditions::test(&whole, &mut end, outline, state);
+    if told == 1 {
+        let used = end - at;
+        return ConditionValue::Holds(true, used);
+    }
+    if told == 0 {
+        return ConditionValue::Holds(false, 0);
+    }
+    condition_at(model, at, outline, state)
+}
+
 // The value of the number at a place.
 pub fn number_at(
     model: &[u8],
@@ -56,7 +79,7 @@ pub fn element_at(
     element(&model[at..], state)
 }
 
-// The members of the set at a place.
+// The members of the set at a place: along a cursor where that tells them, else by the evaluators.
 pub fn set_at(
     model: &[u8],
     at: usize,
@@ -66,5 +89,16 @@ pub fn set_at(
     requires { ⌜ Outlined (now model) (now outline) × (at ≤ length (now model)) ⌝ }
     ensures { λ r. ⌜ SetSays (now (model .entry)) at (now (state .entry)) r × (r .used ≤ length (now (model .entry)) - at) ⌝ }
 {
-    set(&model[at..], state, outline, 32)
+    let whole = model;
+    let mut end = at;
+    let told = cursor::sets::set(&whole, &mut end, outline, state);
+    if end == at {
+        return set(&model[at..], state, outline, 32);
+    }
+    let used = end - at;
+    SetValue {
+        members: told,
+        objects: 0,
+        used: used,
+    }
 }

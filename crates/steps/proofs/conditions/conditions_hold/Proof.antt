@@ -32,21 +32,21 @@ tested c = c .before .before .before .before .before
 next-within : (c : tie.Then2 Inv-loop μ-loop) → tested c .before .before .loop .next + 1 + c .before .before .holds .given .0 .1 .0 ≤ length (begun (tested c .before .before) .args .model .now)
 next-within c =
     inside (begun (tested c .before .before) .args .model .now) (tested c .before .before .loop .next) (c .before .before .holds .given .0 .1 .0) (here (tested c)) (omega arith)
-    (holds-within _ (c .before .before .holds .given .1) (c .before .before .before .before .condition-at .ensures .1))
+    (holds-within _ (c .before .before .holds .given .1) (c .before .before .before .before .condition-near .ensures .1))
 
 loop-again : tie.Need-loop-again Inv-loop μ-loop
 loop-again c =
-    trying-more _ _ _ _ (tested c .before .before .loop .inv) (here (tested c)) _ (c .before .before .before .before .condition-at .ensures .0) (c .before .before .holds .given .1) (c .if2 .taken)
+    trying-more _ _ _ _ (tested c .before .before .loop .inv) (here (tested c)) _ (c .before .before .before .before .condition-near .ensures .0) (c .before .before .holds .given .1) (c .if2 .taken)
 
 returns : tie.Need-returns Inv-loop μ-loop
 returns c =
     let test = c .before .before .before .before .before in
-    trying-fails _ _ _ _ (test .before .before .loop .inv) (here test) _ (c .before .before .before .before .condition-at .ensures .0) (c .before .before .holds .given .1) (c .if2 .left)
+    trying-fails _ _ _ _ (test .before .before .loop .inv) (here test) _ (c .before .before .before .before .condition-near .ensures .0) (c .before .before .holds .given .1) (c .if2 .left)
 
 returns-2 : tie.Need-returns-2 Inv-loop μ-loop
 returns-2 c =
     let test = c .before .before .before .before in
-    trying-troubles _ _ _ _ (test .before .before .loop .inv) (here test) _ (c .before .before .before .condition-at .ensures .0) (c .before .t .given .1)
+    trying-troubles _ _ _ _ (test .before .before .loop .inv) (here test) _ (c .before .before .before .condition-near .ensures .0) (c .before .t .given .1)
 
 returns-3 : tie.Need-returns-3 Inv-loop μ-loop
 returns-3 c = trying-last _ _ _ _ (c .before .before .loop .inv) (λ e. c .if1 .left (c .before .byte-at .ensures ∙ e))
