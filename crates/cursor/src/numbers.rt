@@ -65,7 +65,7 @@ pub fn operation(b: u8, x: i64, y: i64) -> i64
 }
 
 // Whether this byte is one of 22 to 27.
-fn is_operation(b: u8) -> bool
+pub fn is_operation(b: u8) -> bool
     ensures { λ r. ⌜ r ≡ isOperation b ⌝ }
 {
     if b < 0x22 {
@@ -75,7 +75,7 @@ fn is_operation(b: u8) -> bool
 }
 
 // 28, a table and two elements at the cursor.
-fn entry_on(
+pub fn entry_on(
     m: &&[u8],
     at: &mut usize,
     outline: &[u64; PREPARED_WORDS],

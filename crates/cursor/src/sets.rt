@@ -221,7 +221,7 @@ fn two_sets(
     combined(b, s, t)
 }
 
-// A near set, or 44 to 46 and two of them.
+// A near set, or 44 to 46 and two of them, of which the first is no leaf.
 pub fn set(
     m: &&[u8],
     at: &mut usize,
@@ -231,12 +231,11 @@ pub fn set(
     ensures { λ r. ⌜ SetTold (now (now (m .entry))) (now (outline .entry)) (now (state .entry)) (now (at .entry)) r (now (at .exit)) ⌝ }
 {
     let p = *at;
-    let s = near_set(m, at, outline, state);
-    if *at == p {
-        let b = first_byte(*m, p);
-        if is_combination(b) {
+    let b = first_byte(*m, p);
+    if is_combination(b) {
+        if 0x42 <= first_byte(*m, p + 1) {
             return two_sets(b, m, at, outline, state);
         }
     }
-    s
+    near_set(m, at, outline, state)
 }

@@ -77,6 +77,10 @@ module _ (bytes : List ℕ) (at : ℕ) where
   unfolding sumPlace
   place-behind e = rw e
 
+  pub place-inside : getD bytes at 0 ≡ 0x23 → sumPlace bytes at ≡ at + 14
+  unfolding sumPlace
+  place-inside e = rw e
+
 module _ {bytes : List ℕ} {at : ℕ} {words sums : List ℕ} {k : ℕ} (m : Remembering bytes at words sums k) where
   -- the last sum is one over the set that is remembered
   pub known-sum : {z : ℤ} {table j : ℕ} → z ≡ pos (getD sums (2 * k + 1) 0 % rangeSize) -ℤ pos rangeEnd → table ≡ tableIn words (getD bytes (at + 1) 0) → j ≡ summedColumn bytes at → z ≡ columnSum bytes table (getD sums (2 * k) 0) j

@@ -150,7 +150,7 @@ module _ (bytes words state : List ℕ) where
       on : at + 1 + 1 ≡ at + 2
       on = omega arith
 
-  variable-total : (d at : ℕ) → VariableTotal bytes at → runNumber (d + 2) here (drop at bytes) ≡ numberAnswer (fits (totalIn bytes at words state)) 6
+  pub variable-total : (d at : ℕ) → VariableTotal bytes at → runNumber (d + 2) here (drop at bytes) ≡ numberAnswer (fits (totalIn bytes at words state)) 6
   unfolding summedSet summedColumn sumOf
   variable-total d at f =
       let column : runElement state (drop (at + 2 + 2) bytes) ≡ elementAnswer (getD bytes (at + 5) 0 % mostObjects) 2 =

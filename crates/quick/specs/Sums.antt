@@ -82,9 +82,9 @@ module _ (bytes : List ℕ) (at : ℕ) where
   abbrev pub closingIn : (words state : List ℕ) → ℤ
   closingIn words state = cond (endIn bytes (at + 1) state) (integerAt bytes (at + 11)) (totalIn bytes (at + 15) words state)
 
-  -- where the total stands: here, or at the end of a choice
+  -- where the total stands: here, at the end of a choice, or inside a difference
   unfoldable pub sumPlace : ℕ
-  sumPlace = cond (eqb (getD bytes at 0) 0x2b) (at + 15) at
+  sumPlace = cond (eqb (getD bytes at 0) 0x2b) (at + 15) (cond (eqb (getD bytes at 0) 0x23) (at + 14) at)
 
 -- ---- the last sums
 
@@ -115,3 +115,11 @@ pub record Remembering (bytes : List ℕ) (at : ℕ) (words sums : List ℕ) (k 
 abbrev pub BoundTold : (bytes : List ℕ) (at : ℕ) (words state : List ℕ) → ℤ → Type 0
 BoundTold bytes at words state z = (x : Number) (n : ℕ) → Outlines bytes words (modelOf bytes) → number (modelOf bytes .variables) (modelOf bytes .tables) mostNesting (drop at bytes) ≡ read x n
     → mag z < rangeEnd → numberValue rangeEnd (modelOf bytes .tables) x (stateOf (modelOf bytes .variables) state) ≡ value z
+
+-- a number in range is the total inside the bound that stands at `at`; any other says nothing
+pub record InnerIs (bytes : List ℕ) (at : ℕ) (words state : List ℕ) (z : ℤ) : Type 0 where
+  pub form : VariableTotal bytes (at + 14)
+  pub total : z ≡ totalIn bytes (at + 14) words state
+
+abbrev pub InnerTold : (bytes : List ℕ) (at : ℕ) (words state : List ℕ) → ℤ → Type 0
+InnerTold bytes at words state z = mag z < rangeEnd → InnerIs bytes at words state z

@@ -4,7 +4,7 @@ ghost use mathlib.Core.Path.{_≡_};
 ghost use mathlib.Core.Bool.{true};
 ghost use Prim.Native.Nat.{_+_, _<_};
 ghost use Rattle.model.specs.Numbers.{mostObjects};
-ghost use Rattle.quick.specs.Sums.{VariableTotal, ChangedTotal, TotalForm, summedSet, summedColumn, totalIn, EndForm, endIn, ClosingForm, closingIn, boundPlace, Remembers, Forgotten, Remembering, BoundTold};
+ghost use Rattle.quick.specs.Sums.{VariableTotal, ChangedTotal, TotalForm, summedSet, summedColumn, totalIn, EndForm, endIn, ClosingForm, closingIn, boundPlace, Remembers, Forgotten, Remembering, BoundTold, InnerTold};
 use crate::places::stands;
 use crate::sets::changed;
 use crate::sets::is_changed;
@@ -23,6 +23,7 @@ use words::arithmetic::signed_word;
 use words::literals::integer;
 use words::sizes::MOST_OBJECTS;
 use words::sizes::RANGE_END;
+use words::tables::total;
 use words::tables::total_from;
 
 // How many bounds there may be, and the words of their last sums: a set, and the sum over it, as a number variable has it.
@@ -58,7 +59,7 @@ pub fn forget(sums: &mut [u64; SUM_WORDS])
 }
 
 // Whether 2A t 41 v 30 j stands at a place.
-fn is_variable_total(model: &[u8], at: usize) -> bool
+pub fn is_variable_total(model: &[u8], at: usize) -> bool
     ensures { λ r. ⌜ (r ≡ true → VariableTotal (now (model .entry)) at) ⌝ }
 {
     if stands(model, at, 6) {
@@ -115,6 +116,22 @@ fn summed_column(model: &[u8], at: usize) -> u64
         return wide(byte_at(model, at + 5)) % MOST_OBJECTS;
     }
     wide(byte_at(model, at + 8)) % MOST_OBJECTS
+}
+
+// The total at a place, summed anew.
+pub fn total_at(
+    model: &[u8],
+    at: usize,
+    outline: &[u64; PREPARED_WORDS],
+    state: &[u64; STATE_WORDS],
+) -> i64
+    requires { ⌜ TotalForm (now model) at ⌝ }
+    ensures { λ r. ⌜ r ≡ totalIn (now (model .entry)) at (now (outline .entry)) (now (state .entry)) ⌝ }
+{
+    let table = word_at(outline, TABLES + byte_at(model, at + 1) as usize);
+    let s = summed_set(model, at, state);
+    let j = summed_column(model, at);
+    total(model, table, s, j)
 }
 
 // Bound k's total, from the last one. It is remembered where it is in range.
@@ -233,6 +250,30 @@ pub fn bound_sum(
         }
         if is_closing(model, at) {
             return closing(model, at, outline, state, sums, k);
+        }
+    }
+    RANGE_END
+}
+
+// The total inside bound k, fourteen bytes behind a first byte 23, as a quotient rounded up has it; a number out of range where none stands there.
+pub fn inner_sum(
+    model: &[u8],
+    outline: &[u64; PREPARED_WORDS],
+    state: &[u64; STATE_WORDS],
+    sums: &mut [u64; SUM_WORDS],
+    k: usize,
+) -> i64
+    requires { ⌜ Remembers (now model) (now outline) (now sums) ⌝ }
+    ensures { λ r. ⌜ InnerTold (now (model .entry)) (boundPlace (now (outline .entry)) k) (now (outline .entry)) (now (state .entry)) r × Remembers (now (model .entry)) (now (outline .entry)) (now (sums .exit)) ⌝ }
+{
+    if k < MOST_BOUNDS {
+        let at = word_at(outline, BOUNDS + k) as usize;
+        if stands(model, at, 20) {
+            if model[at] == 0x23 {
+                if is_variable_total(model, at + 14) {
+                    return remembered(model, at + 14, outline, state, sums, k);
+                }
+            }
         }
     }
     RANGE_END

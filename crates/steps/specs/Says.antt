@@ -7,6 +7,7 @@ use mathlib.Core.Option.{some}
 use lib.ListN.{length, getElem?, drop}
 use lib.Dec.{eqb}
 use lib.IntN.{ℤ}
+use lib.Signed.{mag}
 use Rattle.model.specs.Numbers.{rangeEnd, mostNesting, mostVariables}
 use Rattle.model.specs.Values.{Value, value, trouble, _>>=_}
 use Rattle.model.specs.System.{blocked, moved}
@@ -173,3 +174,7 @@ pub record BoundSays (bytes words state : List ℕ) (k : ℕ) (r : NumberValue) 
   pub told : (x : Number) (n : ℕ) → reading.number (modelOf bytes .variables) (modelOf bytes .tables) mostNesting (drop (boundPlace words k) bytes) ≡ read x n
       → (used : ℕ) × (r ≡ numberAnswer (numberValue rangeEnd (modelOf bytes .tables) x (stateIn bytes state)) used)
   pub within : NumberWithin (length bytes - boundPlace words k) r
+
+-- the place of the sum inside the bound at `at`, where it is told; no other lies in the bytes
+abbrev pub InnerPlace : (bytes : List ℕ) (at : ℕ) (inner : ℤ) (p : ℕ) → Type 0
+InnerPlace bytes at inner p = p < length bytes → (p ≡ at + 14) × (mag inner < rangeEnd)

@@ -1,16 +1,16 @@
 // h of a state: the greatest of 0 and the bounds.
 
 ghost use mathlib.Core.Path.{_≡_};
-ghost use Prim.Native.Nat.{_<_};
+ghost use Prim.Native.Nat.{_≤_, _<_};
 ghost use lib.ListN.{length};
 ghost use Rattle.model.specs.Steps as steps;
 ghost use Rattle.outline.specs.Outline.{modelOf};
 ghost use Rattle.quick.specs.Sums.{Remembers};
 ghost use Rattle.steps.specs.InBytes.{Outlined, stateIn, systemIn};
 ghost use Rattle.steps.specs.Answers.{boundAnswer};
-ghost use Rattle.steps.specs.Says.{BoundSays};
+ghost use Rattle.steps.specs.Says.{BoundSays, InnerPlace};
 use crate::answers::BoundAnswer;
-use crate::parts::number_at;
+use crate::parts::number_knowing;
 use eval_sets::answers::NumberValue;
 use outline::layout::BOUND_COUNT;
 use outline::layout::BOUNDS;
@@ -19,6 +19,7 @@ use outline::layout::STATE_WORDS;
 use outline::word_at;
 use quick::sums::SUM_WORDS;
 use quick::sums::bound_sum;
+use quick::sums::inner_sum;
 use words::arithmetic::in_range;
 
 // The greater of h and a bound's number.
@@ -32,7 +33,18 @@ fn raise(h: u64, z: i64) -> u64
     if h < a { a } else { h }
 }
 
-// The value of bound k, a table's sum by its difference from the last one.
+// Where the sum inside the bound at a place stands, if it is told; else behind the last byte.
+fn inner_place(model: &[u8], at: usize, inner: i64) -> usize
+    requires { ⌜ at ≤ length (now model) ⌝ }
+    ensures { λ r. ⌜ InnerPlace (now (model .entry)) at inner r ⌝ }
+{
+    if in_range(inner) {
+        return at + 14;
+    }
+    model.len()
+}
+
+// The value of bound k, a table's sum in it by its difference from the last one.
 fn bound_number(
     model: &[u8],
     outline: &[u64; PREPARED_WORDS],
@@ -47,7 +59,11 @@ fn bound_number(
     if in_range(z) {
         return NumberValue::Value(z, 0);
     }
-    number_at(model, word_at(outline, BOUNDS + k) as usize, outline, state)
+    let at = word_at(outline, BOUNDS + k) as usize;
+    let inner = inner_sum(model, outline, state, sums, k);
+    let place = inner_place(model, at, inner);
+    let whole = model;
+    number_knowing(whole, at, outline, state, place, inner)
 }
 
 // Evaluates the bounds in their order.

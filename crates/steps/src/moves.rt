@@ -19,7 +19,7 @@ use crate::answers::WordAnswer;
 use crate::conditions::conditions_hold;
 use crate::conditions::constraints_hold;
 use crate::parts::element_at;
-use crate::parts::number_at;
+use crate::parts::number_near;
 use crate::parts::set_at;
 use cursor::numbers::SILENT;
 use eval_sets::answers::NumberValue;
@@ -38,7 +38,7 @@ use quick::sets::is_changed;
 use words::arithmetic::biased;
 use words::sizes::MOST_OBJECTS;
 
-// The value of the number at a place: a table's entry in place, terms along a cursor, any other by the evaluators.
+// The value of the number at a place: a table's entry in place, terms or nested numbers along a cursor, any other by the evaluators.
 fn cost_number(
     model: &[u8],
     at: usize,
@@ -53,12 +53,12 @@ fn cost_number(
     }
     let whole = model;
     let mut end = at;
-    let told = cursor::terms::number(&whole, &mut end, outline, state);
+    let told = cursor_conditions::terms::number(&whole, &mut end, outline, state);
     if told < SILENT {
         let used = end - at;
         return NumberValue::Value(told, used);
     }
-    number_at(model, at, outline, state)
+    number_near(model, at, outline, state)
 }
 
 // The cost at a place; a negative one is trouble.
@@ -92,7 +92,7 @@ fn number_word(
     requires { ⌜ Outlined (now model) (now outline) × (at ≤ length (now model)) ⌝ }
     ensures { λ r. ⌜ NumberWordSays (now (model .entry)) at (now (state .entry)) r × WordWithin (length (now (model .entry)) - at) r ⌝ }
 {
-    match number_at(model, at, outline, state) {
+    match number_near(model, at, outline, state) {
         NumberValue::Value(z, used) => WordAnswer::Word(biased(z), used),
         NumberValue::Trouble(t) => WordAnswer::Trouble(t),
     }

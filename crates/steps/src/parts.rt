@@ -4,8 +4,10 @@ ghost use Prim.Native.Nat.{_≤_, _<_, _-_};
 ghost use lib.ListN.{length};
 ghost use Rattle.model.specs.Numbers.{mostObjects};
 ghost use Rattle.eval_sets.specs.Bounds.{NumberWithin, ConditionWithin};
+ghost use Rattle.nested.specs.Known.{KnownAt};
 ghost use Rattle.steps.specs.InBytes.{Outlined};
 ghost use Rattle.steps.specs.Says.{ConditionSays, NumberSays, ElementSays, SetSays};
+use cursor::numbers::SILENT;
 use eval_numbers::number;
 use eval_sets::answers::ConditionValue;
 use eval_sets::answers::ElementValue;
@@ -42,7 +44,7 @@ pub fn condition_near(
 {
     let whole = model;
     let mut end = at;
-    let told = cursor::conditions::test(&whole, &mut end, outline, state);
+    let told = cursor_conditions::conditions::test(&whole, &mut end, outline, state);
     if told == 1 {
         let used = end - at;
         return ConditionValue::Holds(true, used);
@@ -64,6 +66,41 @@ pub fn number_at(
     ensures { λ r. ⌜ NumberSays (now (model .entry)) at (now (state .entry)) r × NumberWithin (length (now (model .entry)) - at) r ⌝ }
 {
     number(&model[at..], model, state, outline, 32)
+}
+
+// The same, along a cursor where that tells it, else by the evaluators. A table's sum at `place` is known: `sum`.
+pub fn number_knowing(
+    model: &[u8],
+    at: usize,
+    outline: &[u64; PREPARED_WORDS],
+    state: &[u64; STATE_WORDS],
+    place: usize,
+    sum: i64,
+) -> NumberValue
+    requires { ⌜ Outlined (now model) (now outline) × (at ≤ length (now model)) × KnownAt (now model) (now outline) (now state) place sum ⌝ }
+    ensures { λ r. ⌜ NumberSays (now (model .entry)) at (now (state .entry)) r × NumberWithin (length (now (model .entry)) - at) r ⌝ }
+{
+    let whole = model;
+    let mut end = at;
+    let told = nested::number(&whole, &mut end, outline, state, place, sum);
+    if told < SILENT {
+        let used = end - at;
+        return NumberValue::Value(told, used);
+    }
+    number_at(model, at, outline, state)
+}
+
+// The same with nothing known.
+pub fn number_near(
+    model: &[u8],
+    at: usize,
+    outline: &[u64; PREPARED_WORDS],
+    state: &[u64; STATE_WORDS],
+) -> NumberValue
+    requires { ⌜ Outlined (now model) (now outline) × (at ≤ length (now model)) ⌝ }
+    ensures { λ r. ⌜ NumberSays (now (model .entry)) at (now (state .entry)) r × NumberWithin (length (now (model .entry)) - at) r ⌝ }
+{
+    number_knowing(model, at, outline, state, model.len(), 0)
 }
 
 // The object of the element at a place.

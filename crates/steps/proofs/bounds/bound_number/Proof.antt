@@ -1,5 +1,6 @@
--- `steps::bounds::bound_number` meets its contract: in place, or by the evaluators.
-use mathlib.Core.Path.{sym, _∙_}
+-- `steps::bounds::bound_number` meets its contract: in place, along a cursor with the sum that it has inside, or by the evaluators.
+use Prim.Native.Nat.{_+_}
+use mathlib.Core.Path.{refl, sym, _∙_}
 use native.Mathlib.Omega.{arith}
 use borrow.Author.Needs.{needs}
 use borrow.Author.Tests.{ltb-true}
@@ -8,6 +9,9 @@ use mir.Syntax.{w64}
 use mir.Val.{SFits}
 use Rattle.model.specs.Numbers.{rangeEnd}
 use Rattle.words.proofs.Integers.{back}
+use Rattle.nested.proofs.Waiting.{total-is}
+use Rattle.quick.specs.Sums.{boundPlace}
+use Rattle.steps.specs.Says.{InnerPlace}
 use Rattle.steps.proofs.Trials.{bound-at, bound-in-place, bound-evaluated}
 use Rattle.steps.proofs.bounds.bound_number.Statement.{statement}
 use Rattle.steps.proofs.bounds.bound_number.Tie as tie
@@ -24,18 +28,37 @@ returns c =
 add-word-at : tie.Need-add-word-at
 add-word-at c = let start : tie.Start = search in record { fits = omega (arith, start .pre .2, start .pre .0 .outlines .few-bounds) }
 
-number-at-requires : tie.Need-number-at-requires
-number-at-requires c κs =
+inner-place-requires : tie.Need-inner-place-requires
+inner-place-requires c κs =
     let start : tie.Start = search in
-    (start .pre .0, bound-at (start .pre .0) (start .pre .2) (c .word-at .ensures) .inside)
+    let place : tie.After-word-at = search in
+    bound-at (start .pre .0) (start .pre .2) (place .word-at .ensures) .inside
+
+number-knowing-requires : tie.Need-number-knowing-requires
+number-knowing-requires c κs =
+    let start : tie.Start = search in
+    let place : tie.After-word-at = search in
+    let sum : tie.After-inner-sum = search in
+    let a = start .args in
+    let z = sum .inner-sum .result in
+    let f : SFits w64 z = record { sfits = sum .inner-sum .ok } in
+    let told : InnerPlace (a .model .now) (boundPlace (a .outline .now) (a .k)) z (c .inner-place .result) = rw (back f, place .word-at .ensures) at (c .inner-place .ensures) in
+    rw (back f) (
+      start .pre .0,
+      bound-at (start .pre .0) (start .pre .2) (place .word-at .ensures) .inside,
+      λ l. let here = told l in
+          let is = sum .inner-sum .ensures .0 (here .1) in
+          rw (here .0)
+          (total-is (a .model .now) (a .outline .now) (a .state .now) (boundPlace (a .outline .now) (a .k) + 14) z (record { inside = is .form .inside; near = omega (arith, is .form .inside, start .good) }) (is .form) (is .total) (here .1)),
+    )
 
 returns-2 : tie.Need-returns-2
 returns-2 c =
     let start : tie.Start = search in
-    let sum : tie.After-bound-sum = search in
     let place : tie.After-word-at = search in
-    let says = rw (place .word-at .ensures) at (c .number-at .ensures) in
-    (bound-evaluated (start .pre .0) (start .args .state .now) (start .args .k) (c .number-at .result) (says .0) (says .1), sum .bound-sum .ensures .1)
+    let sum : tie.After-inner-sum = search in
+    let says = rw (place .word-at .ensures) at (c .number-knowing .ensures) in
+    (bound-evaluated (start .pre .0) (start .args .state .now) (start .args .k) (c .number-knowing .result) (says .0) (says .1), sum .inner-sum .ensures .1)
 
 pub bound-number-spec : {M : Type 1} → statement M
 bound-number-spec =
@@ -46,5 +69,7 @@ bound-number-spec =
     returns
     add-word-at
     (λ c κs. search needs)
-    number-at-requires
+    (λ c κs. let sum : tie.After-bound-sum = search in sum .bound-sum .ensures .1)
+    inner-place-requires
+    number-knowing-requires
     returns-2)

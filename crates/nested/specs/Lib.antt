@@ -1,0 +1,2 @@
+-- What is known before a number is read.
+pub mod Known
