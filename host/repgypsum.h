@@ -6,9 +6,9 @@
  * Every function takes any bytes and any numbers: what is wrong with them is told by a refusal. What the caller sees to:
  *
  * - A pointer has as many elements behind it as its length says, and may be null only where that is 0.
- * - `words` is aligned as uint64_t is, to 8 bytes. Bytes need no alignment.
- * - The buffers of a search do not overlap, with a length or without: `model`, `plan` and `words` are apart. Those of a plan check
- *   are only read and may.
+ * - `words` is aligned as uint64_t is, to 8 bytes, and `widths` as uint16_t is, to 2. Bytes need no alignment.
+ * - The buffers of a search do not overlap, with a length or without: `plan` and `words` are apart from each other and from `model` and
+ *   `widths`. Those of a plan check are only read and may.
  * - Nobody else writes to a lent buffer during the call.
  *
  * Threads: there is no shared state. Nothing is allocated, nothing is kept between calls, and no variable outlives one; calls with
@@ -29,10 +29,11 @@
 #define REPGYPSUM_VERSION_MINOR 1
 #define REPGYPSUM_VERSION_PATCH 0
 
-/* Limits: bytes of a model, the widest beam, steps of a plan (and so the length limit), transitions, objects of a set (and so the
- * length that repgypsum_load chooses). */
+/* Limits: bytes of a model, the widest beam, entries of a list of widths, steps of a plan (and so the length limit), transitions,
+ * objects of a set (and so the length that repgypsum_load chooses). */
 #define REPGYPSUM_MOST_MODEL_BYTES 65536
 #define REPGYPSUM_MOST_WIDTH 4096
+#define REPGYPSUM_MOST_WIDTHS 16
 #define REPGYPSUM_MOST_STEPS 256
 #define REPGYPSUM_MOST_TRANSITIONS 256
 #define REPGYPSUM_MOST_OBJECTS 64
@@ -47,12 +48,12 @@ enum repgypsum_verdict {
     REPGYPSUM_CHEAPEST = 0,     /* the plan costs no more than any other, if the declarations are true */
     REPGYPSUM_NO_PLAN = 1,      /* there is none, if the declarations are true, or if the target breaks a constraint */
     REPGYPSUM_WIDTH_STOP = 2,   /* some layer has more states than the widest beam */
-    REPGYPSUM_LENGTH_STOP = 3,  /* some unfinished state lies at the length limit; never from repgypsum_load */
+    REPGYPSUM_LENGTH_STOP = 3,  /* some unfinished state lies at the length limit; never from repgypsum_load or repgypsum_load_widths */
     REPGYPSUM_BUDGET_SPENT = 4,
     REPGYPSUM_CONTRADICTED = 5  /* some declaration is false */
 };
 
-/* Why a call was refused: 1 to 9 and 15 by the input, 11 to 14 by a state. */
+/* Why a call was refused: 1 to 9, 15 and 16 by the input, 11 to 14 by a state. */
 enum repgypsum_refusal {
     REPGYPSUM_MODEL_TOO_LONG = 1,   /* over 65,536 bytes */
     REPGYPSUM_BAD_SETTING = 2,      /* a setting out of range, or a plan of over 256 steps */
@@ -67,7 +68,8 @@ enum repgypsum_refusal {
     REPGYPSUM_DIVISOR_ZERO = 12,
     REPGYPSUM_NEGATIVE_COST = 13,
     REPGYPSUM_NOT_A_PLAN = 14,      /* plan check only; always where the target breaks a constraint */
-    REPGYPSUM_OUTSIDE_PROFILE = 15  /* repgypsum_load only: the model is no pure loading order */
+    REPGYPSUM_OUTSIDE_PROFILE = 15, /* repgypsum_load and repgypsum_load_widths only: the model is no pure loading order */
+    REPGYPSUM_BAD_WIDTHS = 16       /* a list of widths that is empty, too long, not rising, or has an entry out of range */
 };
 
 /* The answer of a search. At a refusal by the input all fields but the first two are 0. At a refusal by a state cost, length
@@ -81,10 +83,11 @@ struct repgypsum_answer {
     uint64_t length;      /* steps at the front of the plan buffer */
     uint64_t expansions;
     uint64_t rounds;      /* rounds begun */
-    uint64_t width;       /* of the last round */
+    uint64_t width;       /* of the last round: 1, 2, 4 up to the widest beam, or an entry of the list of widths */
 };
 
-/* What a search with widest beam `width` and length limit `length` has to be lent. */
+/* What a search with widest beam `width` and length limit `length` has to be lent. With a list of widths its last entry is the widest
+ * beam. */
 #define REPGYPSUM_PLAN_BYTES(width, length) ((uintptr_t)(length))
 #define REPGYPSUM_WORDS(width, length) ((uintptr_t)(width) * 64 + (uintptr_t)(width) * ((uintptr_t)(length) + 1))
 
@@ -102,6 +105,19 @@ struct repgypsum_answer repgypsum_search(const uint8_t *model, uintptr_t model_l
  * REPGYPSUM_WORDS for that length are lent. With REPGYPSUM_MOST_OBJECTS as length, enough is lent for every model. */
 struct repgypsum_answer repgypsum_load(const uint8_t *model, uintptr_t model_len, uint32_t width, uint32_t budget, uint8_t *plan,
                                        uintptr_t plan_len, uint64_t *words, uintptr_t words_len);
+
+/* Both searches with a list of widths in the place of the widest beam: 1 to REPGYPSUM_MOST_WIDTHS numbers from 1 to REPGYPSUM_MOST_WIDTH,
+ * each above the one before it, powers of two or not. Round 1 has the first entry's width, each further round the next entry's, and every
+ * round behind the last entry has that width again. The last entry is the widest beam, which REPGYPSUM_WORDS asks for. The list
+ * { 1, 2, 4, 8, 16 } gives the answers of width 16. A list of no entries is no list that can be taken: a search without a list is
+ * repgypsum_search or repgypsum_load.
+ * Another list is refused with REPGYPSUM_BAD_WIDTHS, right behind 2, which is then for the length alone, or for nothing in the loading
+ * profile: the order is 1, 2, 16, 3, 4 to 9; and 1, 16, 4 to 9, 15, 3. */
+struct repgypsum_answer repgypsum_search_widths(const uint8_t *model, uintptr_t model_len, const uint16_t *widths, uintptr_t widths_len,
+                                                uint32_t length, uint32_t budget, uint8_t *plan, uintptr_t plan_len, uint64_t *words,
+                                                uintptr_t words_len);
+struct repgypsum_answer repgypsum_load_widths(const uint8_t *model, uintptr_t model_len, const uint16_t *widths, uintptr_t widths_len,
+                                              uint32_t budget, uint8_t *plan, uintptr_t plan_len, uint64_t *words, uintptr_t words_len);
 
 /* The plan check, the target's constraints first and then step by step: 0 exactly if the bytes are a plan of the model, else the
  * refusal's number. */

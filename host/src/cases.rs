@@ -6,11 +6,13 @@ pub mod plans;
 pub mod reading;
 pub mod searches;
 pub mod text;
+pub mod widths;
 
 use crate::answer::Answer;
+use crate::beam::Beam;
 use crate::build::Bytes;
 use crate::numbers::words_needed;
-use crate::reference::{load, plan_check, search};
+use crate::reference::{load, load_widths, plan_check, search, search_widths};
 
 /// The byte with which lent plan buffers are filled.
 pub const FILL: u8 = 0xA5;
@@ -26,7 +28,7 @@ pub enum Call {
 #[derive(Clone, PartialEq, Eq, Debug)]
 pub struct Search {
     pub model: Bytes,
-    pub width: u64,
+    pub beam: Beam,
     pub length: u64,
     pub budget: u64,
     pub buffer: Bytes,
@@ -37,7 +39,7 @@ pub struct Search {
 #[derive(Clone, PartialEq, Eq, Debug)]
 pub struct Load {
     pub model: Bytes,
-    pub width: u64,
+    pub beam: Beam,
     pub budget: u64,
     pub buffer: Bytes,
     pub words: u64,
@@ -52,13 +54,35 @@ pub enum Outcome {
 impl Call {
     /// A search with the buffers that its settings need.
     pub fn search(model: Bytes, width: u64, length: u64, budget: u64) -> Call {
+        Call::search_by(model, Beam::UpTo(width), length, budget)
+    }
+
+    /// The same with these widths.
+    pub fn search_by(model: Bytes, beam: Beam, length: u64, budget: u64) -> Call {
+        let words = words_needed(beam.widest(), length);
         Call::Search(Search {
             model,
-            width,
+            beam,
             length,
             budget,
             buffer: vec![FILL; length as usize],
-            words: words_needed(width, length),
+            words,
+        })
+    }
+
+    /// A search in the loading profile with these widths and buffers.
+    pub fn load_by(
+        model: Bytes,
+        beam: Beam,
+        budget: u64,
+        (plan_bytes, words): (usize, u64),
+    ) -> Call {
+        Call::Load(Load {
+            model,
+            beam,
+            budget,
+            buffer: vec![FILL; plan_bytes],
+            words,
         })
     }
 
@@ -93,14 +117,12 @@ impl Search {
     /// The reference's answer, and the plan buffer afterwards.
     pub fn run(&self) -> (Answer, Bytes) {
         let mut after = self.buffer.clone();
-        let answer = search(
-            &self.model,
-            self.width,
-            self.length,
-            self.budget,
-            &mut after,
-            self.words,
-        );
+        let (model, plan) = (&self.model, &mut after);
+        let (length, budget, words) = (self.length, self.budget, self.words);
+        let answer = match &self.beam {
+            Beam::UpTo(width) => search(model, *width, length, budget, plan, words),
+            Beam::Listed(widths) => search_widths(model, widths, length, budget, plan, words),
+        };
         (answer, after)
     }
 }
@@ -109,7 +131,12 @@ impl Load {
     /// The reference's answer, and the plan buffer afterwards.
     pub fn run(&self) -> (Answer, Bytes) {
         let mut after = self.buffer.clone();
-        let answer = load(&self.model, self.width, self.budget, &mut after, self.words);
+        let (model, plan) = (&self.model, &mut after);
+        let (budget, words) = (self.budget, self.words);
+        let answer = match &self.beam {
+            Beam::UpTo(width) => load(model, *width, budget, plan, words),
+            Beam::Listed(widths) => load_widths(model, widths, budget, plan, words),
+        };
         (answer, after)
     }
 }
@@ -201,17 +228,11 @@ impl Cases {
         note: &str,
         model: Bytes,
         (width, budget): (u64, u64),
-        (plan_bytes, words): (usize, u64),
+        lent: (usize, u64),
         stated: &str,
     ) {
-        let load = Load {
-            model,
-            width,
-            budget,
-            buffer: vec![FILL; plan_bytes],
-            words,
-        };
-        self.add(note, Call::Load(load), stated);
+        let call = Call::load_by(model, Beam::UpTo(width), budget, lent);
+        self.add(note, call, stated);
     }
 }
 
@@ -223,5 +244,6 @@ pub fn groups() -> Vec<(&'static str, Vec<Case>)> {
         ("Plans", plans::cases()),
         ("Searches", searches::cases()),
         ("Loads", loads::cases()),
+        ("Widths", widths::cases()),
     ]
 }

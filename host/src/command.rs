@@ -24,6 +24,7 @@ mod translate;
 mod unconditional;
 mod warnings;
 mod why;
+mod widths;
 pub mod words;
 
 use std::ffi::OsString;

@@ -1,6 +1,7 @@
 //! Seeded random models, well made and damaged, and random settings.
 
 pub mod loading;
+pub mod widths;
 
 use crate::build::*;
 use crate::reference::read_model;

@@ -41,7 +41,7 @@ macro_rules! numbers {
     )*};
 }
 
-numbers!(u8 u32 u64 usize i64);
+numbers!(u8 u16 u32 u64 usize i64);
 
 impl<Part: Into<Json>> From<Option<Part>> for Json {
     fn from(value: Option<Part>) -> Json {

@@ -2,6 +2,7 @@
 //! families, a fast one to measure against, the proved libraries, the text form of models, JSON, and the command line.
 
 pub mod answer;
+pub mod beam;
 pub mod bench;
 pub mod build;
 pub mod cases;

@@ -1,7 +1,7 @@
 //! The numbers that document 01 fixes, under the names that the definitions give them (crates/model/specs/Numbers.antt,
 //! crates/search/specs/Answer.antt and Run.antt).
 
-/// Refusals: 1 to 9 and 15 by the input, 11 to 14 by a state.
+/// Refusals: 1 to 9, 15 and 16 by the input, 11 to 14 by a state.
 pub mod refusal {
     pub const MODEL_TOO_LONG: u8 = 1;
     pub const BAD_SETTING: u8 = 2;
@@ -17,6 +17,7 @@ pub mod refusal {
     pub const NEGATIVE_COST: u8 = 13;
     pub const NOT_A_PLAN: u8 = 14;
     pub const OUTSIDE_PROFILE: u8 = 15;
+    pub const BAD_WIDTHS: u8 = 16;
 
     /// Whether the refusal was met in a state of a search, so that a path leads to it.
     pub fn by_state(number: u8) -> bool {
@@ -50,6 +51,8 @@ pub mod limit {
     /// The outermost expression counts 1.
     pub const NESTING: u32 = 32;
     pub const WIDTH: u64 = 4_096;
+    /// The entries of a list of widths.
+    pub const WIDTHS: usize = 16;
     pub const LENGTH: u64 = 256;
     pub const PLAN_BYTES: usize = LENGTH as usize;
 }

@@ -54,6 +54,29 @@ extern "C" {
         words: *mut u64,
         words_len: usize,
     ) -> Fields;
+    fn repgypsum_search_widths(
+        model: *const u8,
+        model_len: usize,
+        widths: *const u16,
+        widths_len: usize,
+        length: u32,
+        budget: u32,
+        plan: *mut u8,
+        plan_len: usize,
+        words: *mut u64,
+        words_len: usize,
+    ) -> Fields;
+    fn repgypsum_load_widths(
+        model: *const u8,
+        model_len: usize,
+        widths: *const u16,
+        widths_len: usize,
+        budget: u32,
+        plan: *mut u8,
+        plan_len: usize,
+        words: *mut u64,
+        words_len: usize,
+    ) -> Fields;
     fn repgypsum_check_answer(
         model: *const u8,
         model_len: usize,
@@ -102,6 +125,58 @@ pub fn load(model: &[u8], width: u32, budget: u32, plan: &mut [u8], words: &mut 
             model.as_ptr(),
             model.len(),
             width,
+            budget,
+            plan.as_mut_ptr(),
+            plan.len(),
+            words.as_mut_ptr(),
+            words.len(),
+        )
+    };
+    fields.answer()
+}
+
+/// Searches with a list of widths in the place of the widest beam.
+pub fn search_widths(
+    model: &[u8],
+    widths: &[u16],
+    length: u32,
+    budget: u32,
+    plan: &mut [u8],
+    words: &mut [u64],
+) -> Answer {
+    // Safety: as above.
+    let fields = unsafe {
+        repgypsum_search_widths(
+            model.as_ptr(),
+            model.len(),
+            widths.as_ptr(),
+            widths.len(),
+            length,
+            budget,
+            plan.as_mut_ptr(),
+            plan.len(),
+            words.as_mut_ptr(),
+            words.len(),
+        )
+    };
+    fields.answer()
+}
+
+/// Searches in the loading profile with a list of widths.
+pub fn load_widths(
+    model: &[u8],
+    widths: &[u16],
+    budget: u32,
+    plan: &mut [u8],
+    words: &mut [u64],
+) -> Answer {
+    // Safety: as above.
+    let fields = unsafe {
+        repgypsum_load_widths(
+            model.as_ptr(),
+            model.len(),
+            widths.as_ptr(),
+            widths.len(),
             budget,
             plan.as_mut_ptr(),
             plan.len(),

@@ -5,6 +5,7 @@ mod reading;
 mod writing;
 
 use crate::answer::Answer;
+use crate::beam::Beam;
 use crate::line::answer_line;
 use crate::numbers::words_needed;
 use crate::proved;
@@ -46,7 +47,7 @@ pub struct Quotation {
     pub title: String,
     pub version: String,
     pub kit: String,
-    pub width: u32,
+    pub beam: Beam,
     pub length: u32,
     pub budget: u32,
     pub said: Said,
@@ -96,17 +97,19 @@ impl Said {
 impl Quotation {
     /// The run again: what it says, or the refusal.
     pub fn rerun(&self) -> Result<Said, u8> {
-        let words = words_needed(self.width.into(), self.length.into());
+        let words = words_needed(self.beam.widest(), self.length.into());
         let mut plan = vec![0; self.length as usize];
         let mut words = vec![0; words as usize];
-        let answer = proved::search(
-            &self.model,
-            self.width,
-            self.length,
-            self.budget,
-            &mut plan,
-            &mut words,
-        );
+        let (model, length, budget) = (&self.model, self.length, self.budget);
+        let answer = match &self.beam {
+            Beam::UpTo(width) => {
+                let width = *width as u32;
+                proved::search(model, width, length, budget, &mut plan, &mut words)
+            }
+            Beam::Listed(widths) => {
+                proved::search_widths(model, widths, length, budget, &mut plan, &mut words)
+            }
+        };
         plan.truncate(answer.length as usize);
         Said::of(&answer, &plan).ok_or(answer.verdict)
     }

@@ -36,7 +36,10 @@ mod refusals;
 mod translate;
 #[path = "command/usage.rs"]
 mod usage;
+#[path = "command/widths.rs"]
+mod widths;
 
+use repgypsum_host::beam::{joined, Beam};
 use std::io::Write;
 use std::path::{Path, PathBuf};
 use std::process::{Command, Stdio};
@@ -140,6 +143,14 @@ fn file(name: &str, content: &[u8]) -> String {
     let path = folder.join(name);
     std::fs::write(&path, content).expect("a file for the tests");
     path.to_str().expect("a path in plain text").to_string()
+}
+
+/// The option that gives a widest beam or a list of widths.
+fn beam_option(beam: &Beam) -> String {
+    match beam {
+        Beam::UpTo(width) => format!("--width={width}"),
+        Beam::Listed(widths) => format!("--widths={}", joined(widths, ",")),
+    }
 }
 
 /// The names of the examples.

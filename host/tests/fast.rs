@@ -1,6 +1,7 @@
 //! The fast search gives every answer field and every plan byte of the reference.
 
 use repgypsum_host::answer::Answer;
+use repgypsum_host::beam::Beam;
 use repgypsum_host::build::*;
 use repgypsum_host::cases::{groups, Call, FILL};
 use repgypsum_host::families::families;
@@ -13,7 +14,7 @@ use repgypsum_host::reference::search;
 #[derive(Default, Debug)]
 struct Met {
     verdicts: [usize; 6],
-    refusals: [usize; 15],
+    refusals: [usize; 17],
 }
 
 impl Met {
@@ -71,8 +72,11 @@ fn stored_searches() {
             if (expected.refused, expected.verdict) == (true, refusal::TOO_LITTLE_LENT) {
                 continue;
             }
-            let (found, plan) =
-                fast::search(&search.model, search.width, search.length, search.budget);
+            let (model, length, budget) = (&search.model, search.length, search.budget);
+            let (found, plan) = match &search.beam {
+                Beam::UpTo(width) => fast::search(model, *width, length, budget),
+                Beam::Listed(widths) => fast::search_widths(model, widths, length, budget),
+            };
             let mut left = search.buffer;
             left[..plan.len()].copy_from_slice(&plan);
             assert_eq!((found, left), (expected, expected_buffer));

@@ -256,7 +256,9 @@ fn what_the_libraries_have() {
         "repgypsum_check_answer",
         "repgypsum_check_cost",
         "repgypsum_load",
+        "repgypsum_load_widths",
         "repgypsum_search",
+        "repgypsum_search_widths",
     ];
     let archive = root().join("target/staticlib/librepgypsum.a");
     let all = symbols(&[], &archive);
@@ -310,6 +312,7 @@ fn the_header_has_version_and_limits() {
     let limits = [
         ("MODEL_BYTES", limit::MODEL_BYTES as u64),
         ("WIDTH", limit::WIDTH),
+        ("WIDTHS", limit::WIDTHS as u64),
         ("STEPS", limit::LENGTH),
         ("TRANSITIONS", limit::TRANSITIONS as u64),
         ("OBJECTS", u64::from(limit::OBJECTS)),

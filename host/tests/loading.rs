@@ -244,7 +244,7 @@ fn stored_loads() {
         if (expected.refused, expected.verdict) == (true, TOO_LITTLE_LENT) {
             continue;
         }
-        let (found, plan) = fast::load(&load.model, load.width, load.budget);
+        let (found, plan) = fast::load(&load.model, load.beam.widest(), load.budget);
         let mut left = load.buffer;
         left[..plan.len()].copy_from_slice(&plan);
         assert_eq!((found, left), (expected, after));

@@ -53,12 +53,12 @@ fn refusals_and_sizes() {
     let definitions = text("crates/model/specs/Numbers.antt");
     let (refusals, sizes) = definitions.split_once("---- sizes").expect("two parts");
     let refusals = equations(refusals, "");
-    assert_eq!(refusals.len(), 14);
+    assert_eq!(refusals.len(), 15);
     for (name, number) in refusals {
         assert!(in_rust(&name, number) && in_c(&name, number), "{name}");
     }
     let sizes = equations(sizes, "most");
-    assert_eq!(sizes.len(), 11);
+    assert_eq!(sizes.len(), 13);
     for (name, number) in sizes {
         let name = match name.as_str() {
             "_STEPS" => "LENGTH",

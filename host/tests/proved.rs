@@ -2,18 +2,21 @@
 //! REPGYPSUM_MODELS=N makes the run over random models longer.
 
 use repgypsum_host::answer::Answer;
+use repgypsum_host::beam::Beam;
 use repgypsum_host::build::*;
 use repgypsum_host::cases::{groups, Call, Outcome};
 use repgypsum_host::enumerate::Space;
 use repgypsum_host::families::families;
 use repgypsum_host::fast;
 use repgypsum_host::generate::loading::{inside, outside, WAYS};
+use repgypsum_host::generate::widths::{bad, rising, rising_to, WAYS as BAD_LISTS};
 use repgypsum_host::generate::{damaged, with_any_target, Random};
-use repgypsum_host::numbers::refusal::{by_state, OUTSIDE_PROFILE};
+use repgypsum_host::numbers::refusal::{by_state, BAD_WIDTHS, OUTSIDE_PROFILE};
 use repgypsum_host::numbers::verdict::LENGTH_STOP;
 use repgypsum_host::numbers::words_needed;
 use repgypsum_host::proved;
 use repgypsum_host::reference::{self, read_model};
+use std::collections::BTreeMap;
 
 const FILL: u8 = 0xA5;
 const WORD: u64 = 0x0123_4567_89AB_CDEF;
@@ -34,32 +37,81 @@ fn settings(random: &mut Random) -> (u64, u64, u64) {
     (width, length, budget)
 }
 
-/// Runs a search by both with the same buffers, compares all that they leave, and answers the answer and the plan buffer.
+/// A search's widths, its length, which the loading profile chooses where none is given, and its budget.
+struct Asked<'a> {
+    beam: &'a Beam,
+    length: Option<u64>,
+    budget: u64,
+}
+
+impl Asked<'_> {
+    fn by_reference(&self, model: &[u8], plan: &mut [u8], words: u64) -> Answer {
+        let budget = self.budget;
+        match (self.beam, self.length) {
+            (Beam::UpTo(width), Some(length)) => {
+                reference::search(model, *width, length, budget, plan, words)
+            }
+            (Beam::UpTo(width), None) => reference::load(model, *width, budget, plan, words),
+            (Beam::Listed(widths), Some(length)) => {
+                reference::search_widths(model, widths, length, budget, plan, words)
+            }
+            (Beam::Listed(widths), None) => {
+                reference::load_widths(model, widths, budget, plan, words)
+            }
+        }
+    }
+
+    fn by_proved(&self, model: &[u8], plan: &mut [u8], words: &mut [u64]) -> Answer {
+        let budget = self.budget as u32;
+        match (self.beam, self.length.map(|length| length as u32)) {
+            (Beam::UpTo(width), Some(length)) => {
+                proved::search(model, *width as u32, length, budget, plan, words)
+            }
+            (Beam::UpTo(width), None) => proved::load(model, *width as u32, budget, plan, words),
+            (Beam::Listed(widths), Some(length)) => {
+                proved::search_widths(model, widths, length, budget, plan, words)
+            }
+            (Beam::Listed(widths), None) => proved::load_widths(model, widths, budget, plan, words),
+        }
+    }
+
+    /// Runs the search by both with the same buffers, compares all that they leave, and answers the answer and the plan buffer.
+    fn compare(&self, model: &[u8], plan_bytes: usize, lent: u64) -> (Answer, Vec<u8>) {
+        let mut expected_plan = vec![FILL; plan_bytes];
+        let expected = self.by_reference(model, &mut expected_plan, lent);
+        let mut plan = vec![FILL; plan_bytes];
+        let mut words = vec![WORD; lent as usize];
+        let answer = self.by_proved(model, &mut plan, &mut words);
+        let Asked {
+            beam,
+            length,
+            budget,
+        } = self;
+        let call = format!(
+            "{beam:?} L {length:?} budget {budget}, {plan_bytes} bytes, {lent} words: {model:02x?}"
+        );
+        assert_eq!(answer, expected, "{call}");
+        assert_eq!(plan, expected_plan, "{call}");
+        if answer.refused && !by_state(answer.verdict) {
+            assert!(words.iter().all(|word| *word == WORD), "{call}");
+        }
+        (answer, plan)
+    }
+}
+
+/// Compares a search up to a widest beam with a length.
 fn compare(
     model: &[u8],
     (width, length, budget): (u64, u64, u64),
     plan_bytes: usize,
     lent: u64,
 ) -> (Answer, Vec<u8>) {
-    let mut expected_plan = vec![FILL; plan_bytes];
-    let expected = reference::search(model, width, length, budget, &mut expected_plan, lent);
-    let mut plan = vec![FILL; plan_bytes];
-    let mut words = vec![WORD; lent as usize];
-    let answer = proved::search(
-        model,
-        width as u32,
-        length as u32,
-        budget as u32,
-        &mut plan,
-        &mut words,
-    );
-    let call = format!("W {width} L {length} budget {budget}: {model:02x?}");
-    assert_eq!(answer, expected, "{call}");
-    assert_eq!(plan, expected_plan, "{call}");
-    if answer.refused && !by_state(answer.verdict) {
-        assert!(words.iter().all(|word| *word == WORD), "{call}");
-    }
-    (answer, plan)
+    let asked = Asked {
+        beam: &Beam::UpTo(width),
+        length: Some(length),
+        budget,
+    };
+    asked.compare(model, plan_bytes, lent)
 }
 
 /// The same for a search in the loading profile.
@@ -69,19 +121,12 @@ fn compare_load(
     plan_bytes: usize,
     lent: u64,
 ) -> (Answer, Vec<u8>) {
-    let mut expected_plan = vec![FILL; plan_bytes];
-    let expected = reference::load(model, width, budget, &mut expected_plan, lent);
-    let mut plan = vec![FILL; plan_bytes];
-    let mut words = vec![WORD; lent as usize];
-    let (narrow, few) = (width as u32, budget as u32);
-    let answer = proved::load(model, narrow, few, &mut plan, &mut words);
-    let call = format!("W {width} budget {budget}, {plan_bytes} bytes, {lent} words: {model:02x?}");
-    assert_eq!(answer, expected, "{call}");
-    assert_eq!(plan, expected_plan, "{call}");
-    if answer.refused && !by_state(answer.verdict) {
-        assert!(words.iter().all(|word| *word == WORD), "{call}");
-    }
-    (answer, plan)
+    let asked = Asked {
+        beam: &Beam::UpTo(width),
+        length: None,
+        budget,
+    };
+    asked.compare(model, plan_bytes, lent)
 }
 
 /// The same with the buffers that the settings need and a few bytes and words more.
@@ -95,6 +140,7 @@ fn compare_at(model: &[u8], settings: (u64, u64, u64), more: usize) -> (Answer, 
 fn stored_cases() {
     let mut searches = 0;
     let mut loads = 0;
+    let mut lists = 0;
     let mut checks = 0;
     for (_, cases) in groups() {
         for case in cases {
@@ -104,22 +150,33 @@ fn stored_cases() {
                     checks += 1;
                 }
                 (Call::Search(search), Outcome::Search(..)) => {
-                    let settings = (search.width, search.length, search.budget);
+                    let asked = Asked {
+                        beam: &search.beam,
+                        length: Some(search.length),
+                        budget: search.budget,
+                    };
                     let words = search.words.min(400_000);
-                    compare(&search.model, settings, search.buffer.len(), words);
+                    asked.compare(&search.model, search.buffer.len(), words);
                     searches += 1;
+                    lists += usize::from(search.beam.list().is_some());
                 }
                 (Call::Load(load), Outcome::Search(..)) => {
-                    let settings = (load.width, load.budget);
-                    compare_load(&load.model, settings, load.buffer.len(), load.words);
+                    let asked = Asked {
+                        beam: &load.beam,
+                        length: None,
+                        budget: load.budget,
+                    };
+                    asked.compare(&load.model, load.buffer.len(), load.words);
                     loads += 1;
+                    lists += usize::from(load.beam.list().is_some());
                 }
                 _ => unreachable!("a call has its own outcome"),
             }
         }
     }
-    println!("{searches} searches, {loads} in the loading profile, {checks} plan checks");
-    assert!(searches >= 150 && loads >= 100 && checks >= 400);
+    println!("{searches} searches, {loads} in the loading profile, {lists} of both with a list of widths");
+    println!("{checks} plan checks");
+    assert!(searches >= 150 && loads >= 100 && lists >= 100 && checks >= 400);
 }
 
 /// Random models at random settings; demand 3's sentences by enumeration where the model is small enough.
@@ -335,6 +392,145 @@ fn refused_loads() {
     assert!(refusals[usize::from(OUTSIDE_PROFILE)] >= 2_000);
 }
 
+/// Lists of widths, rising ones and each way to be refused, with what is due and a little less or more, on models of every kind.
+#[test]
+fn random_widths() {
+    let mut random = Random::new(0x51D75);
+    let mut verdicts = [0; 6];
+    let mut refusals = [0; 17];
+    let mut rounds = BTreeMap::new();
+    for turn in 0..models() {
+        let widths = match random.chance(90) {
+            true => rising(&mut random),
+            false => bad(&mut random, BAD_LISTS[turn % BAD_LISTS.len()]),
+        };
+        let loading = random.chance(25);
+        let build = match loading {
+            true => inside(&mut random),
+            false => with_any_target(&mut random),
+        };
+        let damage = random.chance(8);
+        let bytes = match damage {
+            true => damaged(&mut random, &build),
+            false => build.end(),
+        };
+        let (_, mut length, budget) = settings(&mut random);
+        if random.chance(2) {
+            length = random.pick(&[0, 257]);
+        }
+        let chosen = read_model(&bytes).ok().map(|model| model.loading_length());
+        let due = if loading { chosen.unwrap_or(1) } else { length };
+        let beam = Beam::Listed(widths);
+        let words = words_needed(beam.widest(), due).min(400_000);
+        let words = match random.below(10) {
+            0 => words.saturating_sub(1),
+            1 => words + 3,
+            _ => words,
+        };
+        let bytes_lent = match random.below(20) {
+            0 => due.saturating_sub(1),
+            1 => due + 2,
+            _ => due,
+        };
+        let asked = Asked {
+            beam: &beam,
+            length: (!loading).then_some(length),
+            budget,
+        };
+        let (answer, plan) = asked.compare(&bytes, bytes_lent as usize, words);
+        if answer.refused {
+            refusals[usize::from(answer.verdict)] += 1;
+            continue;
+        }
+        verdicts[usize::from(answer.verdict)] += 1;
+        *rounds.entry(answer.rounds.min(6)).or_insert(0) += 1;
+        if answer.flag {
+            let plan = &plan[..answer.length as usize];
+            assert_eq!(proved::plan_check(&bytes, plan), (0, answer.cost));
+        }
+    }
+    println!("verdicts 0 to 5 {verdicts:?}, refusals by number {refusals:?}");
+    println!("runs by rounds, 6 for more {rounds:?}");
+    assert!(verdicts.iter().all(|met| *met >= 20));
+    assert!([2, 3, 11, 12, 13]
+        .iter()
+        .all(|number| refusals[*number] >= 20));
+    assert!(refusals[usize::from(BAD_WIDTHS)] >= 1_000);
+    assert!((1..=4).all(|count| rounds[&count] >= 50));
+}
+
+/// Every rising list over 1 to 7 on small models: the independent implementation's answer, and demand 3's sentences by enumeration.
+#[test]
+fn all_lists_to_seven() {
+    let mut random = Random::new(0x127);
+    let (mut enumerated, mut runs) = (0, 0);
+    let mut verdicts = [0; 6];
+    while enumerated < 600 {
+        let bytes = with_any_target(&mut random).end();
+        let read = read_model(&bytes).expect("a generated model is well made");
+        let Some(space) = Space::of(&read, STATES) else {
+            continue;
+        };
+        enumerated += 1;
+        let all_true = space.bounds_true(&read) && space.preferences_true(&read);
+        let (_, length, budget) = settings(&mut random);
+        for widths in rising_to(7) {
+            let beam = Beam::Listed(widths);
+            let asked = Asked {
+                beam: &beam,
+                length: Some(length),
+                budget,
+            };
+            let words = words_needed(beam.widest(), length);
+            let (answer, buffer) = asked.compare(&bytes, length as usize, words);
+            runs += 1;
+            if answer.refused {
+                continue;
+            }
+            verdicts[usize::from(answer.verdict)] += 1;
+            let plan = &buffer[..answer.length as usize];
+            let limits = (beam.widest(), length);
+            let broken = space.broken(&read, all_true, limits, &answer, plan);
+            assert_eq!(broken, None, "{beam:?} L {length} {bytes:02x?}");
+        }
+    }
+    println!("{enumerated} models, {runs} runs, verdicts 0 to 5 {verdicts:?}");
+    assert!(verdicts.iter().all(|met| *met >= 100));
+}
+
+/// The widths 1, 2, 4 up to W lent as a list: the proved search with the list against the proved search with W, buffers and words included.
+#[test]
+fn built_in_widths_are_a_list() {
+    let mut random = Random::new(0xB111);
+    for _ in 0..models() {
+        let loading = random.chance(30);
+        let bytes = match loading {
+            true => inside(&mut random).end(),
+            false => with_any_target(&mut random).end(),
+        };
+        let (width, length, budget) = settings(&mut random);
+        let length = match loading {
+            true => read_model(&bytes).unwrap().loading_length(),
+            false => length,
+        };
+        let list = (0..=width.ilog2()).map(|height| 1 << height).collect();
+        let words = words_needed(width, length) - u64::from(random.chance(3));
+        let run = |beam: Beam| {
+            let asked = Asked {
+                beam: &beam,
+                length: (!loading).then_some(length),
+                budget,
+            };
+            let mut plan = vec![FILL; length as usize];
+            let mut words = vec![WORD; words as usize];
+            let answer = asked.by_proved(&bytes, &mut plan, &mut words);
+            (answer, plan, words)
+        };
+        let same = run(Beam::UpTo(width)) == run(Beam::Listed(list));
+        assert!(same, "W {width} L {length} budget {budget}: {bytes:02x?}");
+    }
+}
+
 /// Every family, small and at its usual size, against the fast implementation.
 #[test]
 fn models_of_the_families() {
@@ -347,19 +543,26 @@ fn models_of_the_families() {
         ] {
             for seed in 0..3 {
                 let bytes = (family.model)(size, seed);
-                for (width, length, budget) in [(1, 64, 2_000), (16, 128, 5_000), (64, 128, 10_000)]
-                {
-                    let (expected, steps) = fast::search(&bytes, width, length, budget);
+                for (beam, length, budget) in [
+                    (Beam::UpTo(1), 64, 2_000),
+                    (Beam::UpTo(16), 128, 5_000),
+                    (Beam::UpTo(64), 128, 10_000),
+                    (Beam::Listed(vec![5]), 64, 2_000),
+                    (Beam::Listed(vec![1, 100]), 128, 10_000),
+                    (Beam::Listed(vec![3, 7, 20, 77]), 128, 5_000),
+                ] {
+                    let (expected, steps) = match &beam {
+                        Beam::UpTo(width) => fast::search(&bytes, *width, length, budget),
+                        Beam::Listed(widths) => fast::search_widths(&bytes, widths, length, budget),
+                    };
                     let mut plan = vec![FILL; length as usize];
-                    let mut words = vec![WORD; words_needed(width, length) as usize];
-                    let answer = proved::search(
-                        &bytes,
-                        width as u32,
-                        length as u32,
-                        budget as u32,
-                        &mut plan,
-                        &mut words,
-                    );
+                    let mut words = vec![WORD; words_needed(beam.widest(), length) as usize];
+                    let asked = Asked {
+                        beam: &beam,
+                        length: Some(length),
+                        budget,
+                    };
+                    let answer = asked.by_proved(&bytes, &mut plan, &mut words);
                     assert_eq!(answer, expected, "{} of {size}", family.name);
                     assert_eq!(plan[..steps.len()], steps[..], "{} of {size}", family.name);
                     searches += 1;
@@ -368,5 +571,5 @@ fn models_of_the_families() {
         }
     }
     println!("{searches} searches of {} families", families().len());
-    assert!(searches >= 300);
+    assert!(searches >= 600);
 }

@@ -1,6 +1,6 @@
 /* How much stack the proved functions use: each call runs on a painted stack of its own, and what is no longer painted is counted.
  * Models come on standard input, each behind its length, four bytes with the least first. Prints the most bytes that a search, one in the
- * loading profile and a plan check used, the thread's own frames included. */
+ * loading profile, the same two with a list of widths and a plan check used, the thread's own frames included. */
 #define _POSIX_C_SOURCE 200809L
 
 #include "repgypsum.h"
@@ -25,6 +25,18 @@ static void *search(void *unused) {
 
 static void *load(void *unused) {
     repgypsum_load(model, model_len, WIDTH, 1000, plan, LENGTH, words, sizeof words / sizeof *words);
+    return unused;
+}
+
+static const uint16_t widths[] = {1, 3, WIDTH};
+
+static void *search_widths(void *unused) {
+    repgypsum_search_widths(model, model_len, widths, 3, LENGTH, 1000, plan, LENGTH, words, sizeof words / sizeof *words);
+    return unused;
+}
+
+static void *load_widths(void *unused) {
+    repgypsum_load_widths(model, model_len, widths, 3, 1000, plan, LENGTH, words, sizeof words / sizeof *words);
     return unused;
 }
 
@@ -54,7 +66,10 @@ static size_t used(void *(*call)(void *)) {
 }
 
 int main(void) {
-    size_t most_search = 0, most_load = 0, most_check = 0;
+    void *(*const calls[])(void *) = {search, load, search_widths, load_widths, check};
+    const char *const names[] = {"search", "load", "search_widths", "load_widths", "check"};
+    enum { CALLS = sizeof calls / sizeof *calls };
+    size_t most[CALLS] = {0};
     uint8_t head[4];
     stack = aligned_alloc(4096, STACK);
     if (!stack) return 2;
@@ -62,13 +77,12 @@ int main(void) {
     while (fread(head, 1, 4, stdin) == 4) {
         model_len = head[0] | (uint32_t)head[1] << 8 | (uint32_t)head[2] << 16 | (uint32_t)head[3] << 24;
         if (model_len > LONGEST || fread(model, 1, model_len, stdin) != model_len) return 2;
-        size_t n = used(search);
-        if (n > most_search) most_search = n;
-        n = used(load);
-        if (n > most_load) most_load = n;
-        n = used(check);
-        if (n > most_check) most_check = n;
+        for (int i = 0; i < CALLS; i++) {
+            size_t n = used(calls[i]);
+            if (n > most[i]) most[i] = n;
+        }
     }
-    printf("search %zu load %zu check %zu thread %zu\n", most_search, most_load, most_check, thread);
+    for (int i = 0; i < CALLS; i++) printf("%s %zu ", names[i], most[i]);
+    printf("thread %zu\n", thread);
     return 0;
 }

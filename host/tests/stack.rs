@@ -94,11 +94,11 @@ fn calls_use_little_stack() {
         .filter_map(|word| word.parse().ok())
         .collect();
     println!("{line}");
-    let [search, load, check, thread] = figures[..] else {
-        panic!("four figures are due: {line}");
+    let [search, load, search_widths, load_widths, check, thread] = figures[..] else {
+        panic!("six figures are due: {line}");
     };
     // The thread's own frames are counted; a call that used none of the stack would show that nothing was measured.
-    for call in [search, load, check] {
+    for call in [search, load, search_widths, load_widths, check] {
         assert!(call > thread && call - thread <= MOST, "{line}");
     }
 }

@@ -31,7 +31,7 @@ fn answers_are_as_stated() {
 #[test]
 fn searches_are_small_and_varied() {
     let mut verdicts = [0; 6];
-    let mut refusals = [0; 16];
+    let mut refusals = [0; 17];
     for (_, cases) in groups() {
         for case in cases {
             match case.call.run() {
@@ -49,7 +49,7 @@ fn searches_are_small_and_varied() {
     }
     println!("verdicts {verdicts:?}, refusals by number {refusals:?}");
     assert!(verdicts.iter().all(|met| *met >= 5));
-    assert!((1..16)
+    assert!((1..17)
         .filter(|number| *number != 10)
         .all(|number| refusals[number] >= 3));
 }
@@ -58,7 +58,7 @@ fn searches_are_small_and_varied() {
 fn module_names(directory: &Path) -> BTreeSet<String> {
     let entries = std::fs::read_dir(directory).expect("the directory can be listed");
     let names = entries.map(|entry| entry.unwrap().file_name().into_string().unwrap());
-    let groups = ["Reading", "Meaning", "Plans", "Searches", "Loads"];
+    let groups = ["Reading", "Meaning", "Plans", "Searches", "Loads", "Widths"];
     let of_a_group = |name: &String| groups.iter().any(|group| name.starts_with(group));
     names.filter(of_a_group).collect()
 }
@@ -71,7 +71,13 @@ fn modules_repeat_and_are_stored() {
     let directory = Path::new(env!("CARGO_MANIFEST_DIR")).join("../crates/test_definitions/specs");
     let stored = directory.exists();
     for (name, text) in &written {
-        let forms = ["checked (", "searched (", "loaded ("];
+        let forms = [
+            "checked (",
+            "searched (",
+            "loaded (",
+            "searchedListed (",
+            "loadedListed (",
+        ];
         let cases: usize = forms.iter().map(|form| text.matches(form).count()).sum();
         println!("{name}: {cases} cases, {} bytes", text.len());
         assert!(cases <= CASES_PER_MODULE);

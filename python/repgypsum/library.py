@@ -7,10 +7,10 @@ import ctypes.util
 import os
 from dataclasses import dataclass
 from pathlib import Path
-from typing import Callable, List, Optional, Tuple
+from typing import Any, Callable, List, Optional, Sequence, Tuple
 
 from .errors import MissingLibrary
-from .numbers import MOST_OBJECTS, MOST_STEPS, MOST_WIDTH, words_needed
+from .numbers import MOST_OBJECTS, MOST_STEPS, MOST_WIDTH, MOST_WIDTHS, words_needed
 
 #: The environment variable that names the shared library.
 LIBRARY = "REPGYPSUM_LIBRARY"
@@ -87,6 +87,10 @@ def _typed(found: ctypes.CDLL) -> ctypes.CDLL:
     found.repgypsum_search.restype = Fields
     found.repgypsum_load.argtypes = [byte, size, number, number, word, size, word, size]
     found.repgypsum_load.restype = Fields
+    found.repgypsum_search_widths.argtypes = [byte, size, word, size, number, number, word, size, word, size]
+    found.repgypsum_search_widths.restype = Fields
+    found.repgypsum_load_widths.argtypes = [byte, size, word, size, number, word, size, word, size]
+    found.repgypsum_load_widths.restype = Fields
     found.repgypsum_check_answer.argtypes = [byte, size, byte, size]
     found.repgypsum_check_answer.restype = ctypes.c_uint8
     found.repgypsum_check_cost.argtypes = [byte, size, byte, size]
@@ -96,30 +100,71 @@ def _typed(found: ctypes.CDLL) -> ctypes.CDLL:
 
 def fits(width: int, length: int) -> bool:
     """Whether a search can have these settings."""
-    return 1 <= width <= MOST_WIDTH and width & (width - 1) == 0 and 1 <= length <= MOST_STEPS
+    return _width_fits(width) and 1 <= length <= MOST_STEPS
 
 
-def _setting(name: str, value: int) -> int:
-    if isinstance(value, bool) or not isinstance(value, int) or not 0 <= value < 2**32:
-        raise ValueError(f"{name} is a whole number from 0 to {2**32 - 1}, not {value!r}")
+def _width_fits(width: int) -> bool:
+    return 1 <= width <= MOST_WIDTH and width & (width - 1) == 0
+
+
+def rising(widths: Sequence[int]) -> bool:
+    """Whether a search can have this list of widths."""
+    rises = all(before < after for before, after in zip(widths, widths[1:]))
+    return 1 <= len(widths) <= MOST_WIDTHS and 1 <= widths[0] and widths[-1] <= MOST_WIDTH and rises
+
+
+def _setting(name: str, value: int, bits: int = 32) -> int:
+    if isinstance(value, bool) or not isinstance(value, int) or not 0 <= value < 2**bits:
+        raise ValueError(f"{name} is a whole number from 0 to {2**bits - 1}, not {value!r}")
     return value
 
 
 def search(model: bytes, width: int, length: int, budget: int) -> Found:
     """The proved search, with buffers of the sizes due; settings that it refuses are lent nothing."""
     width, length = _setting("width", width), _setting("length", length)
-    return _found(library().repgypsum_search, model, (width, length, _setting("budget", budget)), width, length)
+    settings = (width, length, _setting("budget", budget))
+    return _found(library().repgypsum_search, model, settings, _lent(width, length, fits(width, length)))
 
 
 def load(model: bytes, width: int, budget: int) -> Found:
     """The proved search in the loading profile, which chooses the length; what the longest one needs is lent."""
     width = _setting("width", width)
-    return _found(library().repgypsum_load, model, (width, _setting("budget", budget)), width, MOST_OBJECTS)
+    lent = _lent(width, MOST_OBJECTS, _width_fits(width))
+    return _found(library().repgypsum_load, model, (width, _setting("budget", budget)), lent)
 
 
-def _found(call: Callable[..., Fields], model: bytes, settings: Tuple[int, ...], width: int, length: int) -> Found:
-    """What a search gives, with buffers of the sizes due at this width and length."""
-    lent = (length, words_needed(width, length)) if fits(width, length) else (0, 0)
+def search_widths(model: bytes, widths: Sequence[int], length: int, budget: int) -> Found:
+    """The proved search with a list of widths in the place of the widest beam, which is its last entry."""
+    listed, length = _listed(widths), _setting("length", length)
+    settings = (_array(listed), len(listed), length, _setting("budget", budget))
+    fit = rising(listed) and 1 <= length <= MOST_STEPS
+    return _found(library().repgypsum_search_widths, model, settings, _lent(listed[-1] if fit else 0, length, fit))
+
+
+def load_widths(model: bytes, widths: Sequence[int], budget: int) -> Found:
+    """The same in the loading profile."""
+    listed = _listed(widths)
+    settings = (_array(listed), len(listed), _setting("budget", budget))
+    fit = rising(listed)
+    lent = _lent(listed[-1] if fit else 0, MOST_OBJECTS, fit)
+    return _found(library().repgypsum_load_widths, model, settings, lent)
+
+
+def _listed(widths: Sequence[int]) -> List[int]:
+    return [_setting("a width", width, 16) for width in widths]
+
+
+def _array(widths: List[int]) -> Any:
+    return (ctypes.c_uint16 * len(widths))(*widths)
+
+
+def _lent(width: int, length: int, fit: bool) -> Tuple[int, int]:
+    """The plan bytes and words due at this width and length; none at settings that are refused."""
+    return (length, words_needed(width, length)) if fit else (0, 0)
+
+
+def _found(call: Callable[..., Fields], model: bytes, settings: Tuple[Any, ...], lent: Tuple[int, int]) -> Found:
+    """What a search gives, with buffers of these sizes."""
     plan = (ctypes.c_uint8 * lent[0])()
     words = (ctypes.c_uint64 * lent[1])()
     got = call(model, len(model), *settings, plan, lent[0], words, lent[1])

@@ -38,13 +38,19 @@ Kind = TypeVar("Kind", bound=Expr)
 
 RULES = {"sum": 0, "largest": 1}
 
-#: The length limit where none is given.
+#: The widest beam and the length limit where none is given.
+WIDTH = 16
 LENGTH = 64
 
 
 def _without_length(length: Optional[int]) -> None:
     if length is not None:
         raise ValueError("the loading profile chooses the length: `loading` or `length`, not both")
+
+
+def _without_width(width: Optional[int]) -> None:
+    if width is not None:
+        raise ValueError("the last of the widths is the widest beam: `widths` or `width`, not both")
 
 
 class Model:
@@ -243,17 +249,31 @@ class Model:
     # Plans, by the proved library.
 
     def plan(
-        self, width: int = 16, length: Optional[int] = None, budget: int = 100_000, loading: bool = False
+        self,
+        width: Optional[int] = None,
+        length: Optional[int] = None,
+        budget: int = 100_000,
+        loading: bool = False,
+        widths: Optional[Sequence[int]] = None,
     ) -> Answer:
         """Looks for the cheapest plan by the proved search. What cannot be searched is a refusal in the answer.
 
-        `length` is 64 if none is given. With `loading` the model has to be in the loading profile, which chooses the length.
+        `width` is 16 and `length` 64 if none is given. With `loading` the model has to be in the loading profile, which chooses the
+        length. With `widths` the rounds have these widths in the place of 1, 2, 4 up to `width`.
         """
         if loading:
             _without_length(length)
-            found = library.load(self.to_bytes(), width, budget)
+        limit = LENGTH if length is None else length
+        model = self.to_bytes()
+        if widths is None:
+            widest = WIDTH if width is None else width
+            found = library.load(model, widest, budget) if loading else library.search(model, widest, limit, budget)
         else:
-            found = library.search(self.to_bytes(), width, LENGTH if length is None else length, budget)
+            _without_width(width)
+            if loading:
+                found = library.load_widths(model, widths, budget)
+            else:
+                found = library.search_widths(model, widths, limit, budget)
         steps = follow(self.transitions, self.cost, self.target_state, found.plan)
         return Answer(**vars(found), steps=tuple(steps))
 
@@ -291,17 +311,23 @@ class Model:
         out: Union[str, "os.PathLike[str]"],
         lane: Optional[Union[Variable, str]] = None,
         clock: Optional[Union[Variable, str]] = None,
-        width: int = 16,
+        width: Optional[int] = None,
         length: Optional[int] = None,
         budget: int = 100_000,
         loading: bool = False,
+        widths: Optional[Sequence[int]] = None,
     ) -> str:
         """Plans, and writes the auditor's page, by `repgypsum explain --html`; gives what is printed beside it."""
         path = str(Path(out).absolute())
         if loading:
             _without_length(length)
         limit = "--loading" if loading else f"--length={LENGTH if length is None else length}"
-        options = [f"--width={width}", limit, f"--budget={budget}", f"--html={path}"]
+        if widths is None:
+            beam = f"--width={WIDTH if width is None else width}"
+        else:
+            _without_width(width)
+            beam = "--widths=" + ",".join(str(one) for one in widths)
+        options = [beam, limit, f"--budget={budget}", f"--html={path}"]
         options += [] if lane is None else [f"--lane={lane}"]
         options += [] if clock is None else [f"--clock={clock}"]
         _, output = program.run("explain", options, f"{self.name}.dp", self.to_text())

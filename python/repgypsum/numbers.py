@@ -13,6 +13,7 @@ MOST_BOUNDS = 8
 MOST_CONDITIONS = 16
 MOST_NESTING = 32
 MOST_WIDTH = 4_096
+MOST_WIDTHS = 16
 MOST_STEPS = 256
 
 LEAST_NUMBER = -(2**31)
@@ -53,6 +54,7 @@ REFUSALS = {
     NEGATIVE_COST: "negative cost",
     14: "not a plan",
     15: "outside the loading profile",
+    16: "bad widths",
 }
 
 

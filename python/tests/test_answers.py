@@ -86,6 +86,39 @@ class Answers(unittest.TestCase):
         self.assertEqual(library.load(damaged, 16, 100).number, 9)
         self.assertEqual(library.load(bytes(65_537), 16, 100).number, 1)
 
+    def test_widths(self) -> None:
+        """The rounds have the widths of the list; the built-in ones as a list give the same answer as the widest beam."""
+        designs = three_designs()
+        for widths, more, line in [
+            ([1, 200], {}, "0 1 7 7 3 9 2 200 : 0 1 2"),
+            ([3], {}, "0 1 7 7 3 13 2 3 : 0 1 2"),
+            ((200,), {}, "0 1 7 7 3 10 1 200 : 0 1 2"),
+            ([2], {}, "2 1 7 0 3 10 2 2 : 0 1 2"),
+            ([1, 2, 4], {"length": 2}, "2 0 0 2 0 9 3 4 :"),
+            ([1, 200], {"length": 2}, "3 0 0 5 0 6 2 200 :"),
+            ([1, 200], {"loading": True}, "0 1 7 7 3 9 2 200 : 0 1 2"),
+        ]:
+            self.assertEqual(designs.plan(widths=widths, **more).line, line)
+        for build in EXAMPLES.values():
+            self.assertEqual(build().plan(widths=[1, 2, 4, 8, 16]), build().plan(width=16))
+            self.assertEqual(build().plan(widths=[1, 2], loading=True), build().plan(width=2, loading=True))
+        for wrong in [[], [0], [1, 0], [2, 2], [200, 1], [4097], [65_535], list(range(1, 18))]:
+            for loading in [False, True]:
+                answer = designs.plan(widths=wrong, loading=loading)
+                self.assertEqual((answer.refused, answer.number), (True, 16), wrong)
+                self.assertEqual(str(answer), "refused 16, bad widths")
+        self.assertEqual(designs.plan(widths=[], length=0).number, 2)
+        self.assertEqual(designs.plan(widths=list(range(1, 17))).number, 0)
+        damaged = designs.to_bytes() + b"\x00"
+        self.assertEqual(library.search_widths(damaged, [1, 200], 64, 100).number, 9)
+        self.assertEqual(library.load_widths(damaged, [1, 200], 100).number, 9)
+        self.assertEqual(library.search_widths(bytes(65_537), [], 0, 100).number, 1)
+        with self.assertRaises(ValueError):
+            designs.plan(widths=[1, 2], width=2)
+        for no_number in [-1, 2**16, 1.5, True]:
+            with self.assertRaises(ValueError):
+                designs.plan(widths=[1, no_number])  # type: ignore[list-item]
+
     def test_settings_that_are_no_numbers(self) -> None:
         for wrong in [-1, 2**32, 1.5, True]:
             with self.assertRaises(ValueError):

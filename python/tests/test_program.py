@@ -55,6 +55,10 @@ class Program(unittest.TestCase):
             self.assertIn("--loading", out.read_text(encoding="utf-8"))
             with self.assertRaises(ValueError):
                 model.page(out, loading=True, length=3)
+            self.assertIn("Widths 1, 200, length limit 64", model.page(out, widths=[1, 200]))
+            self.assertIn("--widths 1,200", out.read_text(encoding="utf-8"))
+            with self.assertRaises(ValueError):
+                model.page(out, widths=[1, 200], width=2)
             model = EXAMPLES["tsptw"]()
             with self.assertRaisesRegex(rg.ModelError, "`todo` is no number"):
                 model.page(out, clock="todo")

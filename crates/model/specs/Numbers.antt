@@ -39,6 +39,10 @@ bytesAfterEnd = 9
 abbrev pub outsideProfile : ℕ
 outsideProfile = 15
 
+-- document 02, §4: a list of widths that is empty, too long, not rising or out of range
+abbrev pub badWidths : ℕ
+badWidths = 16
+
 -- ---- refused by the state
 
 abbrev pub outOfRange : ℕ
@@ -91,6 +95,13 @@ mostNesting = 32
 
 abbrev pub mostSteps : ℕ
 mostSteps = 256
+
+-- document 02, §4: of a beam, and in a list of widths
+abbrev pub mostWidth : ℕ
+mostWidth = 4096
+
+abbrev pub mostWidths : ℕ
+mostWidths = 16
 
 -- "Every value of a number expression lies in −2^31..2^31 − 1": the range's end
 abbrev pub rangeEnd : ℕ

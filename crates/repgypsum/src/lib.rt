@@ -5,11 +5,13 @@ ghost use mathlib.Core.Path.{_≡_};
 ghost use mathlib.Core.Logic.{_↔_};
 ghost use Rattle.model.specs.Check as plans;
 ghost use Rattle.model.specs.Check.{IsPlan, answerNumber, answerCost};
-ghost use Rattle.solver.specs.Searches.{settings, loadingSettings, Searched};
+ghost use Rattle.solver.specs.Searches.{settings, loadingSettings, listSettings, listLoadingSettings, Searched};
 use plan_check::check;
 use search_report::answers::Fields;
 use search_report::figures::fields;
 use solver::entry::search;
+use solver::lists::load_widths;
+use solver::lists::search_widths;
 use solver::load::load;
 
 // The search: its answer in numbers, with the plan at the front of the plan buffer.
@@ -41,6 +43,38 @@ pub extern "C" fn repgypsum_load(
     ensures { λ r. ⌜ Searched 65536 (now (model .entry)) (now (plan .entry)) (now (plan .exit)) (now (words .entry)) (now (words .exit)) (loadingSettings width budget) r ⌝ }
 {
     let answer = load(model, width, budget, plan, words);
+    fields(answer)
+}
+
+// The search at the widths of a list that the caller lends, strictly rising: the first entry is the width of round 1, the last is W. A list that is
+// empty, too long, not rising or out of range is refused with 16.
+#[no_mangle]
+pub extern "C" fn repgypsum_search_widths(
+    model: &[u8],
+    widths: &[u16],
+    limit: u32,
+    budget: u32,
+    plan: &mut [u8],
+    words: &mut [u64],
+) -> Fields
+    ensures { λ r. ⌜ Searched 65536 (now (model .entry)) (now (plan .entry)) (now (plan .exit)) (now (words .entry)) (now (words .exit)) (listSettings (now (widths .entry)) limit budget) r ⌝ }
+{
+    let answer = search_widths(model, widths, limit, budget, plan, words);
+    fields(answer)
+}
+
+// The same in the loading profile.
+#[no_mangle]
+pub extern "C" fn repgypsum_load_widths(
+    model: &[u8],
+    widths: &[u16],
+    budget: u32,
+    plan: &mut [u8],
+    words: &mut [u64],
+) -> Fields
+    ensures { λ r. ⌜ Searched 65536 (now (model .entry)) (now (plan .entry)) (now (plan .exit)) (now (words .entry)) (now (words .exit)) (listLoadingSettings (now (widths .entry)) budget) r ⌝ }
+{
+    let answer = load_widths(model, widths, budget, plan, words);
     fields(answer)
 }
 

@@ -8,11 +8,11 @@ use Rattle.search.proofs.Opened.{Asked, checkOf, Told, answer, checked,
 use Rattle.search.proofs.Cases.{threeDesigns, emptyStart, filled, planned, line}
 
 -- a model with n more bytes in front of its end command
-abbrev withMore : List ℕ → (n bytes : ℕ) → List ℕ
+abbrev pub withMore : List ℕ → (n bytes : ℕ) → List ℕ
 withMore model n bytes = dropLast model ++ (hex n bytes ++ (0x0e ∷ []))
 
 -- three designs with the constraint "element is not 0", which the target breaks
-abbrev neverAtZero : List ℕ
+abbrev pub neverAtZero : List ℕ
 neverAtZero = withMore threeDesigns 7 0x0c_57_53_31_01_30_00
 
 -- with the constraint "1 by 0 is 1"

@@ -4,6 +4,7 @@ pub mod Cases
 pub mod CasesOfRules
 pub mod CasesOfTargets
 pub mod CasesOfProfile
+pub mod CasesOfWidths
 pub mod Settings
 pub mod Numbered
 pub mod Source

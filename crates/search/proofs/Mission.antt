@@ -4,16 +4,16 @@ use Prim.Native.Nat.{ℕ, _≤_, _<_}
 use mathlib.Core.Path.{_≡_, refl, sym, _∙_, ap, subst}
 use mathlib.Core.Logic.{_↔_}
 use mathlib.Core.Bool.{Bool, true, false, cond, not, _&&_, false≢true}
-use mathlib.Core.List.{List, [], _++_}
+use mathlib.Core.List.{List, [], _∷_, _++_}
 use native.Mathlib.Omega.{arith}
 use lib.ListN.{length, drop, length-append}
 use lib.Dec.{ltb}
 use lib.Seq.{take-at}
 use borrow.Author.Tests.{leb-true, le-leb}
 use Rattle.laws.proofs.Bools.{and-both}
-use Rattle.model.specs.Numbers.{rangeEnd, mostModelBytes, mostSteps, modelTooLong, badSetting, tooLittleLent, notAPlan}
+use Rattle.model.specs.Numbers.{rangeEnd, mostModelBytes, mostSteps, modelTooLong, badSetting, badWidths, tooLittleLent, notAPlan}
 use Rattle.model.specs.Values.{Value, value, trouble}
-use Rattle.model.specs.Readers.{read}
+use Rattle.model.specs.Readers.{Read, read, refused}
 use Rattle.model.specs.Syntax.{Model}
 use Rattle.model.specs.Commands.{model}
 use Rattle.model.specs.Steps.{target, costsOf, systemOf, originOf}
@@ -29,9 +29,9 @@ use Rattle.search.specs.Answer.{Verdict, cheapest, noPlan, widthStop, le
 use Rattle.search.specs.Guarantee.{Stopped, Guarantee}
 use Rattle.search.specs.Demands.{Ends, with-verdict, by-state, PlanOf, DeclarationsTrue, LayersFit, Marked, Demands}
 use Rattle.search.specs.Search.{searchWithin}
-use Rattle.search.specs.Run.{Form, plain, loading, Settings, Lent, firstWidth, widerThan, widestOf, limitOf, beamFits, settingsFit, lentFits, refusedByInput, searchModel, runRead, run}
-use Rattle.search.proofs.Settings.{beam-fits, widest-is-last}
-use Rattle.search.proofs.Source.{Accepted, Source, input-refused, searched, run-source, run-holds, run-accepted}
+use Rattle.search.specs.Run.{Beam, upTo, listed, Form, plain, loading, Settings, Lent, widerUpTo, isWidth, rising, firstWidth, widerThan, widestOf, limitOf, beamFits, listFits, formFits, settingsFit, lentFits, refusedByInput, searchModel, runRead, runSet, run}
+use Rattle.search.proofs.Settings.{beam-fits, widest-is-last, built-in-last, built-in-rises}
+use Rattle.search.proofs.Source.{Accepted, Source, input-refused, searched, run-source, run-holds, run-bad-widths, run-accepted}
 use Rattle.search.proofs.Targets.{broken-start, troubled-start}
 use Rattle.search.proofs.Sound.{search-guarantee, steps-within, no-stop-where-fits}
 use Rattle.search.proofs.Refusals.{run-refusal-path}
@@ -40,7 +40,7 @@ use Rattle.search.proofs.Counts.{Troubles, expansions-within-budget, re
 
 -- ---- demand 1
 
-search-ends : (m : Model) (q : Settings) (x : Outcome) → searchModel m q .outcome ≡ x → Ends (q .form) x
+search-ends : (m : Model) (q : Settings) (x : Outcome) → searchModel m q .outcome ≡ x → Ends q x
 unfolding searchModel
 search-ends m q (verdict v) e = with-verdict
 search-ends m q (byState t) e =
@@ -56,13 +56,13 @@ search-ends m q (byState t) e =
     by-state (range .0) (range .1)
 search-ends m q (byInput t) e = absurd (never-by-input (costsOf (m .rule)) (systemOf rangeEnd m) (originOf m) (q .budget) (limitOf (q .form) m) (firstWidth (q .beam)) (widerThan (q .beam)) t e)
 
-source-ends : {bytes : List ℕ} {q : Settings} {l : Lent} {a : Answer ℕ} → Source bytes q l a → Ends (q .form) (a .outcome)
+source-ends : {bytes : List ℕ} {q : Settings} {l : Lent} {a : Answer ℕ} → Source bytes q l a → Ends q (a .outcome)
 unfolding refusedByInput
 source-ends (input-refused t r) = r
 source-ends {q = q} (searched m x) = search-ends m q (searchModel m q .outcome) refl
 
 -- "The program as a whole takes every model, setting and plan, well made or damaged, and ends with a verdict or one of the refusals"
-pub every-run-ends : (most : ℕ) (bytes : List ℕ) (q : Settings) (l : Lent) → Ends (q .form) (run most bytes q l .outcome)
+pub every-run-ends : (most : ℕ) (bytes : List ℕ) (q : Settings) (l : Lent) → Ends q (run most bytes q l .outcome)
 every-run-ends most bytes q l = source-ends (run-source bytes q l most)
 
 -- the same of the plan check: 0 and the cost, or one of 1, 2, 4 to 9, 11 to 14
@@ -295,12 +295,50 @@ asked-twice false x y = refl
 -- the run of a model in the profile is the plain run with the length that the profile chooses, in every field, whatever is lent
 pub loading-is-plain : (most : ℕ) (bytes : List ℕ) (q : Settings) (l : Lent) (m : Model) (n : ℕ) → model bytes ≡ read m n → inProfile m ≡ true
     → run most bytes (withForm q loading) l ≡ run most bytes (withForm q (plain (loadingLength m))) l
-unfolding run runRead settingsFit searchModel
+unfolding run runSet runRead settingsFit searchModel
 loading-is-plain most bytes q l m n reads p =
     let short : loadingLength m ≤ mostSteps = omega (arith, loading-length-within bytes reads p) in
     rw (le-leb 1 (loadingLength m) (loading-length-some m), le-leb (loadingLength m) mostSteps short, reads, p)
-    (ap (λ (a : Answer ℕ). cond (ltb most (length bytes)) (refusedByInput modelTooLong) (cond (not (beamFits (q .beam) && true)) (refusedByInput badSetting) a))
+    (ap (λ (a : Answer ℕ). cond (ltb most (length bytes)) (refusedByInput modelTooLong) (cond (not (beamFits (q .beam) && true)) (refusedByInput badSetting) (cond (not (listFits (q .beam))) (refusedByInput badWidths) a)))
     (asked-twice (not (lentFits (widestOf (q .beam)) (loadingLength m) l)) (refusedByInput tooLittleLent) (searchModel m (withForm q loading))))
+
+-- ---- document 02, §4: our own list of beam widths
+
+abbrev pub withBeam : Settings → Beam → Settings
+withBeam q b = record { beam = b; form = q .form; budget = q .budget }
+
+-- "The cheapest guarantee is shown for all rising lists together": demand 3 whole, W being the last entry. A list that does not rise is refused
+pub rising-list-guarantee : (most : ℕ) (bytes : List ℕ) (q : Settings) (l : Lent) (m : Model) (n : ℕ) → model bytes ≡ read m n → (ws : List ℕ)
+    → Guarantee (costsOf (m .rule)) (systemOf rangeEnd m) (originOf m) (widestOf (listed ws)) (limitOf (q .form) m) (run most bytes (withBeam q (listed ws)) l)
+rising-list-guarantee most bytes q l m n reads ws = run-guarantee most bytes (withBeam q (listed ws)) l m n reads
+
+-- "16, list empty, too long, not rising or out of range, comes right after 2": whatever is lent and whatever the bytes say
+pub list-that-does-not-rise : (most : ℕ) (bytes : List ℕ) (q : Settings) (l : Lent) (ws : List ℕ) → length bytes ≤ most → formFits (q .form) ≡ true → rising ws ≡ false
+    → run most bytes (withBeam q (listed ws)) l ≡ refusedByInput badWidths
+unfolding settingsFit
+list-that-does-not-rise most bytes q l ws few fit falls = run-bad-widths most bytes (withBeam q (listed ws)) l few fit falls
+
+-- "the built-in one being a case"
+module _ (bytes : List ℕ) (q : Settings) (l : Lent) (w : ℕ) (width : isWidth w ≡ true) where
+  abbrev asBuiltIn : Settings
+  asBuiltIn = withBeam q (upTo w)
+
+  abbrev asList : Settings
+  asList = withBeam q (listed (1 ∷ widerUpTo w))
+
+  same-read : (x : Read Model) → runRead x asList l ≡ runRead x asBuiltIn l
+  unfolding runRead searchModel
+  same-read (read m n) = rw (built-in-last w width)
+  same-read (refused t) = refl
+
+  pub built-in-set : runSet bytes asList l ≡ runSet bytes asBuiltIn l
+  unfolding runSet
+  built-in-set = rw (built-in-last w width, same-read (model bytes))
+
+  -- the run with W is the run with the list 1, 2, 4 … W, in every field
+  pub built-in-is-a-list : (most : ℕ) → run most bytes asList l ≡ run most bytes asBuiltIn l
+  unfolding run settingsFit
+  built-in-is-a-list most = rw (built-in-rises w width, width, built-in-set)
 
 -- ---- all of them
 

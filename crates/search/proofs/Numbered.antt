@@ -4,8 +4,8 @@ use mathlib.Core.Bool.{cond}
 use native.Mathlib.Omega.{arith}
 use borrow.Author.Tests.{le-leb, lt-leb}
 use Rattle.search.specs.Answer.{Verdict, cheapest, noPlan, widthStop, lengthStop, budgetSpent, contradicted, Outcome, verdict, byState, byInput, verdictNumber, outcomeNumber, isRefusal, verdictNumbered, outcomeNumbered}
-use Rattle.search.specs.Demands.{Ends, by-state, by-input, outside-profile}
-use Rattle.search.specs.Run.{Form}
+use Rattle.search.specs.Demands.{Ends, by-state, by-input, outside-profile, bad-widths}
+use Rattle.search.specs.Run.{Settings}
 
 verdict-back : (v : Verdict) → verdictNumbered (verdictNumber v) ≡ v
 unfolding verdictNumbered verdictNumber
@@ -16,9 +16,10 @@ verdict-back lengthStop = refl
 verdict-back budgetSpent = refl
 verdict-back contradicted = refl
 
-pub outcome-back : {f : Form} (o : Outcome) → Ends f o → outcomeNumbered (cond (isRefusal o) 1 0) (outcomeNumber o) ≡ o
+pub outcome-back : {q : Settings} (o : Outcome) → Ends q o → outcomeNumbered (cond (isRefusal o) 1 0) (outcomeNumber o) ≡ o
 unfolding outcomeNumbered isRefusal outcomeNumber
 outcome-back (verdict v) e = ap verdict (verdict-back v)
 outcome-back (byState t) (by-state a b) = rw (le-leb 11 t a, le-leb t 13 b)
 outcome-back (byInput t) (by-input a b) = rw (lt-leb 11 t (omega arith))
 outcome-back (byInput t) (outside-profile f) = refl
+outcome-back (byInput t) (bad-widths ws b r) = refl

@@ -10,7 +10,7 @@ use Rattle.model.specs.Meaning.{numberValue}
 use Rattle.model.specs.Check.{check, answerNumber, answerCost}
 use Rattle.model.proofs.Opened.{valueRead}
 use Rattle.search.specs.Answer.{Answer, isRefusal, bufferAfter}
-use Rattle.search.specs.Run.{upTo, plain, loading, run, fields}
+use Rattle.search.specs.Run.{upTo, listed, plain, loading, run, fields}
 use Rattle.laws.specs.Lists as ofLists
 use Rattle.laws.specs.Hex as ofHex
 use Rattle.model.specs.Values as ofValues
@@ -35,6 +35,9 @@ pub data Asked : Type 0 where
   runOf : (bytes : List ℕ) (widest limit budget : ℕ) (buffer : List ℕ) (words : ℕ) → Asked
   -- a run in the loading profile: the same without L
   loadOf : (bytes : List ℕ) (widest budget : ℕ) (buffer : List ℕ) (words : ℕ) → Asked
+  -- both with a list of widths in the place of W
+  listedOf : (bytes widths : List ℕ) (limit budget : ℕ) (buffer : List ℕ) (words : ℕ) → Asked
+  loadListedOf : (bytes widths : List ℕ) (budget : ℕ) (buffer : List ℕ) (words : ℕ) → Asked
   -- the plan check of a model and a plan
   checkOf : (bytes plan : List ℕ) → Asked
   -- the value of the bytes of a number expression, without variables and tables
@@ -77,10 +80,12 @@ unfolding ofLists.any ofLists.filter ofLists.isEmpty ofHex.hex ofHex.zeros _bind
     ofSearch.raisedLow ofSearch.layerEnd ofSearch.nextLayer ofSearch.unlessEnded ofSearch.layers ofSearch.root ofSearch.freshRound ofSearch.round
     ofSearch.exhausted ofSearch.endWith ofSearch.judge ofSearch.afterRound ofSearch.hasPlan ofSearch.bestCost ofSearch.bestSteps ofSearch.boundAt
     ofSearch.tallyOf ofSearch.answerOf ofSearch.answer ofSearch.nextWidth ofSearch.laterWidths ofSearch.unlessOver ofSearch.rounds ofSearch.untouched ofSearch.refusedAtStart ofSearch.begin ofSearch.enter
-    ofSearch.searchWithin ofSearch.search ofRun.widerUpTo ofRun.settingsFit ofRun.wordsNeeded ofRun.lentFits ofRun.refusedByInput ofRun.searchModel ofRun.runRead ofRun.run
+    ofSearch.searchWithin ofSearch.search ofRun.widerUpTo ofRun.risingFrom ofRun.rising ofRun.settingsFit ofRun.wordsNeeded ofRun.lentFits ofRun.refusedByInput ofRun.searchModel ofRun.runRead ofRun.runSet ofRun.run
     ofRun.fields valueRead told toldCheck
 opened (runOf bytes widest limit budget buffer words) = told (run mostModelBytes bytes (record { beam = upTo widest; form = plain limit; budget = budget }) (record { planBytes = length buffer; words = words })) buffer
 opened (loadOf bytes widest budget buffer words) = told (run mostModelBytes bytes (record { beam = upTo widest; form = loading; budget = budget }) (record { planBytes = length buffer; words = words })) buffer
+opened (listedOf bytes widths limit budget buffer words) = told (run mostModelBytes bytes (record { beam = listed widths; form = plain limit; budget = budget }) (record { planBytes = length buffer; words = words })) buffer
+opened (loadListedOf bytes widths budget buffer words) = told (run mostModelBytes bytes (record { beam = listed widths; form = loading; budget = budget }) (record { planBytes = length buffer; words = words })) buffer
 opened (checkOf bytes plan) = toldCheck (check bytes plan)
 opened (numberOf bytes) = valued (valueRead (ofExpressions.number [] [] mostNesting bytes))
 

@@ -1,10 +1,10 @@
 -- The mission's demands as a record of one answer, a field for each sentence. docs/FORMAT.md, "Verdicts"; docs/AUDIT.md walks through them.
 use Prim.Native.Nat.{ℕ, _≤_}
 use mathlib.Core.Path.{_≡_}
-use mathlib.Core.Bool.{true}
+use mathlib.Core.Bool.{true, false}
 use mathlib.Core.List.{List}
 use lib.ListN.{length}
-use Rattle.model.specs.Numbers.{outsideProfile, rangeEnd}
+use Rattle.model.specs.Numbers.{outsideProfile, badWidths, rangeEnd}
 use Rattle.model.specs.Plans.{PlanFrom, TrueDeclarations}
 use Rattle.model.specs.Readers.{read}
 use Rattle.model.specs.Syntax.{Model}
@@ -12,14 +12,16 @@ use Rattle.model.specs.Commands.{model}
 use Rattle.model.specs.Steps.{target, costsOf, systemOf, originOf}
 use Rattle.search.specs.Answer.{Verdict, cheapest, noPlan, widthStop, lengthStop, budgetSpent, contradicted, Outcome, verdict, byState, byInput, Answer}
 use Rattle.search.specs.Guarantee.{Stopped, TroubleAt, Fits}
-use Rattle.search.specs.Run.{Form, plain, loading, Settings, widestOf, limitOf}
+use Rattle.search.specs.Run.{listed, plain, loading, Settings, rising, widestOf, limitOf}
 
--- how a run of this form may end: a verdict, or one of document 01's refusals; or, in the loading profile, document 02's 15
-pub data Ends (f : Form) : Outcome → Type 0 where
-  with-verdict : {v : Verdict} → Ends f (verdict v)
-  by-state : {t : ℕ} → 11 ≤ t → t ≤ 13 → Ends f (byState t)
-  by-input : {t : ℕ} → 1 ≤ t → t ≤ 9 → Ends f (byInput t)
-  outside-profile : f ≡ loading → Ends f (byInput outsideProfile)
+-- how a run with these settings may end: a verdict, or one of document 01's refusals; or document 02's 15 in the loading profile, its 16 with a
+-- list of widths that does not rise
+pub data Ends (q : Settings) : Outcome → Type 0 where
+  with-verdict : {v : Verdict} → Ends q (verdict v)
+  by-state : {t : ℕ} → 11 ≤ t → t ≤ 13 → Ends q (byState t)
+  by-input : {t : ℕ} → 1 ≤ t → t ≤ 9 → Ends q (byInput t)
+  outside-profile : q .form ≡ loading → Ends q (byInput outsideProfile)
+  bad-widths : (ws : List ℕ) → q .beam ≡ listed ws → rising ws ≡ false → Ends q (byInput badWidths)
 
 -- a plan of the model, from its target, which meets the constraints, at this cost
 abbrev pub PlanOf : Model → List ℕ → (cost : ℕ) → Type 0
@@ -58,7 +60,7 @@ pub record Marked (m : Model) (q : Settings) (a : Answer ℕ) : Type 0 where
 -- the demands on the answer to a run of these bytes with these settings
 pub record Demands (bytes : List ℕ) (q : Settings) (a : Answer ℕ) : Type 0 where
   -- "ends with a verdict or one of the refusals in document 01"
-  pub ends : Ends (q .form) (a .outcome)
+  pub ends : Ends q (a .outcome)
   -- "counts included": "the count … never passes the budget"
   pub within-budget : a .tally .expansions ≤ q .budget
   -- "expanded, unless the budget is used up: verdict 4"

@@ -1,12 +1,12 @@
--- A run from the bytes of a model and the settings: refusals 1, 2 and 3, then reading, 15 and 3 in the loading profile, then the search.
+-- A run from the bytes of a model and the settings: refusals 1, 2, 16 and 3, then reading, 15 and 3 in the loading profile, then the search.
 -- docs/FORMAT.md, "Settings", "Refusals by the input", "Loading profile" and "Program".
 use Prim.Native.Nat.{ℕ, _+_, _*_}
 use mathlib.Core.Bool.{Bool, true, false, cond, not, _&&_}
 use mathlib.Core.List.{List, [], _∷_}
-use lib.ListN.{length}
+use lib.ListN.{length, getD, drop}
 use lib.Dec.{leb, ltb, eqb}
 use Rattle.laws.specs.Lists.{any, filter}
-use Rattle.model.specs.Numbers.{modelTooLong, badSetting, tooLittleLent, outsideProfile, mostSteps, rangeEnd}
+use Rattle.model.specs.Numbers.{modelTooLong, badSetting, tooLittleLent, outsideProfile, badWidths, mostSteps, mostWidth, mostWidths, rangeEnd}
 use Rattle.model.specs.Readers.{Read, read, refused}
 use Rattle.model.specs.Syntax.{Model}
 use Rattle.model.specs.Commands.{model}
@@ -14,10 +14,12 @@ use Rattle.model.specs.Steps.{costsOf, systemOf, originOf}
 use Rattle.model.specs.Profile.{inProfile, loadingLength}
 use Rattle.search.specs.Answer.{byInput, Answer, outcomeNumber}
 use Rattle.search.specs.Search.{search}
+use Rattle.search.specs.Guarantee.{widest}
 
--- the widths that rounds may have: "1, 2, 4 up to W"
+-- the widths that rounds may have: "1, 2, 4 up to W"; or "a list of … widths" that the caller lends
 pub data Beam : Type 0 where
   upTo : (widest : ℕ) → Beam
+  listed : (widths : List ℕ) → Beam
 
 -- how far a run goes: "length L"; or, with no length given, as far as the loading profile says
 pub data Form : Type 0 where
@@ -46,24 +48,44 @@ widerUpTo widest = filter (λ w. leb w widest) widerWidths
 abbrev pub isWidth : ℕ → Bool
 isWidth widest = any (λ w. eqb w widest) (1 ∷ widerWidths)
 
--- the width of round 1, those behind it, and the widest
+-- each entry above the one before it, and none above 4,096
+unfoldable pub risingFrom : (before : ℕ) → List ℕ → Bool
+risingFrom before [] = true
+risingFrom before (w ∷ ws) = ltb before w && leb w mostWidth && risingFrom w ws
+
+-- "a list of 1 to 16 widths …, strictly rising, from 1 to 4,096"
+unfoldable pub rising : List ℕ → Bool
+rising ws = leb 1 (length ws) && leb (length ws) mostWidths && risingFrom 0 ws
+
+-- the width of round 1: "A run starts at the first entry"
 abbrev pub firstWidth : Beam → ℕ
-firstWidth (upTo widest) = 1
+firstWidth (upTo w) = 1
+firstWidth (listed ws) = getD ws 0 0
 
+-- those behind it: "'Next width' in the search rules means the next entry"
 abbrev pub widerThan : Beam → List ℕ
-widerThan (upTo widest) = widerUpTo widest
+widerThan (upTo w) = widerUpTo w
+widerThan (listed ws) = drop 1 ws
 
+-- W: "W is then its last entry and need not be a power of two"
 abbrev pub widestOf : Beam → ℕ
-widestOf (upTo widest) = widest
+widestOf (upTo w) = w
+widestOf (listed ws) = widest (getD ws 0 0) (drop 1 ws)
 
 -- the steps that a plan may have. "The profile's entry chooses the length itself"
 abbrev pub limitOf : Form → Model → ℕ
 limitOf (plain limit) m = limit
 limitOf loading m = loadingLength m
 
--- "widest beam W, a power of two, 1..4,096"
+-- "widest beam W, a power of two, 1..4,096"; with a list W is no setting
 abbrev pub beamFits : Beam → Bool
-beamFits (upTo widest) = isWidth widest
+beamFits (upTo w) = isWidth w
+beamFits (listed ws) = true
+
+-- "16, list empty, too long, not rising or out of range"; without a list "the built-in table serves"
+abbrev pub listFits : Beam → Bool
+listFits (upTo w) = true
+listFits (listed ws) = rising ws
 
 -- "length L, 1..256"
 abbrev pub formFits : Form → Bool
@@ -106,13 +128,17 @@ runRead (read m n) q l =
     (searchModel m q))
 runRead (refused t) q l = refusedByInput t
 
--- most: the bytes that a model may have, 65,536, or 16,384 for the program
+-- behind the settings: what is lent, then the reading
+unfoldable pub runSet : (bytes : List ℕ) → Settings → Lent → Answer ℕ
+runSet bytes q l = cond (not (lentBefore (q .form) (widestOf (q .beam)) l)) (refusedByInput tooLittleLent) (runRead (model bytes) q l)
+
+-- most: the bytes that a model may have, 65,536, or 16,384 for the program. 16 "comes right after 2"
 unfoldable pub run : (most : ℕ) (bytes : List ℕ) → Settings → Lent → Answer ℕ
 run most bytes q l =
     cond (ltb most (length bytes)) (refusedByInput modelTooLong)
     (cond (not (settingsFit q)) (refusedByInput badSetting)
-    (cond (not (lentBefore (q .form) (widestOf (q .beam)) l)) (refusedByInput tooLittleLent)
-    (runRead (model bytes) q l)))
+    (cond (not (listFits (q .beam))) (refusedByInput badWidths)
+    (runSet bytes q l)))
 
 -- the answer's fields in document 01's order, as the program's line has them in front of the colon
 unfoldable pub fields : Answer ℕ → List ℕ

@@ -8,7 +8,7 @@ use lib.Dec.{eqb}
 use Rattle.search.specs.Answer as A
 use Rattle.search.specs.Answer.{outcomeNumber, isRefusal, outcomeNumbered, bufferAfter, handedBack}
 use Rattle.search.specs.Demands.{Ends}
-use Rattle.search.specs.Run.{Form}
+use Rattle.search.specs.Run.{Settings}
 use Rattle.search.proofs.Numbered.{outcome-back}
 use Rattle.search.proofs.Mission.{plan-handed-back}
 use Rattle.search_report.specs.Answers.{outcomeOf, AnswerIs, FieldsAre, numbersOf, answerIn}
@@ -39,7 +39,7 @@ flag-back : (b : Bool) → eqb (cond b 1 0) 1 ≡ b
 flag-back true = refl
 flag-back false = refl
 
-pub read-back : (d : A.Answer ℕ) (x : Fields) (plan plan′ : List ℕ) {f : Form} → Ends f (d .outcome) → length (d .steps) ≤ length plan → FieldsAre d x → plan′ ≡ bufferAfter d plan → answerIn x plan′ ≡ d
+pub read-back : (d : A.Answer ℕ) (x : Fields) (plan plan′ : List ℕ) {q : Settings} → Ends q (d .outcome) → length (d .steps) ≤ length plan → FieldsAre d x → plan′ ≡ bufferAfter d plan → answerIn x plan′ ≡ d
 read-back d x plan plan′ ends room is after =
     let outcome : outcomeNumbered (x .refused) (x .verdict) ≡ d .outcome = rw (is .refused, is .verdict-number) (outcome-back (d .outcome) ends) in
     let flag : eqb (x .flag) 1 ≡ d .flag = rw (is .flag) (flag-back (d .flag)) in

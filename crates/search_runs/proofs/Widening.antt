@@ -1,23 +1,20 @@
--- The rounds of a run: a round that is judged, the ladder of widths, and what the loop over the rounds keeps.
+-- The rounds of a run: a round that is judged, and what the loop over the rounds keeps.
 use Prim.Native.Nat.{ℕ, suc, _+_, _-_, _*_, _≤_, _<_}
 use mathlib.Core.Path.{_≡_, refl, sym, ap, subst, _∙_}
-use mathlib.Core.Bool.{Bool, true, false, _&&_}
-use mathlib.Core.List.{List, [], _∷_}
+use mathlib.Core.Bool.{Bool, true, false}
+use mathlib.Core.List.{List}
 use mathlib.Core.Option.{none}
-use lib.Dec.{eqb, leb}
-use lib.ListN.{length, getD}
+use lib.Dec.{eqb}
+use lib.ListN.{length, getD, drop}
 use native.Mathlib.Omega.{arith}
 use native.Mathlib.Nat.{mul-le-mul-right}
 use native.Mathlib.Numerals.{add-one}
-use borrow.Author.Tests.{eqb-true, leb-true, ne-eqb}
-use Rattle.laws.specs.Lists.{isEmpty, All}
-use Rattle.laws.proofs.Bools.{and-both}
-use Rattle.laws.proofs.Lists.{some-all, any-some}
-use Rattle.model.specs.System.{Costs, System, Origin}
+use Rattle.model.specs.System.{Origin}
 use Rattle.model.specs.Meaning.{State}
 use Rattle.search.specs.Answer as A
 use Rattle.search.specs.Search as S
-use Rattle.search.specs.Run.{widerWidths, isWidth, widerUpTo}
+use Rattle.search.specs.Run.{listed, rising, widestOf}
+use Rattle.search.proofs.Settings.{entry-fits, some-entries}
 use Rattle.steps.specs.InBytes.{systemIn}
 use Rattle.steps.specs.Follow.{costsIn}
 use Rattle.beam_order.specs.Slots.{fAt}
@@ -37,13 +34,15 @@ use Rattle.search_paths.specs.Routes.{RootIs, pathBy, nextOf}
 use Rattle.search_visits.specs.Work.{verdictOf, bestOf, progressOf, roundOf, roundIn, endingOf, resultOf}
 use Rattle.search_rounds.specs.Rounds.{RoomFor, RoundEnds}
 use Rattle.search_runs.specs.Runs.{Judges, judgementOf, Runs}
-use Rattle.search_runs.specs.Widths.{widthBehind, beginsAt, afterOf, RoundJudged}
+use Rattle.search_runs.specs.Widths.{beginsAt, afterOf, RoundJudged}
+use Rattle.beam_widths.specs.Lists.{placeBehind}
+use Rattle.beam_widths.proofs.Places.{last-empty, next-inside, next-is, later-are}
 
 -- ---- a round that is judged
 
 module _ {bytes root words′ plan plan′ : List ℕ} {w budget limit : ℕ} {p : Progress} {y : Ended} (r : RoundEnds bytes root words′ plan plan′ w budget limit p y) where
   -- the run was over in the round
-  pub round-over : {widest : ℕ} {e : Ending} → y .next ≡ N.Over e → RoundJudged bytes root words′ plan plan′ widest budget limit w p (record { next = N.Over e; progress = y .round .progress; layer = y .layer })
+  pub round-over : {last : Bool} {e : Ending} → y .next ≡ N.Over e → RoundJudged bytes root words′ plan plan′ last budget limit w p (record { next = N.Over e; progress = y .round .progress; layer = y .layer })
   unfolding S.afterRound resultOf roundOf afterOf
   round-over over =
       record {
@@ -59,8 +58,8 @@ module _ {bytes root words′ plan plan′ : List ℕ} {w budget limit : ℕ} {p
   judge-same judged = judged .same bytes plan′ (nodesOf w (nextOf w words′) bytes (pathBy words′ w (y .layer)) (y .round .count)) (r .counted)
 
   -- another round follows
-  pub round-again : {widest : ℕ} {j : Judgement} → y .next ≡ N.On → Judges (eqb w widest) (y .round) j → j ≡ J.Again
-      → RoundJudged bytes root words′ plan plan′ widest budget limit w p (record { next = N.On; progress = y .round .progress; layer = y .layer })
+  pub round-again : {last : Bool} {j : Judgement} → y .next ≡ N.On → Judges last (y .round) j → j ≡ J.Again
+      → RoundJudged bytes root words′ plan plan′ last budget limit w p (record { next = N.On; progress = y .round .progress; layer = y .layer })
   unfolding S.afterRound resultOf afterOf judgementOf
   round-again on judged again =
       record {
@@ -71,8 +70,8 @@ module _ {bytes root words′ plan plan′ : List ℕ} {w budget limit : ℕ} {p
       }
 
   -- a verdict
-  pub round-ended : {widest : ℕ} {j : Judgement} {v : Verdict} → y .next ≡ N.On → Judges (eqb w widest) (y .round) j → j ≡ J.Ended v
-      → RoundJudged bytes root words′ plan plan′ widest budget limit w p (record { next = N.Over (E.Decided v); progress = y .round .progress; layer = y .layer })
+  pub round-ended : {last : Bool} {j : Judgement} {v : Verdict} → y .next ≡ N.On → Judges last (y .round) j → j ≡ J.Ended v
+      → RoundJudged bytes root words′ plan plan′ last budget limit w p (record { next = N.Over (E.Decided v); progress = y .round .progress; layer = y .layer })
   unfolding S.afterRound resultOf afterOf judgementOf endingOf
   round-ended on judged ended =
       record {
@@ -82,54 +81,7 @@ module _ {bytes root words′ plan plan′ : List ℕ} {w budget limit : ℕ} {p
         same = λ o h is. rw (r .same o h is, on, judge-same judged, ended);
       }
 
--- ---- the widths
-
--- the widths behind w double up to the widest
-unfoldable pub climbs : (widest w : ℕ) → List ℕ → Bool
-climbs widest w [] = eqb w widest
-climbs widest w (v ∷ vs) = eqb v (2 * w) && leb v widest && climbs widest v vs
-
-each-climbs : All (λ w. climbs w 1 (widerUpTo w) ≡ true) (1 ∷ widerWidths)
-unfolding climbs widerUpTo Rattle.laws.specs.Lists.filter
-each-climbs = (refl, (refl, (refl, (refl, (refl, (refl, (refl, (refl, (refl, (refl, (refl, (refl, (refl, tt)))))))))))))
-
-doubling-climbs : (widest : ℕ) → isWidth widest ≡ true → climbs widest 1 (widerUpTo widest) ≡ true
-doubling-climbs widest d =
-    some-all (1 ∷ widerWidths) each-climbs (any-some (λ w. eqb w widest) (1 ∷ widerWidths) d)
-    (λ w same e. subst (λ x. climbs x 1 (widerUpTo x) ≡ true) (eqb-true w widest e) same)
-
-module _ (K : Costs ℕ) (M : System State ℕ) (widest w : ℕ) where
-  last-empty : (vs : List ℕ) → climbs widest w vs ≡ true → 0 < w → isEmpty vs ≡ eqb w widest
-  unfolding climbs isEmpty
-  last-empty [] e pos = sym e
-  last-empty (v ∷ vs) e pos =
-      let x = and-both _ _ (and-both _ _ e .0) in
-      let a : v ≡ 2 * w = eqb-true _ _ (x .0) in
-      let b : v ≤ widest = leb-true _ _ (x .1) in
-      sym (ne-eqb w widest (λ z. omega arith))
-
-  next-is : (vs : List ℕ) → climbs widest w vs ≡ true → 0 < w → S.nextWidth K M w vs ≡ widthBehind widest w
-  unfolding climbs S.nextWidth widthBehind
-  next-is [] e pos = rw e
-  next-is (v ∷ vs) e pos =
-      let x = and-both _ _ (and-both _ _ e .0) in
-      let a : v ≡ 2 * w = eqb-true _ _ (x .0) in
-      let b : v ≤ widest = leb-true _ _ (x .1) in
-      let n : eqb w widest ≡ false = ne-eqb w widest (λ z. omega arith) in
-      rw n a
-
-  next-climbs : (vs : List ℕ) → climbs widest w vs ≡ true → climbs widest (S.nextWidth K M w vs) (S.laterWidths K M vs) ≡ true
-  unfolding climbs S.nextWidth S.laterWidths
-  next-climbs [] e = e
-  next-climbs (v ∷ vs) e = and-both (eqb v (2 * w) && leb v widest) (climbs widest v vs) e .1
-
-  next-within : (vs : List ℕ) → climbs widest w vs ≡ true → 0 < w → w ≤ widest → (0 < S.nextWidth K M w vs) × (S.nextWidth K M w vs ≤ widest)
-  unfolding climbs S.nextWidth
-  next-within [] e pos le = (pos, le)
-  next-within (v ∷ vs) e pos le =
-      let x = and-both _ _ (and-both _ _ e .0) in
-      let a : v ≡ 2 * w = eqb-true _ _ (x .0) in
-      (omega arith, leb-true _ _ (x .1))
+-- ---- the loop over the rounds
 
 -- a narrower round has room where the widest has
 pub room-for : {words₀ plan₀ words plan : List ℕ} {widest limit w : ℕ} → RoomFor words₀ plan₀ widest limit → length words ≡ length words₀ → length plan ≡ length plan₀ → 0 < w → w ≤ widest → RoomFor words plan w limit
@@ -143,26 +95,22 @@ room-for {widest = widest} {limit = limit} {w = w} r a b pos le =
       words-room = omega (arith, r .words-room);
     }
 
--- ---- the loop over the rounds
-
 -- the rounds from round k on, the widths behind this one being `wider`
 abbrev roundsFrom : (bytes plan : List ℕ) (budget limit : ℕ) (o : Origin State ℕ) (h most width : ℕ) (wider : List ℕ) (k : ℕ) → Progress → A.Answer ℕ
 roundsFrom bytes plan budget limit o h most width wider k p =
     S.rounds (costsIn bytes) (systemIn bytes) most budget limit width wider k (S.root (costsIn bytes) (systemIn bytes) o h) (progressOf plan p)
 
--- in the round that the tally tells, the rounds that are left give the run's answer
-pub record Widening (bytes root words₀ words plan₀ plan : List ℕ) (widest budget limit : ℕ) (p : Progress) (most : ℕ) : Type 0 where
+-- in the round that the tally tells, at this place of the list, the rounds that are left give the run's answer
+pub record Widening (bytes root words₀ words plan₀ plan widths : List ℕ) (budget limit place : ℕ) (p : Progress) (most : ℕ) : Type 0 where
   pub same-words : length words ≡ length words₀
   pub same-plan : length plan ≡ length plan₀
   pub best-fits : p .best .length ≤ limit
-  pub some-width : 0 < p .tally .width
-  pub narrow : p .tally .width ≤ widest
+  pub inside : place < length widths
+  pub width-there : p .tally .width ≡ getD widths place 0
   pub counted : p .tally .rounds + most ≡ budget + 2
-  pub wider : List ℕ
-  pub ladder : climbs widest (p .tally .width) wider ≡ true
   pub same : (o : Origin State ℕ) (h : ℕ) → RootIs bytes root o h
-      → S.rounds (costsIn bytes) (systemIn bytes) (suc budget) budget limit 1 (widerUpTo widest) 1 (S.root (costsIn bytes) (systemIn bytes) o h) (record { best = none; low = costsIn bytes .combine (o .spent) h; expansions = 0 })
-      ≡ roundsFrom bytes plan budget limit o h most (p .tally .width) wider (p .tally .rounds) p
+      → S.rounds (costsIn bytes) (systemIn bytes) (suc budget) budget limit (getD widths 0 0) (drop 1 widths) 1 (S.root (costsIn bytes) (systemIn bytes) o h) (record { best = none; low = costsIn bytes .combine (o .spent) h; expansions = 0 })
+      ≡ roundsFrom bytes plan budget limit o h most (getD widths place 0) (drop (place + 1) widths) (p .tally .rounds) p
 
 -- before any round: low is the root's f
 abbrev unbegun : (root : List ℕ) → Progress
@@ -172,92 +120,97 @@ root-f : {bytes root : List ℕ} {o : Origin State ℕ} {h : ℕ} → RootIs byt
 unfolding nodeAt S.root
 root-f is = sym (ap (λ (n : S.Node State ℕ). n .f) (is .node))
 
-pub widening-first : {bytes root words plan : List ℕ} {widest budget limit : ℕ} {p : Progress} → RoomFor words plan widest limit → isWidth widest ≡ true → p ≡ beginsAt 1 (unbegun root)
-    → Widening bytes root words words plan plan widest budget limit p (budget + 1)
+pub widening-first : {bytes root words plan widths : List ℕ} {budget limit first : ℕ} {p : Progress} → rising widths ≡ true → first ≡ getD widths 0 0 → p ≡ beginsAt first (unbegun root)
+    → Widening bytes root words words plan plan widths budget limit 0 p (budget + 1)
 unfolding progressOf bestOf
-widening-first {widest = widest} {budget = budget} room d e =
-    rw e
+widening-first {widths = widths} {budget = budget} rises e begins =
+    rw begins
     (record {
       same-words = refl;
       same-plan = refl;
       best-fits = omega arith;
-      some-width = omega arith;
-      narrow = omega (arith, room .some-width);
+      inside = some-entries widths rises;
+      width-there = e;
       counted = omega arith;
-      wider = widerUpTo widest;
-      ladder = doubling-climbs widest d;
       same = λ o h is. rw (root-f is, add-one budget);
     })
 
-module _ {bytes root words₀ words plan₀ plan : List ℕ} {widest budget limit : ℕ} {p : Progress} {most : ℕ} (s : Widening bytes root words₀ words plan₀ plan widest budget limit p most) where
+module _ {bytes root words₀ words plan₀ plan widths : List ℕ} {budget limit place : ℕ} {p : Progress} {most : ℕ} (s : Widening bytes root words₀ words plan₀ plan widths budget limit place p most) where
   abbrev width : ℕ
-  width = p .tally .width
+  width = getD widths place 0
 
   abbrev k : ℕ
   k = p .tally .rounds
 
-  pub room : RoomFor words₀ plan₀ widest limit → RoomFor words plan width limit
-  room r = room-for r (s .same-words) (s .same-plan) (s .some-width) (s .narrow)
+  abbrev last : Bool
+  last = eqb (place + 1) (length widths)
+
+  pub room : rising widths ≡ true → RoomFor words₀ plan₀ (widestOf (listed widths)) limit → RoomFor words plan width limit
+  room rises r = let fits = entry-fits widths place rises (s .inside) in room-for r (s .same-words) (s .same-plan) (fits .0) (fits .1)
 
   -- round k, then those behind it
-  one-more : {words′ plan′ : List ℕ} {left : ℕ} {y : Judged} → most ≡ suc left → RoundJudged bytes root words′ plan plan′ widest budget limit width p y → (o : Origin State ℕ) (h : ℕ) → RootIs bytes root o h
-      → roundsFrom bytes plan budget limit o h most width (s .wider) k p
+  one-more : {words′ plan′ : List ℕ} {left : ℕ} {y : Judged} → most ≡ suc left → RoundJudged bytes root words′ plan plan′ last budget limit width p y → (o : Origin State ℕ) (h : ℕ) → RootIs bytes root o h
+      → roundsFrom bytes plan budget limit o h most width (drop (place + 1) widths) k p
       ≡ S.unlessOver (costsIn bytes) (systemIn bytes) k width (afterOf (costsIn bytes) (systemIn bytes) (pathBy words′ width (y .layer)) (y .next) (progressOf plan′ (y .progress)))
-      (λ q. S.rounds (costsIn bytes) (systemIn bytes) left budget limit (S.nextWidth (costsIn bytes) (systemIn bytes) width (s .wider)) (S.laterWidths (costsIn bytes) (systemIn bytes) (s .wider)) (suc k) (S.root (costsIn bytes) (systemIn bytes) o h) q)
+      (λ q. S.rounds (costsIn bytes) (systemIn bytes) left budget limit (getD widths (placeBehind (length widths) place) 0) (drop (placeBehind (length widths) place + 1) widths) (suc k) (S.root (costsIn bytes) (systemIn bytes) o h) q)
   unfolding S.rounds
-  one-more e r o h is = rw (e, last-empty (costsIn bytes) (systemIn bytes) widest width (s .wider) (s .ladder) (s .some-width), r .same o h is)
+  one-more e r o h is =
+      let K = costsIn bytes in
+      let M = systemIn bytes in
+      rw (e, last-empty widths place (s .inside), r .same o h is, next-is widths place (s .inside) K M, later-are widths place (s .inside) K M)
+
+  -- a round at the width of the place
+  pub judged-there : {words′ plan′ : List ℕ} {y : Judged} {w : ℕ} → w ≡ width → RoundJudged bytes root words′ plan plan′ last budget limit w p y → RoundJudged bytes root words′ plan plan′ last budget limit width p y
+  judged-there {words′} {plan′} {y} e r = subst (λ v. RoundJudged bytes root words′ plan plan′ last budget limit v p y) e r
 
   -- the round has left its number and its width in the tally
-  module _ {words′ plan′ : List ℕ} {y : Judged} (r : RoundJudged bytes root words′ plan plan′ widest budget limit width p y) where
+  module _ {words′ plan′ : List ℕ} {y : Judged} (r : RoundJudged bytes root words′ plan plan′ last budget limit width p y) where
     pub number-same : y .progress .tally .rounds ≡ k
     number-same = ap (λ (q : ℕ × ℕ). q .0) (r .round-same)
 
     width-same : y .progress .tally .width ≡ width
-    width-same = ap (λ (q : ℕ × ℕ). q .1) (r .round-same)
+    width-same = ap (λ (q : ℕ × ℕ). q .1) (r .round-same) ∙ s .width-there
 
-  pub widening-more : {words′ plan′ : List ℕ} {y : Judged} {next : ℕ} {p′ : Progress} → 0 < most → RoundJudged bytes root words′ plan plan′ widest budget limit width p y → y .next ≡ N.On → next ≡ widthBehind widest width → p′ ≡ beginsAt next (y .progress)
-      → length words′ ≡ length words → length plan′ ≡ length plan → Widening bytes root words₀ words′ plan₀ plan′ widest budget limit p′ (most - 1)
+  pub widening-more : {words′ plan′ : List ℕ} {y : Judged} {place′ next : ℕ} {p′ : Progress} → 0 < most → RoundJudged bytes root words′ plan plan′ last budget limit width p y → y .next ≡ N.On
+      → place′ ≡ placeBehind (length widths) place → next ≡ getD widths place′ 0 → p′ ≡ beginsAt next (y .progress) → length words′ ≡ length words → length plan′ ≡ length plan
+      → Widening bytes root words₀ words′ plan₀ plan′ widths budget limit place′ p′ (most - 1)
   unfolding S.unlessOver afterOf progressOf
-  widening-more {y = y} {next = next} pos r on e begins a b =
-      let K = costsIn bytes in
-      let M = systemIn bytes in
-      let is : S.nextWidth K M width (s .wider) ≡ next = next-is K M widest width (s .wider) (s .ladder) (s .some-width) ∙ sym e in
-      let within = next-within K M widest width (s .wider) (s .ladder) (s .some-width) (s .narrow) in
+  widening-more {y = y} {next = next} pos r on goes e begins a b =
       let one : most ≡ suc (most - 1) = omega arith in
-      rw begins
+      rw (begins, goes)
       (record {
         same-words = a ∙ s .same-words;
         same-plan = b ∙ s .same-plan;
         best-fits = r .best-fits;
-        some-width = rw is at (within .0);
-        narrow = rw is at (within .1);
+        inside = next-inside widths place (s .inside);
+        width-there = rw goes at e;
         counted = omega (arith, s .counted, number-same r);
-        wider = S.laterWidths K M (s .wider);
-        ladder = rw is at (next-climbs K M widest width (s .wider) (s .ladder));
-        same = λ o h root-is. s .same o h root-is ∙ one-more one r o h root-is ∙ rw (on, is, number-same r, add-one k);
+        same = λ o h is. s .same o h is ∙ one-more one r o h is ∙ rw (on, number-same r, add-one k);
       })
 
-  pub widening-over : {words′ plan′ : List ℕ} {y : Judged} {e : Ending} → 0 < most → RoundJudged bytes root words′ plan plan′ widest budget limit width p y → y .next ≡ N.Over e
-      → Runs bytes root words′ plan′ widest budget limit (record { ending = e; progress = y .progress; layer = y .layer })
+  pub widening-over : rising widths ≡ true → {words′ plan′ : List ℕ} {y : Judged} {e : Ending} → 0 < most → RoundJudged bytes root words′ plan plan′ last budget limit width p y → y .next ≡ N.Over e
+      → Runs bytes root words′ plan′ widths budget limit (record { ending = e; progress = y .progress; layer = y .layer })
   unfolding S.unlessOver S.answer afterOf progressOf
-  widening-over pos r over =
+  widening-over rises pos r over =
       let one : most ≡ suc (most - 1) = omega arith in
+      let fits = entry-fits widths place rises (s .inside) in
       record {
         best-fits = r .best-fits;
-        some-width = rw (width-same r) (s .some-width);
-        narrow = rw (width-same r) (s .narrow);
+        some-width = rw (width-same r) (fits .0);
+        narrow = rw (width-same r) (fits .1);
         inside = rw (width-same r) (rw over at (r .inside));
         same = λ o h is. rw (number-same r, width-same r) (s .same o h is ∙ one-more one r o h is ∙ rw over);
       }
 
   -- the definition's own last clause, which no run comes to
-  pub widening-spent : most ≡ 0 → Runs bytes root words plan widest budget limit (record { ending = E.Decided W.BudgetSpent; progress = p; layer = 0 })
-  unfolding S.rounds S.answer endingOf verdictOf
-  widening-spent e =
+  pub widening-spent : rising widths ≡ true → most ≡ 0 → Runs bytes root words plan widths budget limit (record { ending = E.Decided W.BudgetSpent; progress = p; layer = 0 })
+  unfolding S.rounds S.answer endingOf verdictOf progressOf
+  widening-spent rises e =
+      let fits = entry-fits widths place rises (s .inside) in
       record {
         best-fits = s .best-fits;
-        some-width = s .some-width;
-        narrow = s .narrow;
+        some-width = rw (s .width-there) (fits .0);
+        narrow = rw (s .width-there) (fits .1);
         inside = tt;
-        same = λ o h is. s .same o h is ∙ rw e;
+        same = λ o h is. rw (s .width-there) (s .same o h is ∙ rw e);
       }

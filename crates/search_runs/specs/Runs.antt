@@ -4,12 +4,12 @@ use mathlib.Core.Path.{_≡_}
 use mathlib.Core.Bool.{Bool, true}
 use mathlib.Core.List.{List}
 use mathlib.Core.Option.{none}
-use lib.ListN.{length}
+use lib.ListN.{length, getD, drop}
 use Rattle.model.specs.System.{Costs, System, Origin}
 use Rattle.model.specs.Meaning.{State}
 use Rattle.search.specs.Search.{Node, After, again, ended, decided}
 use Rattle.search.specs.Search as S
-use Rattle.search.specs.Run.{isWidth, widerUpTo}
+use Rattle.search.specs.Run.{listed, rising, widestOf}
 use Rattle.steps.specs.InBytes.{Outlined, systemIn}
 use Rattle.steps.specs.Follow.{costsIn}
 use Rattle.search_paths.specs.Routes.{RootIs, RootFits, pathBy}
@@ -30,20 +30,20 @@ pub record Judges (atWidest : Bool) (x : Round) (j : Judgement) : Type 0 where
   pub same : (bytes plan : List ℕ) (kept : List (Node State ℕ)) → length kept ≡ x .count
       → S.judge (costsIn bytes) (systemIn bytes) atWidest (roundOf kept plan x) ≡ judgementOf (costsIn bytes) (systemIn bytes) j (progressOf plan (x .progress))
 
--- what a run needs: a model that was read, room for its widest round, the root's words, settings in their ranges
-pub record Runnable (bytes outline root words plan : List ℕ) (widest limit budget : ℕ) : Type 0 where
+-- what a run needs: a model that was read, room for its widest round, the root's words, widths that rise, a budget in its range
+pub record Runnable (bytes outline root words plan widths : List ℕ) (limit budget : ℕ) : Type 0 where
   pub outlined : Outlined bytes outline
-  pub room : RoomFor words plan widest limit
+  pub room : RoomFor words plan (widestOf (listed widths)) limit
   pub root-fits : RootFits root limit
-  pub width : isWidth widest ≡ true
+  pub rises : rising widths ≡ true
   pub small-budget : budget < 2 ^ 32
 
--- the rounds from the first on: the tally has their number and the last width
-pub record Runs (bytes root words′ plan′ : List ℕ) (widest budget limit : ℕ) (y : Stop) : Type 0 where
+-- the rounds from the first on, at the widths of the list: the tally has their number and the last width
+pub record Runs (bytes root words′ plan′ widths : List ℕ) (budget limit : ℕ) (y : Stop) : Type 0 where
   pub best-fits : y .progress .best .length ≤ limit
   pub some-width : 0 < y .progress .tally .width
-  pub narrow : y .progress .tally .width ≤ widest
+  pub narrow : y .progress .tally .width ≤ widestOf (listed widths)
   pub inside : EndsInside (y .progress .tally .width) limit (y .layer) (y .ending)
   pub same : (o : Origin State ℕ) (h : ℕ) → RootIs bytes root o h
-      → S.rounds (costsIn bytes) (systemIn bytes) (suc budget) budget limit 1 (widerUpTo widest) 1 (S.root (costsIn bytes) (systemIn bytes) o h) (record { best = none; low = costsIn bytes .combine (o .spent) h; expansions = 0 })
+      → S.rounds (costsIn bytes) (systemIn bytes) (suc budget) budget limit (getD widths 0 0) (drop 1 widths) 1 (S.root (costsIn bytes) (systemIn bytes) o h) (record { best = none; low = costsIn bytes .combine (o .spent) h; expansions = 0 })
       ≡ S.answerOf (costsIn bytes) (systemIn bytes) (endingOf (pathBy words′ (y .progress .tally .width) (y .layer)) (y .ending)) (y .progress .tally .rounds) (y .progress .tally .width) (progressOf plan′ (y .progress))

@@ -1,7 +1,7 @@
--- What the code says of a round's marks, of the next width, and of a round that is judged: rule 7.
-use Prim.Native.Nat.{ℕ, _*_, _≤_}
+-- What the code says of a round's marks, of a round that begins, and of one that is judged: rule 7.
+use Prim.Native.Nat.{ℕ, _≤_}
 use mathlib.Core.Path.{_≡_}
-use mathlib.Core.Bool.{Bool, cond, not, _&&_}
+use mathlib.Core.Bool.{Bool, not, _&&_}
 use mathlib.Core.List.{List}
 use lib.Dec.{eqb}
 use Rattle.model.specs.System.{Costs, System, Origin}
@@ -23,10 +23,6 @@ use Rattle.search_visits.specs.Work.{progressOf, roundBegun, endingOf, Inside}
 unfoldable pub nothingLeft : Round → Bool
 nothingLeft x = not (x .marks .width) && not (x .marks .length) && eqb (x .count) 0
 
--- "the next width, W again at W"
-unfoldable pub widthBehind : (widest width : ℕ) → ℕ
-widthBehind widest width = cond (eqb width widest) width (2 * width)
-
 -- what lasts, once a round of this width has begun
 abbrev pub beginsAt : (width : ℕ) → Progress → Progress
 beginsAt width p = record { best = p .best; low = p .low; tally = begunAt width (p .tally) }
@@ -36,11 +32,11 @@ unfoldable pub afterOf : (K : Costs ℕ) (M : System State ℕ) (path : ℕ → 
 afterOf K M path N.On p = again p
 afterOf K M path (N.Over e) p = ended (record { ending = endingOf path e; progress = p })
 
--- a round of this width from the progress p, and what follows it
-pub record RoundJudged (bytes root words′ plan plan′ : List ℕ) (widest budget limit width : ℕ) (p : Progress) (y : Judged) : Type 0 where
+-- a round of this width from the progress p, and what follows it; last: the width is W
+pub record RoundJudged (bytes root words′ plan plan′ : List ℕ) (last : Bool) (budget limit width : ℕ) (p : Progress) (y : Judged) : Type 0 where
   pub best-fits : y .progress .best .length ≤ limit
   pub round-same : roundBegun (y .progress) ≡ roundBegun p
   pub inside : Inside width limit (y .layer) (y .next)
   pub same : (o : Origin State ℕ) (h : ℕ) → RootIs bytes root o h
-      → S.afterRound (costsIn bytes) (systemIn bytes) (eqb width widest) (S.round (costsIn bytes) (systemIn bytes) budget limit width (S.root (costsIn bytes) (systemIn bytes) o h) (progressOf plan p))
+      → S.afterRound (costsIn bytes) (systemIn bytes) last (S.round (costsIn bytes) (systemIn bytes) budget limit width (S.root (costsIn bytes) (systemIn bytes) o h) (progressOf plan p))
       ≡ afterOf (costsIn bytes) (systemIn bytes) (pathBy words′ width (y .layer)) (y .next) (progressOf plan′ (y .progress))

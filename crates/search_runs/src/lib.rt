@@ -1,16 +1,18 @@
-// The rounds of a run, at widths 1, 2, 4 up to the widest, each judged by rule 7.
+// The rounds of a run, at the widths of a list that rises, each judged by rule 7.
 
 pub mod judges;
 
 ghost use mathlib.Core.Path.{_≡_};
-ghost use Prim.Native.Nat.{_+_, _≤_, _<_, _^_};
+ghost use Prim.Native.Nat.{_+_, _<_, _^_};
 ghost use Rattle.search_rounds.specs.Rounds.{Roundable};
 ghost use Rattle.search_runs.specs.Runs.{Runnable, Runs};
-ghost use Rattle.search_runs.specs.Widths.{widthBehind, beginsAt, RoundJudged};
+ghost use Rattle.search_runs.specs.Widths.{beginsAt, RoundJudged};
 use crate::judges::Judgement;
 use crate::judges::judge;
 use beam_order::slots::F_AT;
 use beam_order::slots::SLOT_WORDS;
+use beam_widths::next_place;
+use beam_widths::width_at;
 use outline::layout::PREPARED_WORDS;
 use search_expansion::trials::Best;
 use search_rounds::round;
@@ -36,14 +38,6 @@ pub struct Judged {
     pub layer: usize,
 }
 
-// The next width: twice this one, the widest again at the widest.
-fn next_width(width: usize, widest: usize) -> usize
-    requires { ⌜ width ≤ 4096 ⌝ }
-    ensures { λ r. ⌜ r ≡ widthBehind widest width ⌝ }
-{
-    if width == widest { width } else { 2 * width }
-}
-
 // What lasts, once a round of this width has begun.
 fn begin(progress: Progress, width: usize) -> Progress
     requires { ⌜ progress .tally .rounds + 1 < 2 ^ 64 ⌝ }
@@ -59,19 +53,19 @@ fn begin(progress: Progress, width: usize) -> Progress
     }
 }
 
-// A round of this width, and what follows it.
+// A round of this width, and what follows it; last tells that no entry of the list is behind it.
 fn judged_round(
     words: &mut [u64],
     plan: &mut [u8],
     model: &[u8],
     outline: &[u64; PREPARED_WORDS],
     limits: Limits,
-    widest: usize,
+    last: bool,
     root: &[u64; SLOT_WORDS],
     progress: Progress,
 ) -> Judged
     requires { ⌜ Roundable (now model) (now outline) (now root) (now words) (now plan) (limits .width) (limits .length) progress ⌝ }
-    ensures { λ r. ⌜ RoundJudged (now (model .entry)) (now (root .entry)) (now (words .exit)) (now (plan .entry)) (now (plan .exit)) widest (limits .budget) (limits .length) (limits .width) progress r ⌝ }
+    ensures { λ r. ⌜ RoundJudged (now (model .entry)) (now (root .entry)) (now (words .exit)) (now (plan .entry)) (now (plan .exit)) last (limits .budget) (limits .length) (limits .width) progress r ⌝ }
 {
     let x = round(words, plan, model, outline, limits, root, progress);
     let ended = x.round;
@@ -84,7 +78,7 @@ fn judged_round(
             progress: after,
             layer: layer,
         },
-        Next::On => match judge(ended, limits.width == widest) {
+        Next::On => match judge(ended, last) {
             Judgement::Again => Judged {
                 next: Next::On,
                 progress: after,
@@ -99,20 +93,22 @@ fn judged_round(
     }
 }
 
-// The rounds from the root on, at widths up to the widest, the width of the limits.
+// The rounds from the root on: the first at the first entry of the list, each later one at the next.
 pub fn rounds(
     words: &mut [u64],
     plan: &mut [u8],
     model: &[u8],
     outline: &[u64; PREPARED_WORDS],
-    limits: Limits,
+    widths: &[u16],
+    length: usize,
+    budget: u64,
     root: &[u64; SLOT_WORDS],
 ) -> Stop
-    requires { ⌜ Runnable (now model) (now outline) (now root) (now words) (now plan) (limits .width) (limits .length) (limits .budget) ⌝ }
-    ensures { λ r. ⌜ Runs (now (model .entry)) (now (root .entry)) (now (words .exit)) (now (plan .exit)) (limits .width) (limits .budget) (limits .length) r ⌝ }
+    requires { ⌜ Runnable (now model) (now outline) (now root) (now words) (now plan) (now widths) length budget ⌝ }
+    ensures { λ r. ⌜ Runs (now (model .entry)) (now (root .entry)) (now (words .exit)) (now (plan .exit)) (now (widths .entry)) budget length r ⌝ }
 {
-    let widest = limits.width;
-    let first = Progress {
+    let count = widths.len();
+    let unbegun = Progress {
         best: Best {
             found: false,
             cost: 0,
@@ -125,22 +121,24 @@ pub fn rounds(
             width: 0,
         },
     };
-    let mut progress = begin(first, 1);
-    let mut most = limits.budget + 1;
+    let mut place: usize = 0;
+    let mut progress = begin(unbegun, width_at(widths, 0));
+    let mut most = budget + 1;
     while 0 < most {
-        let width = progress.tally.width as usize;
-        let now = Limits {
-            width: width,
-            length: limits.length,
-            budget: limits.budget,
+        let limits = Limits {
+            width: width_at(widths, place),
+            length: length,
+            budget: budget,
         };
-        let x = judged_round(words, plan, model, outline, now, widest, root, progress);
+        let last = place + 1 == count;
+        let x = judged_round(words, plan, model, outline, limits, last, root, progress);
         let after = x.progress;
         let next = x.next;
         let layer = x.layer;
         match next {
             Next::On => {
-                progress = begin(after, next_width(width, widest));
+                place = next_place(place, count);
+                progress = begin(after, width_at(widths, place));
                 most -= 1;
             }
             Next::Over(e) => {

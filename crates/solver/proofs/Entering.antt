@@ -1,24 +1,20 @@
 -- What a run comes to, test by test: the settings, what is lent, the reading, the target's constraints and bound, then the rounds.
 use Prim.Native.Nat.{ℕ, suc, _+_, _*_, _≤_, _<_}
 use mathlib.Core.Path.{_≡_, refl, sym, ap, _∙_, subst}
-use mathlib.Core.Bool.{Bool, true, false, _&&_, _||_}
+use mathlib.Core.Bool.{Bool, true, false, _&&_}
 use mathlib.Core.List.{List, _∷_, _++_}
 use mathlib.Core.Option.{none}
 use native.Mathlib.Nat.{mul-le-mul}
-use native.Mathlib.Numerals.{add-one}
 use native.Mathlib.Omega.{arith}
-use lib.ListN.{length, drop, getD}
-use lib.Dec.{eqb, leb}
-use lib.Seq.{drop-cons}
-use borrow.Author.Tests.{le-leb, lt-leb, leb-true, eq-eqb, ne-eqb}
-use Rattle.laws.specs.Lists.{any}
+use lib.ListN.{length, drop, getD, take}
+use lib.Dec.{leb}
+use borrow.Author.Tests.{le-leb, lt-leb, leb-true}
 use Rattle.laws.proofs.Bools.{and-both}
 use Rattle.model.specs.Numbers.{mostSteps}
 use Rattle.model.specs.Values.{Value, value, trouble}
 use Rattle.model.specs.Readers.{Read, read, refused}
 use Rattle.model.specs.Syntax.{Model}
 use Rattle.model.specs.Commands.{model}
-use Rattle.model.specs.Profile.{inProfile, loadingLength}
 use Rattle.model.specs.Meaning.{State}
 use Rattle.model.proofs.Reading.{model-refusal}
 use Rattle.outline.specs.Outline.{modelOf, readModel, refusalOf}
@@ -27,12 +23,14 @@ use Rattle.search.specs.Answer.{noPlan, verdict, byState, byInput, bufferAfter}
 use Rattle.search.specs.Search as S
 use Rattle.search.specs.Search.{root, search, searchWithin, enter, begin}
 use Rattle.search.specs.Demands.{Demands}
-use Rattle.search.specs.Run.{upTo, Form, plain, loading, Settings, widerWidths, isWidth, widerUpTo, limitOf, settingsFit, wordsNeeded, lentFits, refusedByInput, searchModel}
-use Rattle.search.proofs.Settings.{beam-fits, form-fits, widest-within, given-within, limit-within, loading-fits}
-use Rattle.search.proofs.Source.{Accepted, run-unread, run-accepted, load-unread, load-outside, load-little-lent}
+use Rattle.search.specs.Run.{Beam, upTo, listed, Form, plain, Settings, widerUpTo, rising, widestOf, limitOf, beamFits, formFits, settingsFit, wordsNeeded, lentFits, lentBefore, accepts, refusedByInput, searchModel, runSet}
+use Rattle.search.proofs.Settings.{built-in-rises, last-fits, limit-within}
+use Rattle.search.proofs.Source.{run-bad-setting, run-bad-widths, run-set, set-lent-behind, set-searched}
 use Rattle.search.proofs.Targets.{broken-start, troubled-start, unbounded-start}
 use Rattle.search.proofs.Counts.{never-by-input}
-use Rattle.search.proofs.Mission.{run-meets-demands, steps-fit-buffer, refusal-changes-no-buffer}
+use Rattle.search.proofs.Mission.{run-meets-demands, steps-fit-buffer, refusal-changes-no-buffer, built-in-set}
+use Rattle.beam_widths.specs.Lists.{BuiltIn}
+use Rattle.beam_widths.proofs.Rising.{widths, built-in-none, built-in-some}
 use Rattle.steps.specs.InBytes.{refusalIn, systemIn, stateIn, targetIn, originIn}
 use Rattle.steps.specs.Follow.{costsIn}
 use Rattle.steps.specs.Answers.{heldAnswer, boundAnswer}
@@ -42,79 +40,35 @@ use Rattle.steps.specs.declared.answers.BoundAnswer.{BoundAnswer}
 use Rattle.steps.specs.declared.answers.BoundAnswer.the-variants as B
 use Rattle.beam.specs.Nodes.{headerOf, nodeAt}
 use Rattle.search_paths.specs.Routes.{RootIs}
+use Rattle.search_rounds.specs.Rounds.{RoomFor}
 use Rattle.search_runs.specs.Runs.{Runs}
 use Rattle.search_report.specs.Answers.{AnswerIs, stopAnswer, Reports, numbersOf}
-use Rattle.solver.specs.Searches.{SearchSays, settings, loadingSettings, lentOf, lent, runOf, Searched, enteredOf, endedAtTarget}
+use Rattle.solver.specs.Searches.{searchIn, SearchSays, SetSays, lentOf, lent, runOf, Searched, enteredOf, endedAtTarget}
 use Rattle.solver.specs.declared.entry.Entered.{Entered}
 use Rattle.solver.specs.declared.entry.Entered.the-variants as E
 use Rattle.search_report.specs.declared.answers.Answer.{Answer}
 use Rattle.search_runs.specs.declared.Stop.{Stop}
-use Rattle.steps.proofs.Promises.{refused-in, cost-laws, cost-empty, origin-start, origin-spent}
+use Rattle.steps.proofs.Promises.{cost-laws, cost-empty, origin-start, origin-spent}
 use Rattle.steps.proofs.Trials.{all-held, one-fails, one-troubles}
 use Rattle.search_report.proofs.Reporting.{answer-same}
 use Rattle.search_report.proofs.Numbers.{in-numbers, read-back}
 
--- ---- the widths
-
-abbrev pub widths : List ℕ
-widths = 1 ∷ widerWidths
-
-abbrev pub among : (width : ℕ) → List ℕ → Bool
-among width l = any (λ w. eqb w width) l
-
-module _ (width i : ℕ) (inside : i < 13) where
-  at-hand : among width (drop i widths) ≡ (eqb (getD widths i 0) width || among width (drop (i + 1) widths))
-  unfolding any
-  at-hand = rw (add-one, drop-cons widths i 0 inside)
-
-  pub width-found : getD widths i 0 ≡ width → among width (drop i widths) ≡ true
-  width-found e = at-hand ∙ rw (eq-eqb (getD widths i 0) width e)
-
-  pub width-passed : (getD widths i 0 ≡ width → ⊥) → among width (drop i widths) ≡ among width (drop (i + 1) widths)
-  width-passed e = at-hand ∙ rw (ne-eqb (getD widths i 0) width e)
-
-no-width-left : (width : ℕ) → among width (drop 13 widths) ≡ false
-unfolding any
-no-width-left width = refl
-
-pub widths-passed : (width i : ℕ) → i ≤ 13 → 13 ≤ i → among width (drop i widths) ≡ false
-widths-passed width i a b = let all : i ≡ 13 = omega arith in ap (λ (k : ℕ). among width (drop k widths)) all ∙ no-width-left width
-
--- ---- the settings
+-- ---- the length limit
 
 and-no : (a : Bool) → (a && false) ≡ false
 and-no true = refl
 and-no false = refl
 
-and-yes : (a : Bool) → (a && true) ≡ a
-and-yes true = refl
-and-yes false = refl
+module _ (limit : ℕ) where
+  pub no-steps : limit < 1 → formFits (plain limit) ≡ false
+  no-steps h = rw (lt-leb 1 limit h)
 
-module _ (w l b : ℕ) where
-  pub fit-short : l < 1 → settingsFit (settings w l b) ≡ false
-  unfolding settingsFit
-  fit-short h = rw (lt-leb 1 l h) (and-no (among w widths))
+  pub by-length : 1 ≤ limit → leb limit mostSteps ≡ formFits (plain limit)
+  by-length h = rw (le-leb 1 limit h)
 
-  pub fit-long : mostSteps < l → settingsFit (settings w l b) ≡ false
-  unfolding settingsFit
-  fit-long h = rw (lt-leb l mostSteps h, and-no (leb 1 l)) (and-no (among w widths))
-
-  pub fit-width : 1 ≤ l → l ≤ mostSteps → settingsFit (settings w l b) ≡ isWidth w
-  unfolding settingsFit
-  fit-width h k = rw (le-leb 1 l h, le-leb l mostSteps k) (and-yes (among w widths))
-
-  pub fit-whatever : (c : ℕ) → settingsFit (settings w l b) ≡ settingsFit (settings w l c)
-  unfolding settingsFit
-  fit-whatever c = refl
-
-  pub width-fits : settingsFit (settings w l b) ≡ true → isWidth w ≡ true
-  width-fits e = beam-fits (settings w l b) e
-
-  pub narrow : settingsFit (settings w l b) ≡ true → (0 < w) × (w ≤ 4096)
-  narrow e = widest-within (upTo w) (width-fits e)
-
-  pub some-steps : settingsFit (settings w l b) ≡ true → l ≤ mostSteps
-  some-steps e = given-within l (form-fits (settings w l b) e) .1
+pub bad-length : (b : Beam) (f : Form) (budget : ℕ) → formFits f ≡ false → settingsFit (record { beam = b; form = f; budget = budget }) ≡ false
+unfolding settingsFit
+bad-length b f budget e = rw e (and-no (beamFits b))
 
 -- ---- what is lent
 
@@ -135,6 +89,17 @@ module _ (w l p n : ℕ) where
   lent-both e =
       let both = and-both (leb l p) (leb (64 * w + w * (l + 1)) n) e in
       (leb-true l p (both .0), leb-true (64 * w + w * (l + 1)) n (both .1))
+
+-- asked at a width that was found
+pub lent-at : (w v l p n : ℕ) {b t : Bool} → w ≡ v → b ≡ lentFits w l (lentOf p n) → b ≡ t → lentFits v l (lentOf p n) ≡ t
+lent-at w v l p n e asked is = ap (λ (k : ℕ). lentFits k l (lentOf p n)) (sym e) ∙ sym asked ∙ is
+
+-- enough is lent for the widest round
+pub room-lent : (ws plan words : List ℕ) (limit : ℕ) → rising ws ≡ true → limit ≤ mostSteps → lentFits (widestOf (listed ws)) limit (lent plan words) ≡ true → RoomFor words plan (widestOf (listed ws)) limit
+room-lent ws plan words limit rises few enough =
+    let both = lent-both (widestOf (listed ws)) limit (length plan) (length words) enough in
+    let fits = last-fits ws rises in
+    record { some-width = fits .0; narrow = fits .1; few-steps = few; plan-room = both .0; words-room = both .1 }
 
 -- ---- the target: its constraints, then its bounds
 
@@ -182,9 +147,12 @@ module _ (bytes target : List ℕ) (at-target : stateIn bytes target ≡ targetI
 
 -- ---- the search of a model that was read
 
-module _ (bytes : List ℕ) (widest limit budget : ℕ) where
+module _ (bytes widths : List ℕ) (limit budget : ℕ) where
   abbrev searched : A.Answer ℕ
-  searched = search (costsIn bytes) (systemIn bytes) budget limit 1 (widerUpTo widest) (originIn bytes)
+  searched = searchIn bytes widths limit budget
+
+  abbrev first : ℕ
+  first = getD widths 0 0
 
   nothing-spent : (h : ℕ) → costsIn bytes .combine 0 h ≡ h
   nothing-spent h = ap (λ (c : ℕ). costsIn bytes .combine c h) (sym (cost-empty bytes)) ∙ cost-laws bytes .left-unit h
@@ -195,7 +163,7 @@ module _ (bytes : List ℕ) (widest limit budget : ℕ) where
   target-root target h e = record { node = rw (e, origin-start bytes, origin-spent bytes, nothing-spent h) }
 
   with-bound : (a : Value Bool) (b : Value ℕ) (h : ℕ) → admitted bytes ≡ a → bounded bytes ≡ b → enteredOf a b ≡ E.Bounded h
-      → searched ≡ S.rounds (costsIn bytes) (systemIn bytes) (suc budget) budget limit 1 (widerUpTo widest) 1 (root (costsIn bytes) (systemIn bytes) (originIn bytes) h) (record { best = none; low = costsIn bytes .combine (originIn bytes .spent) h; expansions = 0 })
+      → searched ≡ S.rounds (costsIn bytes) (systemIn bytes) (suc budget) budget limit first (drop 1 widths) 1 (root (costsIn bytes) (systemIn bytes) (originIn bytes) h) (record { best = none; low = costsIn bytes .combine (originIn bytes .spent) h; expansions = 0 })
   unfolding enteredOf search searchWithin enter begin
   with-bound (value true) (value x) h p q e = let same : x ≡ h = cc in rw (origin-start bytes, p, q, same)
   with-bound (value true) (trouble t) h p q e = let z : _≡_ {A = ℕ} 0 1 = cc in absurd (omega arith)
@@ -205,36 +173,36 @@ module _ (bytes : List ℕ) (widest limit budget : ℕ) where
   at-origin : {X : Type 0} (f : State → X) {x : X} → f (targetIn bytes) ≡ x → f (originIn bytes .start) ≡ x
   at-origin f e = ap f (origin-start bytes) ∙ e
 
-  broken : (a : Value Bool) (b : Value ℕ) → admitted bytes ≡ a → enteredOf a b ≡ E.Broken → searched ≡ endedAtTarget (verdict noPlan)
+  broken : (a : Value Bool) (b : Value ℕ) → admitted bytes ≡ a → enteredOf a b ≡ E.Broken → searched ≡ endedAtTarget first (verdict noPlan)
   unfolding enteredOf
   broken (value true) (value x) p e = let z : _≡_ {A = ℕ} 0 1 = cc in absurd (omega arith)
   broken (value true) (trouble t) p e = let z : _≡_ {A = ℕ} 0 1 = cc in absurd (omega arith)
-  broken (value false) b p e = broken-start (costsIn bytes) (systemIn bytes) (originIn bytes) budget limit 1 (widerUpTo widest) (at-origin (systemIn bytes .admits) p) ∙ rw (cost-empty bytes)
+  broken (value false) b p e = broken-start (costsIn bytes) (systemIn bytes) (originIn bytes) budget limit first (drop 1 widths) (at-origin (systemIn bytes .admits) p) ∙ rw (cost-empty bytes)
   broken (trouble t) b p e = let z : _≡_ {A = ℕ} 0 1 = cc in absurd (omega arith)
 
-  troubled : (a : Value Bool) (b : Value ℕ) (t : ℕ) → admitted bytes ≡ a → bounded bytes ≡ b → enteredOf a b ≡ E.Trouble t → searched ≡ endedAtTarget (byState t)
+  troubled : (a : Value Bool) (b : Value ℕ) (t : ℕ) → admitted bytes ≡ a → bounded bytes ≡ b → enteredOf a b ≡ E.Trouble t → searched ≡ endedAtTarget first (byState t)
   unfolding enteredOf
   troubled (value true) (value x) t p q e = let z : _≡_ {A = ℕ} 0 1 = cc in absurd (omega arith)
-  troubled (value true) (trouble u) t p q e = let same : u ≡ t = cc in rw (sym same) (unbounded-start (costsIn bytes) (systemIn bytes) (originIn bytes) budget limit 1 (widerUpTo widest) (at-origin (systemIn bytes .admits) p) (at-origin (systemIn bytes .bound) q) ∙ rw (origin-spent bytes, cost-empty bytes))
+  troubled (value true) (trouble u) t p q e = let same : u ≡ t = cc in rw (sym same) (unbounded-start (costsIn bytes) (systemIn bytes) (originIn bytes) budget limit first (drop 1 widths) (at-origin (systemIn bytes .admits) p) (at-origin (systemIn bytes .bound) q) ∙ rw (origin-spent bytes, cost-empty bytes))
   troubled (value false) b t p q e = let z : _≡_ {A = ℕ} 0 1 = cc in absurd (omega arith)
-  troubled (trouble u) b t p q e = let same : u ≡ t = cc in rw (sym same) (troubled-start (costsIn bytes) (systemIn bytes) (originIn bytes) budget limit 1 (widerUpTo widest) (at-origin (systemIn bytes .admits) p) ∙ rw (origin-spent bytes, cost-empty bytes))
+  troubled (trouble u) b t p q e = let same : u ≡ t = cc in rw (sym same) (troubled-start (costsIn bytes) (systemIn bytes) (originIn bytes) budget limit first (drop 1 widths) (at-origin (systemIn bytes .admits) p) ∙ rw (origin-spent bytes, cost-empty bytes))
 
   module _ (plan plan′ : List ℕ) (x : Answer) (q : Entered) (entered : q ≡ enteredOf (admitted bytes) (bounded bytes)) where
     pub says-run : (h : ℕ) → q ≡ E.Bounded h
-        → (first words best : List ℕ) (stop : Stop) → RootIs bytes first (originIn bytes) h → Runs bytes first words best widest budget limit stop → Reports words best plan plan′ stop x → SearchSays bytes plan plan′ widest limit budget x
-    says-run h e first words best stop at-root runs r =
+        → (at words best : List ℕ) (stop : Stop) → RootIs bytes at (originIn bytes) h → Runs bytes at words best widths budget limit stop → Reports words best plan plan′ stop x → SearchSays bytes plan plan′ widths limit budget x
+    says-run h e at words best stop at-root runs r =
         let same : searched ≡ stopAnswer bytes words best stop = with-bound (admitted bytes) (bounded bytes) h refl refl (sym entered ∙ e) ∙ runs .same (originIn bytes) h at-root in
         record { answer = answer-same x same (r .answer bytes); plan-after = r .plan-after bytes ∙ ap (λ (a : A.Answer ℕ). bufferAfter a plan) (sym same) }
 
-    says-ended : (o : A.Outcome) → searched ≡ endedAtTarget o → plan′ ≡ plan → AnswerIs (endedAtTarget o) x → SearchSays bytes plan plan′ widest limit budget x
+    says-ended : (o : A.Outcome) (w : ℕ) → w ≡ first → searched ≡ endedAtTarget first o → plan′ ≡ plan → AnswerIs (endedAtTarget w o) x → SearchSays bytes plan plan′ widths limit budget x
     unfolding bufferAfter
-    says-ended o same kept r = record { answer = answer-same x same r; plan-after = kept ∙ ap (λ (a : A.Answer ℕ). bufferAfter a plan) (sym same) }
+    says-ended o w there same kept r = record { answer = answer-same x same (rw there at r); plan-after = kept ∙ ap (λ (a : A.Answer ℕ). bufferAfter a plan) (sym same) }
 
-    pub says-broken : q ≡ E.Broken → plan′ ≡ plan → AnswerIs (endedAtTarget (verdict noPlan)) x → SearchSays bytes plan plan′ widest limit budget x
-    says-broken e = says-ended (verdict noPlan) (broken (admitted bytes) (bounded bytes) refl (sym entered ∙ e))
+    pub says-broken : (w : ℕ) → w ≡ first → q ≡ E.Broken → plan′ ≡ plan → AnswerIs (endedAtTarget w (verdict noPlan)) x → SearchSays bytes plan plan′ widths limit budget x
+    says-broken w there e = says-ended (verdict noPlan) w there (broken (admitted bytes) (bounded bytes) refl (sym entered ∙ e))
 
-    pub says-troubled : (t : ℕ) → q ≡ E.Trouble t → plan′ ≡ plan → AnswerIs (endedAtTarget (byState t)) x → SearchSays bytes plan plan′ widest limit budget x
-    says-troubled t e = says-ended (byState t) (troubled (admitted bytes) (bounded bytes) t refl refl (sym entered ∙ e))
+    pub says-troubled : (t w : ℕ) → w ≡ first → q ≡ E.Trouble t → plan′ ≡ plan → AnswerIs (endedAtTarget w (byState t)) x → SearchSays bytes plan plan′ widths limit budget x
+    says-troubled t w there e = says-ended (byState t) w there (troubled (admitted bytes) (bounded bytes) t refl refl (sym entered ∙ e))
 
 -- ---- the run, test by test
 
@@ -267,49 +235,81 @@ module _ (most : ℕ) (bytes plan words : List ℕ) (q : Settings) where
   unfolding refusedByInput bufferAfter
   refused-says t x e h = told plan words x (answer-same x e h) (rw e) (λ u f. refl)
 
--- at widths up to the widest: the model has passed every test, and was searched
-module _ (most : ℕ) (bytes plan words : List ℕ) (w : ℕ) (f : Form) (b : ℕ) (few : length bytes ≤ most) where
+-- ---- behind the settings, at the widths of a list
+
+module _ (bytes plan words ws : List ℕ) (f : Form) (b : ℕ) where
   abbrev asked : Settings
-  asked = record { beam = upTo w; form = f; budget = b }
+  asked = record { beam = listed ws; form = f; budget = b }
 
-  pub accepted-says : Accepted bytes asked (lent plan words) (modelOf bytes) → (plan′ words′ : List ℕ) (x : Answer) → SearchSays bytes plan plan′ w (limitOf f (modelOf bytes)) b x
-      → Searched most bytes plan plan′ words words′ asked (numbersOf x)
-  unfolding searchModel
-  accepted-says passed plan′ words′ x says =
-      let limit = limitOf f (modelOf bytes) in
-      let same : runOf most bytes plan words asked ≡ searched bytes w limit b = run-accepted most bytes asked (lent plan words) few passed in
-      told most bytes plan words asked plan′ words′ x (answer-same x same (says .answer)) (says .plan-after ∙ ap (λ (a : A.Answer ℕ). bufferAfter a plan) (sym same))
-      (λ t e. absurd (never-by-input (costsIn bytes) (systemIn bytes) (originIn bytes) b limit 1 (widerUpTo w) t (ap (λ (a : A.Answer ℕ). a .outcome) (sym same) ∙ e)))
+  -- a refusal by the input
+  pub set-refused : (t : ℕ) (x : Answer) → runSet bytes asked (lent plan words) ≡ refusedByInput t → AnswerIs (refusedByInput t) x → SetSays bytes plan plan words words asked x
+  unfolding refusedByInput bufferAfter
+  set-refused t x e h = record { answer = answer-same x e h; plan-after = rw e; kept = λ u z. refl }
 
--- where the length is given
-module _ (most : ℕ) (bytes plan words : List ℕ) (w l b : ℕ) (few : length bytes ≤ most) (fit : settingsFit (settings w l b) ≡ true) (enough : lentFits w l (lent plan words) ≡ true) where
-  pub unread-run : (t : ℕ) → t ≡ refusalIn bytes → 0 < t → runOf most bytes plan words (settings w l b) ≡ refusedByInput t
-  unread-run t e p = run-unread most bytes (settings w l b) (lent plan words) few fit enough (refused-in bytes t e p)
+  module _ (z : 0 ≡ refusalIn bytes) (in-form : accepts f (modelOf bytes) ≡ true) (limit : ℕ) (chosen : limit ≡ limitOf f (modelOf bytes)) where
+    pub few-steps : formFits f ≡ true → limit ≤ mostSteps
+    few-steps fits = rw chosen (limit-within f bytes (reads-in bytes z .1) fits in-form)
 
-  pub read-says : 0 ≡ refusalIn bytes → (plan′ words′ : List ℕ) (x : Answer) → SearchSays bytes plan plan′ w l b x → Searched most bytes plan plan′ words words′ (settings w l b) (numbersOf x)
-  read-says z =
-      let reads = reads-in bytes z in
-      accepted-says most bytes plan words w (plain l) b few (record { used = reads .0; reads = reads .1; fit = fit; in-form = refl; enough = enough })
+    -- too little is lent
+    pub set-unlent : lentFits (widestOf (listed ws)) limit (lent plan words) ≡ false → lentBefore f (widestOf (listed ws)) (lent plan words) ≡ true → runSet bytes asked (lent plan words) ≡ refusedByInput 3
+    set-unlent e before = set-lent-behind bytes asked (lent plan words) before (reads-in bytes z .1) in-form (rw (sym chosen) e)
 
--- in the loading profile
-module _ (most : ℕ) (bytes plan words : List ℕ) (w b : ℕ) (few : length bytes ≤ most) (width : isWidth w ≡ true) where
-  pub unread-load : (t : ℕ) → t ≡ refusalIn bytes → 0 < t → runOf most bytes plan words (loadingSettings w b) ≡ refusedByInput t
-  unread-load t e p = load-unread most bytes (upTo w) b (lent plan words) few width (refused-in bytes t e p)
+    -- the model has passed every test, and was searched
+    pub set-says : lentFits (widestOf (listed ws)) limit (lent plan words) ≡ true → (plan′ words′ : List ℕ) (x : Answer) → SearchSays bytes plan plan′ ws limit b x → SetSays bytes plan plan′ words words′ asked x
+    unfolding searchModel
+    set-says enough plan′ words′ x says =
+        let same : runSet bytes asked (lent plan words) ≡ searchIn bytes ws (limitOf f (modelOf bytes)) b = set-searched bytes asked (lent plan words) (reads-in bytes z .1) in-form (rw (sym chosen) enough) in
+        let told = subst (λ k. SearchSays bytes plan plan′ ws k b x) chosen says in
+        record {
+          answer = answer-same x same (told .answer);
+          plan-after = told .plan-after ∙ ap (λ (a : A.Answer ℕ). bufferAfter a plan) (sym same);
+          kept = λ t e. absurd (never-by-input (costsIn bytes) (systemIn bytes) (originIn bytes) b (limitOf f (modelOf bytes)) (getD ws 0 0) (drop 1 ws) t (ap (λ (a : A.Answer ℕ). a .outcome) (sym same) ∙ e));
+        }
 
-  module _ (z : 0 ≡ refusalIn bytes) where
-    pub outside-load : inProfile (modelOf bytes) ≡ false → runOf most bytes plan words (loadingSettings w b) ≡ refusedByInput 15
-    outside-load = load-outside most bytes (upTo w) b (lent plan words) few width (reads-in bytes z .1)
+-- ---- the settings, in front of it
 
-    -- l: the length that the model decides on
-    module _ (inside : inProfile (modelOf bytes) ≡ true) (l : ℕ) (chosen : l ≡ loadingLength (modelOf bytes)) where
-      pub loading-few-steps : l ≤ mostSteps
-      loading-few-steps = rw chosen (limit-within loading bytes (reads-in bytes z .1) refl inside)
+module _ (most : ℕ) (bytes plan words : List ℕ) (q : Settings) where
+  -- what was told behind the settings, with what is known of every run
+  pub set-told : (q′ : Settings) → runOf most bytes plan words q ≡ runSet bytes q′ (lent plan words) → (plan′ words′ : List ℕ) (x : Answer) → SetSays bytes plan plan′ words words′ q′ x
+      → Searched most bytes plan plan′ words words′ q (numbersOf x)
+  set-told q′ same plan′ words′ x says =
+      told most bytes plan words q plan′ words′ x (answer-same x same (says .answer)) (says .plan-after ∙ ap (λ (a : A.Answer ℕ). bufferAfter a plan) (sym same))
+      (λ t e. says .kept t (ap (λ (a : A.Answer ℕ). a .outcome) (sym same) ∙ e))
 
-      pub unlent-load : lentFits w l (lent plan words) ≡ false → runOf most bytes plan words (loadingSettings w b) ≡ refusedByInput 3
-      unlent-load e = load-little-lent most bytes (upTo w) b (lent plan words) few width (reads-in bytes z .1) inside (rw (sym chosen) e)
+-- with W: the built-in widths, n of them
+module _ (most : ℕ) (bytes plan words : List ℕ) (w b n : ℕ) (f : Form) (few : length bytes ≤ most) (fits : formFits f ≡ true) (is : BuiltIn w n) where
+  abbrev upToW : Settings
+  upToW = record { beam = upTo w; form = f; budget = b }
 
-      pub load-says : lentFits w l (lent plan words) ≡ true → (plan′ words′ : List ℕ) (x : Answer) → SearchSays bytes plan plan′ w l b x → Searched most bytes plan plan′ words words′ (loadingSettings w b) (numbersOf x)
-      load-says enough plan′ words′ x says =
-          let reads = reads-in bytes z in
-          accepted-says most bytes plan words w loading b few (record { used = reads .0; reads = reads .1; fit = loading-fits (upTo w) b ∙ width; in-form = inside; enough = rw (sym chosen) enough })
-          plan′ words′ x (subst (λ k. SearchSays bytes plan plan′ w k b x) chosen says)
+  pub no-width : n ≤ 0 → runOf most bytes plan words upToW ≡ refusedByInput 2
+  unfolding settingsFit
+  no-width h =
+      let none : n ≡ 0 = omega arith in
+      run-bad-setting most bytes upToW (lent plan words) few (rw (built-in-none w (rw none at is)))
+
+  module _ (some : 0 < n) (ws : List ℕ) (front : ws ≡ take n widths) where
+    are-built-in : ws ≡ 1 ∷ widerUpTo w
+    are-built-in = front ∙ built-in-some w n is some .1
+
+    pub front-rises : rising ws ≡ true
+    front-rises = rw are-built-in (built-in-rises w (built-in-some w n is some .0))
+
+    pub built-in-says : (plan′ words′ : List ℕ) (x : Answer) → SetSays bytes plan plan′ words words′ (asked bytes plan words ws f b) x → Searched most bytes plan plan′ words words′ upToW (numbersOf x)
+    unfolding settingsFit
+    built-in-says =
+        let width = built-in-some w n is some .0 in
+        set-told most bytes plan words upToW (asked bytes plan words ws f b)
+        (run-set most bytes upToW (lent plan words) few (rw (width, fits)) refl ∙ rw are-built-in (sym (built-in-set bytes upToW (lent plan words) w width)))
+
+-- with a list
+module _ (most : ℕ) (bytes plan words ws : List ℕ) (f : Form) (b : ℕ) (few : length bytes ≤ most) (fits : formFits f ≡ true) where
+  abbrev atWidths : Settings
+  atWidths = asked bytes plan words ws f b
+
+  pub list-refused : rising ws ≡ false → runOf most bytes plan words atWidths ≡ refusedByInput 16
+  unfolding settingsFit
+  list-refused e = run-bad-widths most bytes atWidths (lent plan words) few fits e
+
+  pub list-says : rising ws ≡ true → (plan′ words′ : List ℕ) (x : Answer) → SetSays bytes plan plan′ words words′ atWidths x → Searched most bytes plan plan′ words words′ atWidths (numbersOf x)
+  unfolding settingsFit
+  list-says e = set-told most bytes plan words atWidths atWidths (run-set most bytes atWidths (lent plan words) few fits e)

@@ -1,14 +1,15 @@
 -- What the search on bytes says: the definition's run, field by field; the plan buffer and the working words; the mission's demands.
-use Prim.Native.Nat.{ℕ, _^_, _<_}
+use Prim.Native.Nat.{ℕ, _^_, _≤_, _<_}
 use mathlib.Core.Path.{_≡_}
 use mathlib.Core.Bool.{Bool, true, false}
 use mathlib.Core.List.{List, []}
-use lib.ListN.{length}
+use lib.ListN.{length, getD, drop}
+use Rattle.model.specs.Numbers.{mostModelBytes, mostSteps}
 use Rattle.model.specs.Values.{Value, value, trouble}
 use Rattle.search.specs.Answer as A
 use Rattle.search.specs.Answer.{byInput, bufferAfter}
 use Rattle.search.specs.Search.{search}
-use Rattle.search.specs.Run.{Settings, upTo, plain, loading, Lent, isWidth, widerUpTo, run}
+use Rattle.search.specs.Run.{Settings, upTo, listed, plain, loading, Lent, rising, widestOf, runSet, run}
 use Rattle.search.specs.Demands.{Demands}
 use Rattle.steps.specs.InBytes.{Outlined, systemIn, originIn}
 use Rattle.steps.specs.Follow.{costsIn}
@@ -26,21 +27,24 @@ enteredOf (value true) (trouble t) = E.Trouble t
 enteredOf (value false) bound = E.Broken
 enteredOf (trouble t) bound = E.Trouble t
 
--- the answer of a run that ends at the target, in round 1 at width 1, before anything is found
-abbrev pub endedAtTarget : A.Outcome → A.Answer ℕ
-endedAtTarget o = record { outcome = o; flag = false; cost = 0; bound = 0; steps = []; tally = record { expansions = 0; rounds = 1; width = 1 } }
+-- the answer of a run that ends at the target, in round 1 at this width, before anything is found
+abbrev pub endedAtTarget : (width : ℕ) → A.Outcome → A.Answer ℕ
+endedAtTarget width o = record { outcome = o; flag = false; cost = 0; bound = 0; steps = []; tally = record { expansions = 0; rounds = 1; width = width } }
 
--- what the search of a model needs: that it was read, room, settings in their ranges
-pub record Searchable (bytes outline words plan : List ℕ) (widest limit budget : ℕ) : Type 0 where
+-- what the search of a model needs: that it was read, room for its widest round, widths that rise, a budget in its range
+pub record Searchable (bytes outline words plan widths : List ℕ) (limit budget : ℕ) : Type 0 where
   pub outlined : Outlined bytes outline
-  pub room : RoomFor words plan widest limit
-  pub width : isWidth widest ≡ true
+  pub room : RoomFor words plan (widestOf (listed widths)) limit
+  pub rises : rising widths ≡ true
   pub small-budget : budget < 2 ^ 32
 
--- the search of the model that stands in the bytes
-pub record SearchSays (bytes plan plan′ : List ℕ) (widest limit budget : ℕ) (x : Answer) : Type 0 where
-  pub answer : AnswerIs (search (costsIn bytes) (systemIn bytes) budget limit 1 (widerUpTo widest) (originIn bytes)) x
-  pub plan-after : plan′ ≡ bufferAfter (search (costsIn bytes) (systemIn bytes) budget limit 1 (widerUpTo widest) (originIn bytes)) plan
+-- the search of the model that stands in the bytes, at the widths of a list
+abbrev pub searchIn : (bytes widths : List ℕ) (limit budget : ℕ) → A.Answer ℕ
+searchIn bytes widths limit budget = search (costsIn bytes) (systemIn bytes) budget limit (getD widths 0 0) (drop 1 widths) (originIn bytes)
+
+pub record SearchSays (bytes plan plan′ widths : List ℕ) (limit budget : ℕ) (x : Answer) : Type 0 where
+  pub answer : AnswerIs (searchIn bytes widths limit budget) x
+  pub plan-after : plan′ ≡ bufferAfter (searchIn bytes widths limit budget) plan
 
 -- the settings where the length is given
 abbrev pub settings : (widest limit budget : ℕ) → Settings
@@ -50,12 +54,31 @@ settings w limit budget = record { beam = upTo w; form = plain limit; budget = b
 abbrev pub loadingSettings : (widest budget : ℕ) → Settings
 loadingSettings w budget = record { beam = upTo w; form = loading; budget = budget }
 
+-- both with a list of widths in the place of W
+abbrev pub listSettings : (widths : List ℕ) (limit budget : ℕ) → Settings
+listSettings ws limit budget = record { beam = listed ws; form = plain limit; budget = budget }
+
+abbrev pub listLoadingSettings : (widths : List ℕ) (budget : ℕ) → Settings
+listLoadingSettings ws budget = record { beam = listed ws; form = loading; budget = budget }
+
 -- what is lent
 abbrev pub lentOf : (planBytes words : ℕ) → Lent
 lentOf p n = record { planBytes = p; words = n }
 
 abbrev pub lent : (plan words : List ℕ) → Lent
 lent plan words = lentOf (length plan) (length words)
+
+-- what the settings have passed where the length is given
+pub record Settled (bytes widths : List ℕ) (limit : ℕ) : Type 0 where
+  pub few-bytes : length bytes ≤ mostModelBytes
+  pub rises : rising widths ≡ true
+  pub few-steps : limit ≤ mostSteps
+
+-- what follows the tests of the settings: what is lent, the reading, the run
+pub record SetSays (bytes plan plan′ words words′ : List ℕ) (q : Settings) (x : Answer) : Type 0 where
+  pub answer : AnswerIs (runSet bytes q (lent plan words)) x
+  pub plan-after : plan′ ≡ bufferAfter (runSet bytes q (lent plan words)) plan
+  pub kept : (t : ℕ) → runSet bytes q (lent plan words) .outcome ≡ byInput t → words′ ≡ words
 
 -- the run of these bytes with these settings and buffers; most: the bytes that a model may have
 abbrev pub runOf : (most : ℕ) (bytes plan words : List ℕ) → Settings → A.Answer ℕ

@@ -1,15 +1,18 @@
 // The search: refusals by the input, then the run.
 
 ghost use mathlib.Core.Path.{_≡_};
-ghost use mathlib.Core.Bool.{true};
-ghost use Prim.Native.Nat.{_≤_, _<_};
-ghost use Rattle.search.specs.Run.{isWidth, settingsFit, lentFits, refusedByInput};
+ghost use Prim.Native.Nat.{_≤_};
+ghost use Rattle.search.specs.Run.{plain, formFits, lentFits, refusedByInput};
 ghost use Rattle.steps.specs.InBytes.{Outlined, stateIn, systemIn, targetIn};
 ghost use Rattle.steps.specs.Answers.{boundAnswer};
 ghost use Rattle.search_report.specs.Answers.{AnswerIs, numbersOf, outcomeOf};
-ghost use Rattle.solver.specs.Searches.{Searchable, Searched, settings, lentOf, SearchSays, enteredOf, endedAtTarget};
+ghost use Rattle.solver.specs.Searches.{Searchable, Searched, Settled, SetSays, settings, listSettings, lentOf, SearchSays, enteredOf, endedAtTarget};
 use crate::roots::write_root;
 use beam_order::slots::SLOT_WORDS;
+use beam_widths::WIDTHS;
+use beam_widths::built_in;
+use beam_widths::widest;
+use beam_widths::width_at;
 use outline::layout::PREPARED_WORDS;
 use outline::layout::STATE_WORDS;
 use prepare::read_and_prepare;
@@ -22,16 +25,12 @@ use search_report::report::report;
 use search_runs::rounds;
 use search_tally::Tally;
 use search_tally::begun;
-use search_visits::work::Limits;
 use search_visits::work::Verdict;
 use steps::answers::BoundAnswer;
 use steps::answers::HeldAnswer;
 use steps::bounds::bound;
 use steps::conditions::constraints_hold;
 use steps::states::start;
-
-// The widths that a run may have.
-const WIDTHS: [u32; 13] = [1, 2, 4, 8, 16, 32, 64, 128, 256, 512, 1024, 2048, 4096];
 
 // What is met at the target when round 1 has begun: h, a constraint that fails, or trouble in the constraints or in h.
 pub enum Entered {
@@ -69,16 +68,18 @@ fn enter(model: &[u8], outline: &[u64; PREPARED_WORDS], target: &[u64; STATE_WOR
     }
 }
 
-// The run of a model that was read, at widths up to that of the limits.
+// The run of a model that was read, at the widths of a list.
 pub fn search_model(
     model: &[u8],
     outline: &[u64; PREPARED_WORDS],
-    limits: Limits,
+    widths: &[u16],
+    limit: usize,
+    budget: u64,
     plan: &mut [u8],
     words: &mut [u64],
 ) -> Answer
-    requires { ⌜ Searchable (now model) (now outline) (now words) (now plan) (limits .width) (limits .length) (limits .budget) ⌝ }
-    ensures { λ r. ⌜ SearchSays (now (model .entry)) (now (plan .entry)) (now (plan .exit)) (limits .width) (limits .length) (limits .budget) r ⌝ }
+    requires { ⌜ Searchable (now model) (now outline) (now words) (now plan) (now widths) limit budget ⌝ }
+    ensures { λ r. ⌜ SearchSays (now (model .entry)) (now (plan .entry)) (now (plan .exit)) (now (widths .entry)) limit budget r ⌝ }
 {
     let mut target = [0u64; STATE_WORDS];
     start(model, outline, &mut target);
@@ -87,24 +88,33 @@ pub fn search_model(
             let mut root = [0u64; SLOT_WORDS];
             write_root(&target, h, &mut root);
             let mut best = [0u8; 256];
-            let stop = rounds(words, &mut best, model, outline, limits, &root);
-            report(plan, words, &best, limits.length, stop)
+            let stop = rounds(
+                words,
+                &mut best,
+                model,
+                outline,
+                widths,
+                limit,
+                budget,
+                &root,
+            );
+            report(plan, words, &best, limit, stop)
         }
-        Entered::Broken => ended_at_target(Outcome::Verdict(Verdict::NoPlan)),
-        Entered::Trouble(t) => ended_at_target(Outcome::ByState(t)),
+        Entered::Broken => ended_at_target(Outcome::Verdict(Verdict::NoPlan), width_at(widths, 0)),
+        Entered::Trouble(t) => ended_at_target(Outcome::ByState(t), width_at(widths, 0)),
     }
 }
 
-// The answer of a run that ends at the target, in round 1, before anything is found.
-fn ended_at_target(outcome: Outcome) -> Answer
-    ensures { λ r. ⌜ AnswerIs (endedAtTarget (outcomeOf outcome)) r ⌝ }
+// The answer of a run that ends at the target, in round 1 at this width, before anything is found.
+fn ended_at_target(outcome: Outcome, width: usize) -> Answer
+    ensures { λ r. ⌜ AnswerIs (endedAtTarget width (outcomeOf outcome)) r ⌝ }
 {
     let fresh = Tally {
         expansions: 0,
         rounds: 0,
         width: 0,
     };
-    let tally = begun(fresh, 1);
+    let tally = begun(fresh, width as u64);
     Answer {
         outcome: outcome,
         flag: false,
@@ -133,31 +143,14 @@ pub fn refusal(number: u8) -> Answer
     }
 }
 
-// Whether the width is one of 1, 2, 4 up to 4,096.
-pub fn is_width(width: u32) -> bool
-    ensures { λ r. ⌜ r ≡ isWidth width ⌝ }
-{
-    let mut i: usize = 0;
-    while i < 13 {
-        if WIDTHS[i] == width {
-            return true;
-        }
-        i += 1;
-    }
-    false
-}
-
-// Whether the widest beam and the length limit are within their ranges.
-fn settings_fit(width: u32, limit: u32) -> bool
-    ensures { λ r. ⌜ r ≡ settingsFit (settings width limit 0) ⌝ }
+// Whether a length limit is within its range.
+pub fn is_length(limit: u32) -> bool
+    ensures { λ r. ⌜ r ≡ formFits (plain limit) ⌝ }
 {
     if limit < 1 {
         return false;
     }
-    if length_fits(limit as u64) {
-        return is_width(width);
-    }
-    false
+    length_fits(limit as u64)
 }
 
 // Whether the caller lends enough: plan bytes, and working words.
@@ -169,6 +162,29 @@ pub fn lent_fits(width: usize, limit: usize, bytes: usize, words: usize) -> bool
         return false;
     }
     64 * width + width * (limit + 1) <= words
+}
+
+// What follows the settings where the length is given: what is lent, the reading, the run.
+pub fn search_set(
+    model: &[u8],
+    widths: &[u16],
+    limit: usize,
+    budget: u32,
+    plan: &mut [u8],
+    words: &mut [u64],
+) -> Answer
+    requires { ⌜ Settled (now model) (now widths) limit ⌝ }
+    ensures { λ r. ⌜ SetSays (now (model .entry)) (now (plan .entry)) (now (plan .exit)) (now (words .entry)) (now (words .exit)) (listSettings (now (widths .entry)) limit budget) r ⌝ }
+{
+    if lent_fits(widest(widths), limit, plan.len(), words.len()) {
+        let mut outline = [0u64; PREPARED_WORDS];
+        let number = read_and_prepare(model, &mut outline);
+        if number == 0 {
+            return search_model(model, &outline, widths, limit, budget as u64, plan, words);
+        }
+        return refusal(number);
+    }
+    refusal(3)
 }
 
 // The search of a model of at most so many bytes.
@@ -187,23 +203,13 @@ pub fn search_up_to(
     if most < model.len() {
         return refusal(1);
     }
-    if settings_fit(width, limit) {
-        let w = width as usize;
-        let l = limit as usize;
-        if lent_fits(w, l, plan.len(), words.len()) {
-            let mut outline = [0u64; PREPARED_WORDS];
-            let number = read_and_prepare(model, &mut outline);
-            if number == 0 {
-                let limits = Limits {
-                    width: w,
-                    length: l,
-                    budget: budget as u64,
-                };
-                return search_model(model, &outline, limits, plan, words);
-            }
-            return refusal(number);
+    if is_length(limit) {
+        let count = built_in(width);
+        if 0 < count {
+            let table = WIDTHS;
+            return search_set(model, &table[..count], limit as usize, budget, plan, words);
         }
-        return refusal(3);
+        return refusal(2);
     }
     refusal(2)
 }

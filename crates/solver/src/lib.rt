@@ -2,5 +2,6 @@
 
 pub mod buffers;
 pub mod entry;
+pub mod lists;
 pub mod load;
 pub mod roots;

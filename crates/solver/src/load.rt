@@ -1,18 +1,49 @@
 // The search in the loading profile: no length is given, the model decides on it.
 
+ghost use mathlib.Core.Path.{_≡_};
+ghost use mathlib.Core.Bool.{true};
 ghost use Prim.Native.Nat.{_≤_};
+ghost use lib.ListN.{length};
+ghost use Rattle.search.specs.Run.{rising};
 ghost use Rattle.search_report.specs.Answers.{numbersOf};
-ghost use Rattle.solver.specs.Searches.{Searched, loadingSettings};
-use crate::entry::is_width;
+ghost use Rattle.solver.specs.Searches.{Searched, SetSays, loadingSettings, listLoadingSettings};
 use crate::entry::lent_fits;
 use crate::entry::refusal;
 use crate::entry::search_model;
+use beam_widths::WIDTHS;
+use beam_widths::built_in;
+use beam_widths::widest;
 use outline::layout::PREPARED_WORDS;
 use prepare::read_and_prepare;
 use profile::in_profile;
 use profile::loading_length;
 use search_report::answers::Answer;
-use search_visits::work::Limits;
+
+// What follows the settings in the loading profile: the reading, whether the model is inside, what is lent, the run.
+pub fn load_set(
+    model: &[u8],
+    widths: &[u16],
+    budget: u32,
+    plan: &mut [u8],
+    words: &mut [u64],
+) -> Answer
+    requires { ⌜ (length (now model) ≤ 65536) × (rising (now widths) ≡ true) ⌝ }
+    ensures { λ r. ⌜ SetSays (now (model .entry)) (now (plan .entry)) (now (plan .exit)) (now (words .entry)) (now (words .exit)) (listLoadingSettings (now (widths .entry)) budget) r ⌝ }
+{
+    let mut outline = [0u64; PREPARED_WORDS];
+    let number = read_and_prepare(model, &mut outline);
+    if number == 0 {
+        if in_profile(model, &outline) {
+            let limit = loading_length(model, &outline);
+            if lent_fits(widest(widths), limit, plan.len(), words.len()) {
+                return search_model(model, &outline, widths, limit, budget as u64, plan, words);
+            }
+            return refusal(3);
+        }
+        return refusal(15);
+    }
+    refusal(number)
+}
 
 // The search of a model of at most so many bytes in the loading profile. A model outside it is told, with 15, once it is read and before too
 // little lent is; no answer is a length stop, which `demands` of the contract says.
@@ -30,26 +61,10 @@ pub fn load_up_to(
     if most < model.len() {
         return refusal(1);
     }
-    if is_width(width) {
-        let mut outline = [0u64; PREPARED_WORDS];
-        let number = read_and_prepare(model, &mut outline);
-        if number == 0 {
-            if in_profile(model, &outline) {
-                let w = width as usize;
-                let l = loading_length(model, &outline);
-                if lent_fits(w, l, plan.len(), words.len()) {
-                    let limits = Limits {
-                        width: w,
-                        length: l,
-                        budget: budget as u64,
-                    };
-                    return search_model(model, &outline, limits, plan, words);
-                }
-                return refusal(3);
-            }
-            return refusal(15);
-        }
-        return refusal(number);
+    let count = built_in(width);
+    if 0 < count {
+        let table = WIDTHS;
+        return load_set(model, &table[..count], budget, plan, words);
     }
     refusal(2)
 }

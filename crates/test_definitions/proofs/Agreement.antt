@@ -5,8 +5,8 @@ use mathlib.Core.Bool.{Bool, true, false, cond, _&&_}
 use mathlib.Core.List.{List, [], _∷_}
 use lib.Dec.{eqb}
 use Rattle.laws.specs.Hex.{hex, zeros}
-use Rattle.search.proofs.Opened.{Told, answer, checked, valued, runOf, loadOf, checkOf, opened}
-use Rattle.test_definitions.specs.Case.{Case, searched, loaded}
+use Rattle.search.proofs.Opened.{Told, answer, checked, valued, runOf, loadOf, listedOf, loadListedOf, checkOf, opened}
+use Rattle.test_definitions.specs.Case.{Case, searched, loaded, searchedListed, loadedListed}
 use Rattle.test_definitions.specs.Case as Case
 use Rattle.test_definitions.specs.Reading1 as Reading1
 use Rattle.test_definitions.specs.Reading2 as Reading2
@@ -26,6 +26,9 @@ use Rattle.test_definitions.specs.Searches5 as Searches5
 use Rattle.test_definitions.specs.Loads1 as Loads1
 use Rattle.test_definitions.specs.Loads2 as Loads2
 use Rattle.test_definitions.specs.Loads3 as Loads3
+use Rattle.test_definitions.specs.Widths1 as Widths1
+use Rattle.test_definitions.specs.Widths2 as Widths2
+use Rattle.test_definitions.specs.Widths3 as Widths3
 
 unfoldable pub sameList : List ℕ → List ℕ → Bool
 sameList [] [] = true
@@ -42,6 +45,8 @@ isTold (valued v) fields′ after′ = false
 unfoldable pub agrees : Case → Bool
 agrees (searched model widest limit budget buffer words fields after) = isTold (opened (runOf model widest limit budget buffer words)) fields after
 agrees (loaded model widest budget buffer words fields after) = isTold (opened (loadOf model widest budget buffer words)) fields after
+agrees (searchedListed model widths limit budget buffer words fields after) = isTold (opened (listedOf model widths limit budget buffer words)) fields after
+agrees (loadedListed model widths budget buffer words fields after) = isTold (opened (loadListedOf model widths budget buffer words)) fields after
 agrees (Case.checked model plan number cost) = isTold (opened (checkOf model plan)) (number ∷ cost ∷ []) []
 
 -- the places, counted from k, of the cases that disagree
@@ -120,3 +125,15 @@ loads-2 = refl
 pub loads-3 : disagreeing 1 Loads3.cases ≡ []
 unfolding disagreeing agrees isTold sameList opened hex zeros
 loads-3 = refl
+
+pub widths-1 : disagreeing 1 Widths1.cases ≡ []
+unfolding disagreeing agrees isTold sameList opened hex zeros
+widths-1 = refl
+
+pub widths-2 : disagreeing 1 Widths2.cases ≡ []
+unfolding disagreeing agrees isTold sameList opened hex zeros
+widths-2 = refl
+
+pub widths-3 : disagreeing 1 Widths3.cases ≡ []
+unfolding disagreeing agrees isTold sameList opened hex zeros
+widths-3 = refl

@@ -19,6 +19,9 @@ use Rattle.test_definitions.specs.Searches5 as Searches5
 use Rattle.test_definitions.specs.Loads1 as Loads1
 use Rattle.test_definitions.specs.Loads2 as Loads2
 use Rattle.test_definitions.specs.Loads3 as Loads3
+use Rattle.test_definitions.specs.Widths1 as Widths1
+use Rattle.test_definitions.specs.Widths2 as Widths2
+use Rattle.test_definitions.specs.Widths3 as Widths3
 
 abbrev pub cases : List Case
-cases = Reading1.cases ++ Reading2.cases ++ Reading3.cases ++ Reading4.cases ++ Reading5.cases ++ Reading6.cases ++ Meaning1.cases ++ Meaning2.cases ++ Plans1.cases ++ Plans2.cases ++ Searches1.cases ++ Searches2.cases ++ Searches3.cases ++ Searches4.cases ++ Searches5.cases ++ Loads1.cases ++ Loads2.cases ++ Loads3.cases
+cases = Reading1.cases ++ Reading2.cases ++ Reading3.cases ++ Reading4.cases ++ Reading5.cases ++ Reading6.cases ++ Meaning1.cases ++ Meaning2.cases ++ Plans1.cases ++ Plans2.cases ++ Searches1.cases ++ Searches2.cases ++ Searches3.cases ++ Searches4.cases ++ Searches5.cases ++ Loads1.cases ++ Loads2.cases ++ Loads3.cases ++ Widths1.cases ++ Widths2.cases ++ Widths3.cases

@@ -7,5 +7,9 @@ pub data Case : Type 0 where
   searched : (model : List ℕ) (widest limit budget : ℕ) (buffer : List ℕ) (words : ℕ) (fields after : List ℕ) → Case
   -- a search in the loading profile: the same without L
   loaded : (model : List ℕ) (widest budget : ℕ) (buffer : List ℕ) (words : ℕ) (fields after : List ℕ) → Case
+  -- a search with a list of widths in the place of W
+  searchedListed : (model widths : List ℕ) (limit budget : ℕ) (buffer : List ℕ) (words : ℕ) (fields after : List ℕ) → Case
+  -- the same in the loading profile
+  loadedListed : (model widths : List ℕ) (budget : ℕ) (buffer : List ℕ) (words : ℕ) (fields after : List ℕ) → Case
   -- a plan check: model, plan; then the answer number and the cost
   checked : (model plan : List ℕ) (answer cost : ℕ) → Case

@@ -18,4 +18,7 @@ pub mod Searches5
 pub mod Loads1
 pub mod Loads2
 pub mod Loads3
+pub mod Widths1
+pub mod Widths2
+pub mod Widths3
 pub mod All

@@ -1,6 +1,6 @@
 // Plans the models of data/ at the settings among the arguments, and writes a line for each: the case's name, then the answer's line.
-// A case is seven arguments: its name, the model's file, the widest beam, the length limit or the word `loading` for the loading profile, the
-// budget, and the plan bytes and words lent.
+// A case is seven arguments: its name, the model's file, the widest beam or the word `widths` with a comma and a number for each entry of a
+// list, the length limit or the word `loading` for the loading profile, the budget, and the plan bytes and words lent.
 
 ghost use Prim.Native.Nat.{_≤_, _<_, _^_};
 ghost use lib.ListN.{length};
@@ -10,6 +10,8 @@ use line::write_fields;
 use search_report::answers::Answer;
 use search_report::answers::Outcome;
 use solver::entry::search;
+use solver::lists::load_widths;
+use solver::lists::search_widths;
 use solver::load::load;
 
 const ARGUMENTS: usize = 7;
@@ -41,6 +43,69 @@ fn argument(i: usize) -> u32 {
     let digits = os::arg(i, &mut text);
     let n = number(&text[..digits]);
     if n < 4294967296 { n as u32 } else { 4294967295 }
+}
+
+// The number with one digit more, at most 65,535.
+fn with_digit(n: u16, digit: u8) -> u16 {
+    let m = 10 * (n as u32) + (digit as u32) % 16;
+    if m < 65536 { m as u16 } else { 65535 }
+}
+
+// The place of the first comma from this one on; the text's end where there is none.
+fn comma_from(text: &[u8], from: usize) -> usize
+    requires { ⌜ from ≤ length (now text) ⌝ }
+    ensures { λ r. ⌜ (from ≤ r) × (r ≤ length (now (text .entry))) ⌝ }
+{
+    let mut k = from;
+    while k < text.len() {
+        if text[k] == 44 {
+            return k;
+        }
+        k += 1;
+    }
+    k
+}
+
+// The number that stands from this place on, up to a comma or the end.
+fn entry_at(text: &[u8], from: usize) -> u16
+    requires { ⌜ from ≤ length (now text) ⌝ }
+{
+    let mut n: u16 = 0;
+    let mut k = from;
+    while k < text.len() {
+        if text[k] == 44 {
+            return n;
+        }
+        n = with_digit(n, text[k]);
+        k += 1;
+    }
+    n
+}
+
+// The numbers behind the commas of a text, as far as there is room; answers how many there are.
+fn entries(text: &[u8], widths: &mut [u16]) -> usize
+    ensures { λ r. ⌜ r ≤ length (now (widths .exit)) ⌝ }
+{
+    let mut count: usize = 0;
+    let mut at = comma_from(text, 0);
+    while at < text.len() {
+        if count == widths.len() {
+            return count;
+        }
+        widths[count] = entry_at(text, at + 1);
+        count += 1;
+        at = comma_from(text, at + 1);
+    }
+    count
+}
+
+// The list of widths that argument i says; answers how many there are.
+fn read_widths(i: usize, widths: &mut [u16]) -> usize
+    ensures { λ r. ⌜ r ≤ length (now (widths .exit)) ⌝ }
+{
+    let mut text = io::buffer();
+    let n = os::arg(i, &mut text);
+    entries(&text[..n], widths)
 }
 
 // Reads the file that argument i names; answers how many bytes it has.
@@ -107,27 +172,53 @@ fn write_load(model: &[u8], width: u32, budget: u32, plan: &mut [u8], words: &mu
     write_lines(answer, plan);
 }
 
+// The same with these widths, which stand in the place of argument i + 2.
+fn write_widths(i: usize, model: &[u8], widths: &[u16], plan: &mut [u8], words: &mut [u64])
+    requires { ⌜ i < 2 ^ 32 ⌝ }
+{
+    let budget = argument(i + 4);
+    if is_word(i + 3) {
+        let loaded = load_widths(model, widths, budget, plan, words);
+        write_lines(loaded, plan);
+        return;
+    }
+    let answer = search_widths(model, widths, argument(i + 3), budget, plan, words);
+    write_lines(answer, plan);
+}
+
+// Plans the case whose first argument is number i, with the list of widths that it says and these buffers.
+fn write_listed(i: usize, model: &[u8], plan: &mut [u8], words: &mut [u64])
+    requires { ⌜ i < 2 ^ 32 ⌝ }
+{
+    let mut widths = [0u16; 32];
+    let n = read_widths(i + 2, &mut widths);
+    write_widths(i, model, &widths[..n], plan, words);
+}
+
+// Plans the case whose first argument is number i, with these buffers.
+fn write_with(i: usize, model: &[u8], plan: &mut [u8], words: &mut [u64])
+    requires { ⌜ i < 2 ^ 32 ⌝ }
+{
+    if is_word(i + 2) {
+        write_listed(i, model, plan, words);
+        return;
+    }
+    let width = argument(i + 2);
+    let budget = argument(i + 4);
+    if is_word(i + 3) {
+        write_load(model, width, budget, plan, words);
+        return;
+    }
+    write_search(model, width, argument(i + 3), budget, plan, words);
+}
+
 // Plans the case whose first argument is number i, with the buffers that it says.
 fn write_case(i: usize, model: &[u8], plan: &mut [u8], words: &mut [u64])
     requires { ⌜ i < 2 ^ 32 ⌝ }
 {
     let bytes = least(argument(i + 5) as usize, plan.len());
     let lent = least(argument(i + 6) as usize, words.len());
-    let width = argument(i + 2);
-    let budget = argument(i + 4);
-    if is_word(i + 3) {
-        write_load(model, width, budget, &mut plan[..bytes], &mut words[..lent]);
-        return;
-    }
-    let limit = argument(i + 3);
-    write_search(
-        model,
-        width,
-        limit,
-        budget,
-        &mut plan[..bytes],
-        &mut words[..lent],
-    );
+    write_with(i, model, &mut plan[..bytes], &mut words[..lent]);
 }
 
 // Reads the model of the case whose first argument is number i, and plans it.

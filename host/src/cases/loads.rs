@@ -1,6 +1,7 @@
 //! Searches in the loading profile: the length that it chooses, what is lent, the order of refusals, each way to be outside.
 
-use super::{Call, Case, Cases, Load, FILL};
+use super::{Call, Case, Cases};
+use crate::beam::Beam;
 use crate::build::*;
 use crate::generate::loading::{inside, outside, WAYS};
 use crate::generate::Random;
@@ -411,13 +412,8 @@ fn random_load(random: &mut Random) -> Call {
     let width = 1 << random.below(4);
     let budget = random.pick(&[1, 3, 6, 40, 1_000]);
     let (plan_bytes, words) = due(width, read.loading_length());
-    Call::Load(Load {
-        model,
-        width,
-        budget,
-        buffer: vec![FILL; plan_bytes + random.below(3)],
-        words: words + random.below(3) as u64,
-    })
+    let lent = (plan_bytes + random.below(3), words + random.below(3) as u64);
+    Call::load_by(model, Beam::UpTo(width), budget, lent)
 }
 
 fn random(cases: &mut Cases) {

@@ -1,6 +1,7 @@
 //! Searches: settings, verdicts, marks, bounds, the target's constraints, trouble and its path, by hand and at random.
 
 use super::{Call, Case, Cases, Search, FILL};
+use crate::beam::Beam;
 use crate::build::*;
 use crate::generate::{graph as random_graph, model, settings, Random};
 use crate::models::{sop, three_designs, tsptw, Designs};
@@ -87,7 +88,7 @@ fn search_lent(model: Bytes, settings: (u64, u64, u64), plan_bytes: usize, words
     let (width, length, budget) = settings;
     Call::Search(Search {
         model,
-        width,
+        beam: Beam::UpTo(width),
         length,
         budget,
         buffer: vec![FILL; plan_bytes],

@@ -1,7 +1,8 @@
 //! The cases as stored: the modules of crates/test_definitions, and what the programs test_plan_checks and test_searches are
 //! given and write.
 
-use super::{groups, loads, searches, Call, Case, Outcome};
+use super::{groups, loads, searches, widths, Call, Case, Outcome};
+use crate::beam::Beam;
 use crate::line::{answer_line, fields, LONGEST_MODEL};
 use crate::numbers::refusal;
 use crate::reference::plan_check;
@@ -30,9 +31,10 @@ fn case_text(case: &Case) -> String {
             format!("checked {} {} {answer} {cost}", hex(model), hex(plan))
         }
         (Call::Search(search), outcome) => format!(
-            "searched {} {} {} {} {} {} {}",
+            "{} {} {} {} {} {} {} {}",
+            constructor("searched", &search.beam),
             hex(&search.model),
-            search.width,
+            beam_text(&search.beam),
             search.length,
             search.budget,
             hex(&search.buffer),
@@ -40,15 +42,36 @@ fn case_text(case: &Case) -> String {
             outcome_text(&outcome)
         ),
         (Call::Load(load), outcome) => format!(
-            "loaded {} {} {} {} {} {}",
+            "{} {} {} {} {} {} {}",
+            constructor("loaded", &load.beam),
             hex(&load.model),
-            load.width,
+            beam_text(&load.beam),
             load.budget,
             hex(&load.buffer),
             load.words,
             outcome_text(&outcome)
         ),
         _ => unreachable!("a check has a check's outcome"),
+    }
+}
+
+/// The constructor of a case, by its name without a list of widths.
+fn constructor(plain: &str, beam: &Beam) -> String {
+    match beam {
+        Beam::UpTo(_) => plain.to_string(),
+        Beam::Listed(_) => format!("{plain}Listed"),
+    }
+}
+
+/// The widest beam, or the list of widths.
+fn beam_text(beam: &Beam) -> String {
+    match beam {
+        Beam::UpTo(widest) => widest.to_string(),
+        Beam::Listed(widths) if widths.is_empty() => "[]".to_string(),
+        Beam::Listed(widths) => {
+            let entries: String = widths.iter().map(|width| format!("{width} ∷ ")).collect();
+            format!("({entries}[])")
+        }
     }
 }
 
@@ -61,17 +84,18 @@ fn outcome_text(outcome: &Outcome) -> String {
     format!("({} ∷ []) {}", fields.join(" ∷ "), hex(after))
 }
 
-/// The constructors that the cases are written with.
-fn constructors(cases: &[Case]) -> &'static str {
-    let loads = cases.iter().all(|case| matches!(case.call, Call::Load(_)));
-    match loads {
-        true => "loaded",
-        false => "searched, checked",
+/// The constructors that the cases of a group are written with.
+fn constructors(group: &str) -> &'static str {
+    match group {
+        "Loads" => "loaded",
+        "Widths" => "searchedListed, loadedListed",
+        _ => "searched, checked",
     }
 }
 
 fn module(group: &str, part: usize, cases: &[Case]) -> String {
     let mut text = String::new();
+    let constructors = constructors(group);
     let group = group.to_lowercase();
     writeln!(
         text,
@@ -81,7 +105,6 @@ fn module(group: &str, part: usize, cases: &[Case]) -> String {
     text += "use Prim.Native.Nat.{ℕ}\n";
     text += "use mathlib.Core.List.{List, [], _∷_}\n";
     text += "use Rattle.laws.specs.Hex.{hex, zeros}\n";
-    let constructors = constructors(cases);
     writeln!(
         text,
         "use Rattle.test_definitions.specs.Case.{{Case, {constructors}}}\n"
@@ -160,6 +183,9 @@ const MOST_PLAN_BYTES: usize = 300;
 /// What stands in the place of the length limit where the loading profile chooses it.
 const LOADING: &str = "loading";
 
+/// What stands in the place of the widest beam where a list of widths is lent, with a comma before each entry.
+const WIDTHS: &str = "widths";
+
 /// What the program `test_searches` is given and writes: its arguments, the model files, a line for each case, and one more with the path
 /// at a refusal by the state.
 #[derive(Default, PartialEq, Eq, Debug)]
@@ -193,19 +219,26 @@ impl SearchCases {
         file
     }
 
-    /// A search by its name, its model's file, the widest beam, the length limit or the word `loading` for the loading profile, the
-    /// budget, and the plan bytes and words lent.
+    /// A search by its name, its model's file, the widest beam or the word `widths` with a list, the length limit or the word `loading`
+    /// for the loading profile, the budget, and the plan bytes and words lent.
     fn add(&mut self, name: &str, call: &Call) {
-        let (width, length, budget, buffer, words) = match call {
+        let (beam, length, budget, buffer, words) = match call {
             Call::Check { .. } => return,
             Call::Search(search) => {
                 let length = search.length.to_string();
                 let lent = (&search.buffer, search.words);
-                (search.width, length, search.budget, lent.0, lent.1)
+                (&search.beam, length, search.budget, lent.0, lent.1)
             }
             Call::Load(load) => {
                 let length = LOADING.to_string();
-                (load.width, length, load.budget, &load.buffer, load.words)
+                (&load.beam, length, load.budget, &load.buffer, load.words)
+            }
+        };
+        let width = match beam {
+            Beam::UpTo(widest) => widest.to_string(),
+            Beam::Listed(widths) => {
+                let entries: String = widths.iter().map(|width| format!(",{width}")).collect();
+                format!("{WIDTHS}{entries}")
             }
         };
         let Outcome::Search(answer, after) = call.run() else {
@@ -214,7 +247,7 @@ impl SearchCases {
         let file = self.file(name, call.model());
         let plan_bytes = buffer.len().min(MOST_PLAN_BYTES);
         let words = words.min(MOST_WORDS);
-        for word in [name, &file, &width.to_string(), &length] {
+        for word in [name, &file, &width, &length] {
             writeln!(self.arguments, "{word}").unwrap();
         }
         for number in [budget, plan_bytes as u64, words] {
@@ -232,7 +265,8 @@ impl SearchCases {
 /// The stored searches that were chosen by hand, as the program `test_searches` runs them.
 pub fn search_cases() -> SearchCases {
     let mut all = SearchCases::default();
-    for case in searches::cases().into_iter().chain(loads::cases()) {
+    let cases = [searches::cases(), loads::cases(), widths::cases()];
+    for case in cases.into_iter().flatten() {
         let Some(note) = &case.note else { continue };
         if case.call.model().len() <= LONGEST_MODEL {
             all.add(&slug(note), &case.call);

@@ -22,7 +22,7 @@ use super::part::Part;
 use super::plan::status;
 use super::settings::{self, Run, Settings, OPTIONS};
 use super::words::{counted, grouped, refusal_name, verdict_name};
-use super::{profile, refusals, target, warnings, Complaint, Done, CANNOT};
+use super::{profile, refusals, target, warnings, widths, Complaint, Done, CANNOT};
 use crate::numbers::limit;
 use crate::numbers::refusal::by_state;
 use crate::reference::syntax::CostRule;
@@ -142,8 +142,8 @@ impl Explained<'_> {
                 rule(self.known)
             ),
             format!(
-                "Widest beam {}, {}, budget {}.",
-                grouped(settings.width.into()),
+                "{}, {}, budget {}.",
+                widths::setting(&settings.beam),
                 length_limit(settings),
                 counted(settings.budget.into(), "expansion")
             ),
@@ -278,6 +278,7 @@ fn parts(
         }
     }
     parts.push(profile::part(known, settings));
+    parts.extend(widths::part(settings));
     parts.extend(warnings::part(warnings::of_model(known)));
     parts.push(work(run));
     parts

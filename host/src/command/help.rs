@@ -28,7 +28,9 @@ is assembled first (docs/TEXT.md); every other input is the bytes of a model, ex
 is always text.
 
 plan and explain:
-  --width W        widest beam: 1, 2, 4 up to 4096 (16)
+  --width W        widest beam: 1, 2, 4 up to 4096 (16); the rounds have the widths 1, 2, 4 up to it
+  --widths LIST    in place of --width, the rounds' own widths: 1 to 16 rising numbers from 1 to 4096 as in 1,200, of which the
+                   last is the widest beam
   --length L       length limit: 1 to 256 (64)
   --loading        in place of --length, for pure loading orders: the loading profile chooses the limit
   --profile        the same

@@ -46,7 +46,8 @@ pub fn search(source: &Source, settings: &Settings, run: &Run) -> Members {
         (
             "settings",
             Json::Object(vec![
-                ("width", settings.width.into()),
+                ("width", settings.beam.widest().into()),
+                ("widths", settings.beam.list().map(<[u16]>::to_vec).into()),
                 ("length", settings.length.into()),
                 ("budget", settings.budget.into()),
                 ("loading", settings.loading.into()),

@@ -127,16 +127,16 @@ impl Watch {
         let mut last: Option<(Run, Settings)> = None;
         let mut budget = FIRST;
         loop {
-            let mut now = settings;
+            let mut now = settings.clone();
             now.budget = budget;
             let started = Instant::now();
-            let result = start(&model, now);
+            let result = start(&model, now.clone());
             let run = match self.wait(&result, begun, last.is_some()) {
                 Ok(run) => run,
                 Err(stop) => return self.ended(last, Some(stop), spent),
             };
             spent.add(&run, started.elapsed());
-            self.tell(&run, now, &spent, transitions);
+            self.tell(&run, &now, &spent, transitions);
             let open = !run.answer.refused && run.answer.verdict == verdict::BUDGET_SPENT;
             let stop = self.stop_after(&run, begun).filter(|_| open);
             last = Some((run, now));
@@ -206,7 +206,7 @@ impl Watch {
     }
 
     /// One line about a finished run.
-    fn tell(&self, run: &Run, settings: Settings, spent: &Spent, transitions: usize) {
+    fn tell(&self, run: &Run, settings: &Settings, spent: &Spent, transitions: usize) {
         if !self.speaks_after(spent) || run.answer.refused {
             return;
         }

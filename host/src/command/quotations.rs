@@ -28,7 +28,7 @@ pub fn quotation(source: &Source, settings: &Settings, run: &Run) -> Option<Quot
         title: source.title.clone(),
         version: VERSION.to_string(),
         kit: KIT.trim().to_string(),
-        width: settings.width,
+        beam: settings.beam.clone(),
         length: settings.length,
         budget: settings.budget,
         said,

@@ -3,8 +3,10 @@
 use super::input::{looks_like_text, Source};
 use super::part::Part;
 use super::profile;
-use super::settings::{due, length_fits, width_fits, Run, Settings};
+use super::settings::{length_fits, width_fits, Run, Settings};
+use super::widths;
 use super::words::{counted, grouped};
+use crate::beam::Beam;
 use crate::numbers::{limit, refusal};
 use crate::reference::read_model;
 
@@ -19,6 +21,7 @@ pub fn by_input(source: &Source, settings: &Settings, number: u8) -> Part {
         refusal::BAD_SETTING => out_of_range(settings, &mut part),
         refusal::TOO_LITTLE_LENT => too_little_lent(settings, &mut part),
         refusal::OUTSIDE_PROFILE => profile::say_outside(source, &mut part),
+        refusal::BAD_WIDTHS => widths::say_wrong(settings, &mut part),
         _ => {
             part.say(meaning(number));
             if number == refusal::NOT_DUE && looks_like_text(&source.model) {
@@ -31,8 +34,8 @@ pub fn by_input(source: &Source, settings: &Settings, number: u8) -> Part {
     part
 }
 
-/// The line that goes with a bare refusal: which setting, how much is lent too little, text in place of bytes, or why a model is outside the
-/// loading profile.
+/// The line that goes with a bare refusal: which setting, how much is lent too little, text in place of bytes, why a model is outside the
+/// loading profile, or what is wrong with a list of widths.
 pub fn note(source: &Source, settings: &Settings, run: &Run) -> Option<String> {
     if !run.answer.refused {
         return None;
@@ -43,6 +46,7 @@ pub fn note(source: &Source, settings: &Settings, run: &Run) -> Option<String> {
         refusal::TOO_LITTLE_LENT => too_little_lent(settings, &mut part),
         refusal::NOT_DUE if looks_like_text(&source.model) => part.say(LOOKS_LIKE_TEXT),
         refusal::OUTSIDE_PROFILE => profile::say_outside(source, &mut part),
+        refusal::BAD_WIDTHS => widths::say_wrong(settings, &mut part),
         _ => return None,
     }
     let lines: Vec<&str> = part.lines.iter().map(|line| line.trim_start()).collect();
@@ -72,12 +76,13 @@ fn meaning(number: u8) -> &'static str {
 }
 
 fn out_of_range(settings: &Settings, part: &mut Part) {
-    if !width_fits(settings.width) {
-        part.say(format!(
+    match settings.beam {
+        Beam::UpTo(width) if !width_fits(width) => part.say(format!(
             "The widest beam is {}; it has to be a power of two from 1 to {}.",
-            grouped(settings.width.into()),
+            grouped(width),
             grouped(limit::WIDTH)
-        ));
+        )),
+        _ => {}
     }
     if !settings.loading && !length_fits(settings.length) {
         part.say(format!(
@@ -95,7 +100,7 @@ fn too_little_lent(settings: &Settings, part: &mut Part) {
         counted(plan_bytes as u64, "plan byte"),
         counted(words as u64, "working word")
     ));
-    let (plan_bytes, words) = due(settings.width, settings.length);
+    let (plan_bytes, words) = settings.due();
     let settings = match settings.loading {
         true => format!("the length chosen, {}", settings.length),
         false => "these settings".to_string(),

@@ -15,13 +15,15 @@ pub const CONTRADICTED: &str = "contradicted-only-if-false";
 pub const BROKEN_TARGET: &str = "no-plan-from-broken-target";
 pub const BROKEN_TARGET_ANSWER: &str = "broken-target-has-no-plan";
 pub const NO_LENGTH_STOP: &str = "no-length-stop-in-profile";
+pub const RISING_LIST: &str = "rising-list-guarantee";
+pub const BUILT_IN: &str = "built-in-is-a-list";
 pub const NOTHING_DECLARED: &str = "nothing-declared-is-true";
 pub const PLAN_CHECK: &str = "plan-check-exact";
 
 const MISSION: &str = "crates/search/proofs/Mission.antt";
 
 /// All of them.
-pub const THEOREMS: [Theorem; 10] = [
+pub const THEOREMS: [Theorem; 12] = [
     Theorem {
         name: A_PLAN,
         says: "Under every verdict a plan given is a plan of the model, at the cost stated.",
@@ -60,6 +62,16 @@ pub const THEOREMS: [Theorem; 10] = [
     Theorem {
         name: NO_LENGTH_STOP,
         says: "No run in the loading profile ends in a length stop, whatever the widths and the budget are.",
+        file: MISSION,
+    },
+    Theorem {
+        name: RISING_LIST,
+        says: "With a rising list of widths every mark means what it means without one, the last entry being the widest beam.",
+        file: MISSION,
+    },
+    Theorem {
+        name: BUILT_IN,
+        says: "A run up to a widest beam W is the run with the list 1, 2, 4 up to W, which rises.",
         file: MISSION,
     },
     Theorem {

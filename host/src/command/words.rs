@@ -32,6 +32,7 @@ pub fn refusal_name(number: u8) -> &'static str {
         refusal::NEGATIVE_COST => "negative cost",
         refusal::NOT_A_PLAN => "not a plan",
         refusal::OUTSIDE_PROFILE => "outside the loading profile",
+        refusal::BAD_WIDTHS => "bad widths",
         _ => "unknown",
     }
 }

@@ -1,5 +1,6 @@
 //! The rounds of a run by the rules of documents 01 and 02, over two layers and back pointers.
 
+use super::ladder::Ladder;
 use super::layer::{Entry, Layer, Node};
 use super::program::{Program, Transition};
 use super::Counts;
@@ -36,7 +37,7 @@ struct Marks {
 
 pub struct Run<'a> {
     program: &'a Program,
-    widest: u64,
+    ladder: Ladder,
     length: u64,
     budget: u64,
     low: i64,
@@ -45,7 +46,6 @@ pub struct Run<'a> {
     plan: Option<Vec<u8>>,
     expansions: u64,
     rounds: u64,
-    width: u64,
     counts: Counts,
     backs: Vec<Back>,
     next: Layer,
@@ -55,10 +55,10 @@ pub struct Run<'a> {
 }
 
 impl<'a> Run<'a> {
-    pub fn new(program: &'a Program, width: u64, length: u64, budget: u64) -> Run<'a> {
+    pub fn new(program: &'a Program, ladder: Ladder, length: u64, budget: u64) -> Run<'a> {
         Run {
             program,
-            widest: width,
+            ladder,
             length,
             budget,
             low: 0,
@@ -66,7 +66,6 @@ impl<'a> Run<'a> {
             plan: None,
             expansions: 0,
             rounds: 1,
-            width: 1,
             counts: Counts::default(),
             backs: Vec::new(),
             next: Layer::default(),
@@ -91,7 +90,7 @@ impl<'a> Run<'a> {
             bound: self.low as u64,
             expansions: self.expansions,
             rounds: self.rounds,
-            width: self.width,
+            width: self.ladder.width(),
             ..Answer::default()
         };
         match end {
@@ -136,7 +135,7 @@ impl<'a> Run<'a> {
                 return Ok(number);
             }
             self.rounds += 1;
-            self.width = self.widest.min(2 * self.width);
+            self.ladder.climb();
         }
     }
 
@@ -171,7 +170,7 @@ impl<'a> Run<'a> {
         let mut order = vec![0];
         let mut first_back = TARGET;
         for steps in 0..=self.length {
-            self.next.reset(self.width as usize);
+            self.next.reset(self.ladder.width() as usize);
             for (back, slot) in (first_back..).zip(&order) {
                 let node = *layer.node(*slot);
                 self.take(&node, back, steps)?;
@@ -212,7 +211,7 @@ impl<'a> Run<'a> {
             None
         } else if !marks.width {
             Some(verdict::LENGTH_STOP)
-        } else if self.width == self.widest {
+        } else if self.ladder.at_top() {
             Some(verdict::WIDTH_STOP)
         } else {
             None

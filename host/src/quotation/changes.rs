@@ -1,6 +1,7 @@
 //! What changed between two quotations, in sentences.
 
 use super::{mark, Quotation};
+use crate::beam::{joined, Beam};
 use crate::reference::read_model;
 use crate::reference::syntax::{CostRule, Model};
 use crate::text::{Listing, Names};
@@ -26,8 +27,8 @@ pub fn changes(old: &Quotation, new: &Quotation) -> Vec<String> {
                 .map(|line| format!("  {line}")),
         );
     }
+    told.extend(of_widths(&old.beam, &new.beam));
     let settings = [
-        ("The widest beam", old.width, new.width),
         ("The length limit", old.length, new.length),
         ("The budget", old.budget, new.budget),
     ];
@@ -70,6 +71,27 @@ fn went(what: &str, before: u64, after: u64) -> Option<String> {
         std::cmp::Ordering::Greater => {
             Some(format!("{what} fell by {by}, from {before} to {after}."))
         }
+    }
+}
+
+/// The widths of the rounds in words.
+fn widths(beam: &Beam) -> String {
+    match beam {
+        Beam::UpTo(1) => "1".to_string(),
+        Beam::UpTo(widest) => format!("1, 2, 4 up to {widest}"),
+        Beam::Listed(widths) => joined(widths, ", "),
+    }
+}
+
+fn of_widths(old: &Beam, new: &Beam) -> Option<String> {
+    match (old, new) {
+        (Beam::UpTo(before), Beam::UpTo(after)) => went("The widest beam", *before, *after),
+        _ if old == new => None,
+        _ => Some(format!(
+            "The widths were {} and are now {}.",
+            widths(old),
+            widths(new)
+        )),
     }
 }
 

@@ -2,6 +2,7 @@
 
 use super::writing::mark;
 use super::{Quotation, Said, TITLE};
+use crate::beam::Beam;
 use crate::numbers::{limit, verdict};
 use crate::text::{Error, Place};
 
@@ -81,7 +82,7 @@ pub fn read(text: &str) -> Result<Quotation, Error> {
     let title = lines.text("model")?;
     let version = lines.text("version")?;
     let kit = lines.text("kit")?;
-    let width = lines.number("width", limit::WIDTH as u32)?;
+    let beam = beam(&mut lines)?;
     let length = lines.number("length", limit::LENGTH as u32)?;
     let budget = lines.number("budget", u32::MAX)?;
     let said = said(&mut lines)?;
@@ -103,13 +104,30 @@ pub fn read(text: &str) -> Result<Quotation, Error> {
         title,
         version,
         kit,
-        width,
+        beam,
         length,
         budget,
         said,
         names,
         model,
     })
+}
+
+/// The widest beam, or the widths of a list with a comma between two.
+fn beam(lines: &mut Lines) -> Result<Beam, Error> {
+    let most = limit::WIDTH as u32;
+    if !lines.peek().unwrap_or("").starts_with("widths:") {
+        return Ok(Beam::UpTo(lines.number("width", most)?.into()));
+    }
+    let (column, value) = lines.value("widths")?;
+    let width = |item: &str| digits(item).filter(|width| *width <= u64::from(most));
+    let widths = value.split(',').map(|item| Some(width(item)? as u16));
+    let Some(widths) = widths.collect::<Option<Vec<u16>>>() else {
+        let message = format!("expected numbers from 0 to {most} with a comma between two");
+        return lines.wrong(column, message);
+    };
+    lines.at += 1;
+    Ok(Beam::Listed(widths))
 }
 
 /// The fields, a colon and the plan.

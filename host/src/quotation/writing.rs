@@ -1,6 +1,7 @@
 //! A quotation as text.
 
 use super::{Quotation, Said, TITLE};
+use crate::beam::{joined, Beam};
 use crate::command::words::verdict_name;
 
 /// How many bytes of the model stand in a line.
@@ -24,7 +25,7 @@ pub fn one_line(text: &str) -> String {
 
 pub fn written(quotation: &Quotation) -> String {
     let Quotation {
-        width,
+        beam,
         length,
         budget,
         said,
@@ -32,11 +33,15 @@ pub fn written(quotation: &Quotation) -> String {
         ..
     } = quotation;
     let mut text = format!("{TITLE}\n\n");
+    let widths = match beam {
+        Beam::UpTo(width) => ("width", width.to_string()),
+        Beam::Listed(widths) => ("widths", joined(widths, ",")),
+    };
     let head = [
         ("model", one_line(&quotation.title)),
         ("version", one_line(&quotation.version)),
         ("kit", one_line(&quotation.kit)),
-        ("width", width.to_string()),
+        widths,
         ("length", length.to_string()),
         ("budget", budget.to_string()),
         ("line", said.line()),

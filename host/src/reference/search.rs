@@ -1,11 +1,14 @@
-//! The search: complete anytime beam search by the rules of document 01, with the target tested as document 02, §1 says, and
-//! with the length of the loading profile, §2.
+//! The search: complete anytime beam search by the rules of document 01, with the target tested as document 02, §1 says,
+//! with the length of the loading profile, §2, and with the widths of a list, §4.
 
 use super::meaning::State;
 use super::read::read_model;
 use super::syntax::{Model, Transition};
+use super::widths::Widths;
 use crate::answer::Answer;
-use crate::numbers::refusal::{BAD_SETTING, MODEL_TOO_LONG, OUTSIDE_PROFILE, TOO_LITTLE_LENT};
+use crate::numbers::refusal::{
+    BAD_SETTING, BAD_WIDTHS, MODEL_TOO_LONG, OUTSIDE_PROFILE, TOO_LITTLE_LENT,
+};
 use crate::numbers::{limit, verdict, words_needed};
 use std::cmp::Ordering;
 
@@ -18,28 +21,74 @@ pub fn search(
     buffer: &mut [u8],
     words: u64,
 ) -> Answer {
-    match admitted(model, width, length, buffer.len() as u64, words) {
-        Ok(model) => Run::of(&model, width, length, budget).answered(buffer),
-        Err(refusal) => Answer::refused_by_input(refusal),
-    }
+    plain(model, Widths::UpTo(width), length, budget, buffer, words)
 }
 
-/// The same in the loading profile, which chooses the length.
+/// The same with a list of widths in the place of the widest beam.
+pub fn search_widths(
+    model: &[u8],
+    widths: &[u16],
+    length: u64,
+    budget: u64,
+    buffer: &mut [u8],
+    words: u64,
+) -> Answer {
+    plain(model, Widths::Listed(widths), length, budget, buffer, words)
+}
+
+/// A search in the loading profile, which chooses the length.
 pub fn load(model: &[u8], width: u64, budget: u64, buffer: &mut [u8], words: u64) -> Answer {
-    match admitted_loading(model, width, buffer.len() as u64, words) {
-        Ok((model, length)) => Run::of(&model, width, length, budget).answered(buffer),
+    loading(model, Widths::UpTo(width), budget, buffer, words)
+}
+
+/// The same with a list of widths.
+pub fn load_widths(
+    model: &[u8],
+    widths: &[u16],
+    budget: u64,
+    buffer: &mut [u8],
+    words: u64,
+) -> Answer {
+    loading(model, Widths::Listed(widths), budget, buffer, words)
+}
+
+fn plain(
+    model: &[u8],
+    widths: Widths,
+    length: u64,
+    budget: u64,
+    buffer: &mut [u8],
+    words: u64,
+) -> Answer {
+    match admitted(model, widths, length, buffer.len() as u64, words) {
+        Ok(model) => Run::of(&model, widths, length, budget).answered(buffer),
         Err(refusal) => Answer::refused_by_input(refusal),
     }
 }
 
-fn width_fits(width: u64) -> bool {
-    (1..=limit::WIDTH).contains(&width) && width.is_power_of_two()
+fn loading(model: &[u8], widths: Widths, budget: u64, buffer: &mut [u8], words: u64) -> Answer {
+    match admitted_loading(model, widths, buffer.len() as u64, words) {
+        Ok((model, length)) => Run::of(&model, widths, length, budget).answered(buffer),
+        Err(refusal) => Answer::refused_by_input(refusal),
+    }
+}
+
+/// Whether a search can have these widths and this length; in the loading profile none is given.
+fn settings_fit(widths: Widths, length: Option<u64>) -> Result<(), u8> {
+    let length_fits = |length| (1..=limit::LENGTH).contains(&length);
+    if !widths.setting_fits() || !length.is_none_or(length_fits) {
+        return Err(BAD_SETTING);
+    }
+    if !widths.list_fits() {
+        return Err(BAD_WIDTHS);
+    }
+    Ok(())
 }
 
 /// The model, or the refusal by the input.
 fn admitted(
     model: &[u8],
-    width: u64,
+    widths: Widths,
     length: u64,
     plan_bytes: u64,
     words: u64,
@@ -47,10 +96,8 @@ fn admitted(
     if model.len() > limit::MODEL_BYTES {
         return Err(MODEL_TOO_LONG);
     }
-    if !width_fits(width) || !(1..=limit::LENGTH).contains(&length) {
-        return Err(BAD_SETTING);
-    }
-    if plan_bytes < length || words < words_needed(width, length) {
+    settings_fit(widths, Some(length))?;
+    if plan_bytes < length || words < words_needed(widths.widest(), length) {
         return Err(TOO_LITTLE_LENT);
     }
     read_model(model)
@@ -59,22 +106,20 @@ fn admitted(
 /// The model and the length that is chosen for it, or the refusal by the input.
 fn admitted_loading(
     model: &[u8],
-    width: u64,
+    widths: Widths,
     plan_bytes: u64,
     words: u64,
 ) -> Result<(Model, u64), u8> {
     if model.len() > limit::MODEL_BYTES {
         return Err(MODEL_TOO_LONG);
     }
-    if !width_fits(width) {
-        return Err(BAD_SETTING);
-    }
+    settings_fit(widths, None)?;
     let model = read_model(model)?;
     if !model.in_profile() {
         return Err(OUTSIDE_PROFILE);
     }
     let chosen = model.loading_length();
-    if plan_bytes < chosen || words < words_needed(width, chosen) {
+    if plan_bytes < chosen || words < words_needed(widths.widest(), chosen) {
         return Err(TOO_LITTLE_LENT);
     }
     Ok((model, chosen))
@@ -126,7 +171,7 @@ struct Round {
 
 struct Run<'a> {
     model: &'a Model,
-    widest: u64,
+    widths: Widths<'a>,
     length: u64,
     budget: u64,
     low: i64,
@@ -136,18 +181,18 @@ struct Run<'a> {
     width: u64,
 }
 
-impl Run<'_> {
-    fn of(model: &Model, width: u64, length: u64, budget: u64) -> Run<'_> {
+impl<'a> Run<'a> {
+    fn of(model: &'a Model, widths: Widths<'a>, length: u64, budget: u64) -> Run<'a> {
         Run {
             model,
-            widest: width,
+            widths,
             length,
             budget,
             low: 0,
             best: None,
             expansions: 0,
             rounds: 1,
-            width: 1,
+            width: widths.of_round(1),
         }
     }
 
@@ -180,7 +225,7 @@ impl Run<'_> {
                 return end;
             }
             self.rounds += 1;
-            self.width = self.widest.min(2 * self.width);
+            self.width = self.widths.of_round(self.rounds);
         }
     }
 
@@ -242,7 +287,7 @@ impl Run<'_> {
         if round.found_plan {
             return Ok(());
         }
-        match (round.width_mark, self.width == self.widest) {
+        match (round.width_mark, self.width == self.widths.widest()) {
             (true, false) => Ok(()),
             (true, true) => Err(End::Verdict(verdict::WIDTH_STOP)),
             (false, _) => Err(End::Verdict(verdict::LENGTH_STOP)),

@@ -10,7 +10,7 @@ use std::ffi::OsString;
 const THROUGH_PROGRAM: usize = 300;
 const THROUGH_FUNCTION: usize = 10_000;
 
-const COMMANDS: [&[&str]; 6] = [
+const COMMANDS: [&[&str]; 8] = [
     &["plan", "--budget", "200"],
     &[
         "plan", "--fields", "--width", "4", "--length", "6", "--budget", "200",
@@ -20,6 +20,17 @@ const COMMANDS: [&[&str]; 6] = [
     ],
     &["plan", "--loading", "--budget", "200"],
     &["explain", "--loading", "--width", "4", "--budget", "200"],
+    &[
+        "plan", "--widths", "1,7", "--length", "6", "--budget", "200",
+    ],
+    &[
+        "explain",
+        "--loading",
+        "--widths",
+        "3,5,6",
+        "--budget",
+        "200",
+    ],
     &["check", "--plan", "0,1"],
 ];
 

@@ -1,6 +1,8 @@
 //! `repgypsum explain`: what is said of every verdict and every refusal.
 
-use super::{designs_and, designs_with, example, file, repository, run, run_with, EXAMPLES};
+use super::{
+    beam_option, designs_and, designs_with, example, file, repository, run, run_with, EXAMPLES,
+};
 use repgypsum_host::cases::{groups, Call};
 
 /// Explains a text at these settings: all of these words are said, and none points at a disagreement.
@@ -180,11 +182,10 @@ fn stored_searches() {
                 continue;
             };
             let settings = [
-                ("--width", search.width),
-                ("--length", search.length),
-                ("--budget", search.budget),
+                beam_option(&search.beam),
+                format!("--length={}", search.length),
+                format!("--budget={}", search.budget),
             ];
-            let settings = settings.map(|(name, value)| format!("{name}={value}"));
             let mut arguments = vec!["explain"];
             arguments.extend(settings.iter().map(String::as_str));
             let left = run_with(&arguments, &search.model);

@@ -159,6 +159,8 @@ fn documents_are_those_of_the_page() {
     document(page, 0, &["plan", "--json", &bytes]);
     document(page, 0, &["explain", "--json", &bytes]);
     document(page, 1, &["plan", "--json", "--width=3", &bytes]);
+    document(page, 0, &["plan", "--json", "--widths=1,200", &bytes]);
+    document(page, 1, &["explain", "--json", "--widths=", &bytes]);
     document(page, 1, &["plan", "--json", &cut]);
     document(page, 1, &["explain", "--json", &cut]);
     document(page, 1, &["explain", "--json", &troubled]);

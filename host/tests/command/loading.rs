@@ -233,7 +233,7 @@ fn stored_loads() {
         };
         let (answer, after) = load.run();
         let numbers = [
-            load.width,
+            load.beam.widest(),
             load.budget,
             load.buffer.len() as u64,
             load.words,

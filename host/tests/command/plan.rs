@@ -1,6 +1,6 @@
 //! `repgypsum plan`: the line, the fields, settings at the edges, what is lent.
 
-use super::{designs_with, example, file, run, run_with, EXAMPLES};
+use super::{beam_option, designs_with, example, file, run, run_with, EXAMPLES};
 use repgypsum_host::cases::{groups, Call};
 use repgypsum_host::line::answer_line;
 use repgypsum_host::models::three_designs;
@@ -155,15 +155,14 @@ fn stored_searches() {
             };
             let (answer, after) = search.run();
             let words = search.words.min(400_000).to_string();
-            let numbers = [search.width, search.length, search.budget].map(|n| n.to_string());
+            let numbers = [search.length, search.budget].map(|n| n.to_string());
             let arguments = [
                 "plan",
-                "--width",
-                &numbers[0],
+                &beam_option(&search.beam),
                 "--length",
-                &numbers[1],
+                &numbers[0],
                 "--budget",
-                &numbers[2],
+                &numbers[1],
                 "--plan-bytes",
                 &search.buffer.len().to_string(),
                 "--words",

@@ -2,10 +2,12 @@
 
 use super::quotations::quoted;
 use super::{example, file, run};
+use repgypsum_host::beam::Beam;
+use repgypsum_host::generate::widths::rising;
 use repgypsum_host::generate::{model, settings, Random};
 use repgypsum_host::numbers::words_needed;
 use repgypsum_host::quotation::{changes, read, written, Quotation, Said};
-use repgypsum_host::reference::search;
+use repgypsum_host::reference::{search, search_widths};
 
 /// A quotation with one thing wrong, and what is said of it at which place.
 #[test]
@@ -122,9 +124,16 @@ fn random_runs() {
     for _ in 0..500 {
         let bytes = model(&mut random).end();
         let (width, length, budget) = settings(&mut random);
+        let beam = match random.chance(50) {
+            true => Beam::Listed(rising(&mut random)),
+            false => Beam::UpTo(width),
+        };
         let mut plan = vec![0; length as usize];
-        let words = words_needed(width, length);
-        let answer = search(&bytes, width, length, budget, &mut plan, words);
+        let words = words_needed(beam.widest(), length);
+        let answer = match &beam {
+            Beam::UpTo(width) => search(&bytes, *width, length, budget, &mut plan, words),
+            Beam::Listed(widths) => search_widths(&bytes, widths, length, budget, &mut plan, words),
+        };
         plan.truncate(answer.length as usize);
         let Some(said) = Said::of(&answer, &plan) else {
             continue;
@@ -133,7 +142,7 @@ fn random_runs() {
             title: "ä \"model\"".to_string(),
             version: "1".to_string(),
             kit: String::new(),
-            width: width as u32,
+            beam,
             length: length as u32,
             budget: budget as u32,
             names: said

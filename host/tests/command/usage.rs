@@ -27,6 +27,7 @@ fn help_and_version() {
     }
     for option in [
         "--width",
+        "--widths",
         "--length",
         "--loading",
         "--profile",

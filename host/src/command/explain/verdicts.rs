@@ -1,5 +1,6 @@
 //! What is proved of each verdict, and what a stopped or contradicted run leaves open.
 
+use crate::beam::Beam;
 use crate::command::input::Source;
 use crate::command::known::Known;
 use crate::command::part::Part;
@@ -8,6 +9,7 @@ use crate::command::target;
 use crate::command::theorems::{
     A_PLAN, CHEAPEST, CONTRADICTED, NOTHING_DECLARED, NO_PLAN, PLAN_CHECK, STOPPED,
 };
+use crate::command::widths;
 use crate::command::words::{capital, counted, grouped};
 use crate::numbers::{limit, verdict};
 use crate::proved;
@@ -102,19 +104,28 @@ fn stopped(known: &Known, settings: &Settings, run: &Run) -> Part {
 fn width_stop(settings: &Settings, part: &mut Part) {
     part.say(format!(
         "A layer had more states than the widest beam keeps, and some were cut at width {}.",
-        grouped(settings.width.into())
+        grouped(settings.beam.widest())
     ));
-    if u64::from(settings.width) < limit::WIDTH {
-        part.say(format!(
-            "To change: a wider beam, --width {} or more, up to {}.",
-            settings.width * 2,
+    part.say(match wider(settings) {
+        Some(option) => format!(
+            "To change: a wider beam, {option} or more, up to {}.",
             limit::WIDTH
-        ));
-    } else {
-        part.say("The beam is the widest there is. Higher bounds, preferences or constraints would leave fewer states.");
-    }
+        ),
+        None => "The beam is the widest there is. Higher bounds, preferences or constraints would leave fewer states.".to_string(),
+    });
     if !settings.loading {
         part.say("Then the length limit may stop the run, which shows only when no state is cut.");
+    }
+}
+
+/// The option that asks for a wider beam; nothing where it is the widest there is.
+fn wider(settings: &Settings) -> Option<String> {
+    match &settings.beam {
+        Beam::UpTo(width) => (*width < limit::WIDTH).then(|| format!("--width {}", width * 2)),
+        Beam::Listed(list) => {
+            let list = widths::wider(list)?;
+            Some(format!("--widths {}", widths::option(&list)))
+        }
     }
 }
 

@@ -4,6 +4,7 @@ use mathlib.Core.Path.{_≡_, refl, subst, sym}
 use mathlib.Core.List.{List, _++_}
 use native.Mathlib.Omega.{arith}
 use borrow.Author.Needs.{needs}
+use Rattle.search.proofs.Settings.{some-entries}
 use Rattle.steps.specs.InBytes.{originIn}
 use Rattle.beam.specs.Nodes.{headerOf}
 use Rattle.search_paths.specs.Routes.{RootIs}
@@ -13,20 +14,21 @@ use Rattle.solver.proofs.Entering.{target-root, says-run, says-broken, 
 use Rattle.solver.proofs.entry.search_model.Statement.{statement}
 use Rattle.solver.proofs.entry.search_model.Tie as tie
 
+-- places behind each other, from the last back
 abbrev begun : tie.After-start → tie.Start
-begun c = c .before .before .before .before .before
+begun c = search
 
 -- the target's words, before it was entered
 abbrev started : tie.After-enter → tie.After-start
-started c = c .before .before .before
+started c = search
 
 -- it was entered before the root was written
 abbrev entered : tie.After-write-root → tie.After-enter
-entered c = c .before .before .before .before .before .before
+entered c = search
 
 -- and the root was written before the rounds
 abbrev rooted : tie.After-rounds → tie.After-write-root
-rooted c = c .before .before .before .before .before
+rooted c = search
 
 -- the target's words
 abbrev target : tie.After-start → List ℕ
@@ -37,8 +39,9 @@ at-root : (c : tie.After-write-root) (h : ℕ) → c .write-root .last .1 .1 .0 
     → RootIs (begun (started (entered c)) .args .model .now) (c .write-root .last .1 .1 .0) (originIn (begun (started (entered c)) .args .model .now)) h
 at-root c h e =
     let first = started (entered c) in
-    let bytes = begun first .args .model .now in
-    subst (λ (l : List ℕ). RootIs bytes l (originIn bytes) h) (sym e) (target-root bytes (begun first .args .limits .width) (begun first .args .limits .length) (begun first .args .limits .budget) (target first) h (first .start .ensures))
+    let a = begun first .args in
+    let bytes = a .model .now in
+    subst (λ (l : List ℕ). RootIs bytes l (originIn bytes) h) (sym e) (target-root bytes (a .widths .now) (a .limit) (a .budget) (target first) h (first .start .ensures))
 
 enter-requires : tie.Need-enter-requires
 enter-requires c κs =
@@ -59,7 +62,7 @@ rounds-requires c κs =
       outlined = pre .outlined;
       room = record { some-width = pre .room .some-width; narrow = pre .room .narrow; few-steps = pre .room .few-steps; plan-room = omega (arith, pre .room .few-steps); words-room = pre .room .words-room };
       root-fits = record { long = done .write-root .kept .1 .1 .0; before = 0; few-steps = omega (arith, pre .room .few-steps); cost = rw (done .write-root .ensures) (omega arith) };
-      width = pre .width;
+      rises = pre .rises;
       small-budget = pre .small-budget;
     }
 
@@ -78,25 +81,36 @@ report-requires c κs =
       inside = runs .inside;
     }
 
+width-at-requires : tie.Need-width-at-requires
+width-at-requires c κs = let first : tie.After-start = search in some-entries (begun first .args .widths .now) (begun first .pre .rises)
+
+width-at-requires-2 : tie.Need-width-at-requires-2
+width-at-requires-2 c κs = let first : tie.After-start = search in some-entries (begun first .args .widths .now) (begun first .pre .rises)
+
 returns : tie.Need-returns
 returns c =
     let here : tie.After-rounds = search in
     let told : tie.After-report = search in
     let done = rooted here in
+    let bounded : tie.After-h = search in
     let asked = entered done in
-    says-run _ _ _ _ _ _ _ _ (asked .enter .ensures) _ (done .before .before .before .before .h .given .1) _ _ _ _ (at-root done _ (done .write-root .ensures)) (here .rounds .ensures) (told .report .ensures)
+    says-run _ _ _ _ _ _ _ _ (asked .enter .ensures) _ (bounded .h .given .1) _ _ _ _ (at-root done _ (done .write-root .ensures)) (here .rounds .ensures) (told .report .ensures)
 
 returns-2 : tie.Need-returns-2
 unfolding outcomeOf verdictOf
 returns-2 c =
     let asked : tie.After-enter = search in
-    says-broken _ _ _ _ _ _ _ _ (asked .enter .ensures) (c .before .enum-told .given .1) refl (c .ended-at-target .ensures)
+    let broken : tie.After-enum-told = search in
+    let first : tie.After-width-at = search in
+    says-broken _ _ _ _ _ _ _ _ (asked .enter .ensures) _ (first .width-at .ensures) (broken .enum-told .given .1) refl (c .ended-at-target .ensures)
 
 returns-3 : tie.Need-returns-3
 unfolding outcomeOf
 returns-3 c =
     let asked : tie.After-enter = search in
-    says-troubled _ _ _ _ _ _ _ _ (asked .enter .ensures) _ (c .before .before .t .given .1) refl (c .ended-at-target2 .ensures)
+    let troubled : tie.After-t = search in
+    let first : tie.After-width-at2 = search in
+    says-troubled _ _ _ _ _ _ _ _ (asked .enter .ensures) _ _ (first .width-at2 .ensures) (troubled .t .given .1) refl (c .ended-at-target2 .ensures)
 
 pub search-model-spec : {M : Type 1} → statement M
 search-model-spec =
@@ -113,8 +127,10 @@ search-model-spec =
     (λ c. search needs)
     report-requires
     (λ c. search needs)
+    width-at-requires
     (λ c κs. search needs)
     (λ c. search needs)
+    width-at-requires-2
     (λ c κs. search needs)
     (λ c. search needs)
     (λ c. search needs)

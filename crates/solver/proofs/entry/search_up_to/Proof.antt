@@ -1,111 +1,97 @@
--- `solver::entry::search_up_to` meets its contract: the tests in their order, then the search. Each test's fact stands at its place.
-use mathlib.Core.Path.{_≡_, sym, _∙_}
+-- `solver::entry::search_up_to` meets its contract: the tests in their order, then what follows them at the built-in widths up to W.
+use Prim.Native.Nat.{_≤_}
+use mathlib.Core.Path.{_≡_, refl, sym, _∙_}
 use mathlib.Core.Bool.{true}
-use Prim.Native.Nat.{_≤_, _<_}
 use native.Mathlib.Omega.{arith}
 use lib.ListN.{length}
-use Rattle.steps.specs.InBytes.{refusalIn}
-use Rattle.search.specs.Run.{settingsFit, lentFits}
-use Rattle.solver.specs.Searches.{settings, lent}
-use Rattle.steps.proofs.Promises.{ready}
-use Rattle.search.proofs.Source.{run-too-long, run-bad-setting, run-lent-before}
-use Rattle.solver.proofs.Entering.{fit-whatever, width-fits, some-steps, narrow, lent-both, refused-says, unread-run, read-says}
+use lib.Seq.{length-take-le}
 use borrow.Author.Needs.{needs}
+use Rattle.beam_widths.proofs.Rising.{widths}
+use Rattle.search.specs.Run.{upTo, plain, formFits}
+use Rattle.search.proofs.Settings.{given-within}
+use Rattle.search.proofs.Source.{run-too-long, run-bad-setting}
+use Rattle.solver.specs.Searches.{settings, lent}
+use Rattle.solver.proofs.Entering.{bad-length, refused-says, no-width, front-rises, built-in-says}
 use Rattle.solver.proofs.entry.search_up_to.Statement.{statement}
 use Rattle.solver.proofs.entry.search_up_to.Tie as tie
 
--- the start of a run whose model is short enough
-abbrev short : tie.Else1 → tie.Start
-short c = c .before .before .before .before
+-- places behind each other, from the last back
+abbrev start-of : tie.Else1 → tie.Start
+start-of c = search
 
--- the settings are within their ranges
-abbrev start : tie.Then2 → tie.Start
-start c = short (c .before .before)
+abbrev short-of : tie.After-is-length → tie.Else1
+short-of c = search
 
-fit : (c : tie.Then2) → settingsFit (settings (start c .args .width) (start c .args .limit) (start c .args .budget)) ≡ true
-fit c = fit-whatever (start c .args .width) (start c .args .limit) (start c .args .budget) 0 ∙ sym (c .before .settings-fit .ensures) ∙ c .if2 .taken
+abbrev asked-of : tie.Then2 → tie.After-is-length
+asked-of c = search
 
-is-width : (c : tie.Then2) → (0 < start c .args .width) × (start c .args .width ≤ 4096)
-is-width c = narrow (start c .args .width) (start c .args .limit) (start c .args .budget) (fit c)
+abbrev length-of : tie.After-built-in → tie.Then2
+length-of c = search
 
-few-steps : (c : tie.Then2) → start c .args .limit ≤ 256
-few-steps c = some-steps (start c .args .width) (start c .args .limit) (start c .args .budget) (fit c)
+abbrev count-of : tie.Then3 → tie.After-built-in
+count-of c = search
 
--- enough is lent
-enough : (c : tie.Then3) → let a = start (c .before .before) .args in lentFits (a .width) (a .limit) (lent (a .plan .now) (a .words .now)) ≡ true
-enough c = sym (c .before .lent-fits .ensures) ∙ c .if3 .taken
+abbrev begun : tie.Then2 → tie.Start
+begun c = start-of (short-of (asked-of c))
 
--- the model is read
-abbrev reading : tie.Then4 → tie.Then3
-reading c = c .before .before .before .before
+few : (c : tie.Then2) → length (begun c .args .model .now) ≤ begun c .args .most
+few c = short-of (asked-of c) .if1 .left
 
-read : (c : tie.Then4) → 0 ≡ refusalIn (start (reading c .before .before) .args .model .now)
-read c = sym (c .if4 .taken) ∙ c .before .before .read-and-prepare .ensures .0
-
-abbrev searching : tie.After-search-model → tie.Then4
-searching c = c .before .before .before .before
+fits : (c : tie.Then2) → formFits (plain (begun c .args .limit)) ≡ true
+fits c = sym (asked-of c .is-length .ensures) ∙ c .if2 .taken
 
 returns : tie.Need-returns
 returns c =
-    let a = c .before .before .before .before .before .args in
+    let start : tie.Start = search in
+    let long : tie.Then1 = search in
+    let a = start .args in
     refused-says (a .most) (a .model .now) (a .plan .now) (a .words .now) (settings (a .width) (a .limit) (a .budget)) 1 _
-    (run-too-long (a .most) (a .model .now) (settings (a .width) (a .limit) (a .budget)) (lent (a .plan .now) (a .words .now)) (c .before .if1 .taken)) (c .refusal .ensures)
+    (run-too-long (a .most) (a .model .now) (settings (a .width) (a .limit) (a .budget)) (lent (a .plan .now) (a .words .now)) (long .if1 .taken)) (c .refusal .ensures)
 
-lent-fits-requires : tie.Need-lent-fits-requires
-lent-fits-requires c κs = (is-width c .1, few-steps c)
+slice-aggregate-search-set : tie.Need-slice-aggregate-search-set
+slice-aggregate-search-set c = let found : tie.After-built-in = search in sym (length-take-le _ widths (found .built-in .ensures .inside))
 
-search-model-requires : tie.Need-search-model-requires
-search-model-requires c κs =
-    let read = c .before .before .before in
-    let room = reading read in
-    let tests = room .before .before in
-    let a = start tests .args in
-    let both = lent-both (a .width) (a .limit) (length (a .plan .now)) (length (a .words .now)) (enough room) in
-    let outlined = read .before .before .read-and-prepare .ensures in
+search-set-requires : tie.Need-search-set-requires
+search-set-requires c κs =
+    let some : tie.Then3 = search in
+    let found = count-of some in
+    let here = length-of found in
+    let start = begun here in
+    let a = start .args in
     record {
-      outlined = ready (outlined .1 (read .if4 .taken));
-      room = record { some-width = is-width tests .0; narrow = is-width tests .1; few-steps = few-steps tests; plan-room = both .0; words-room = both .1 };
-      width = width-fits (a .width) (a .limit) (a .budget) (fit tests);
-      small-budget = search needs;
+      few-bytes = omega (arith, few here, start .pre);
+      rises = front-rises (a .most) (a .model .now) (a .plan .now) (a .words .now) (a .width) (a .budget) _ (plain (a .limit)) (few here) (fits here) (found .built-in .ensures) (some .if3 .taken) _ refl;
+      few-steps = given-within (a .limit) (fits here) .1;
     }
 
 returns-2 : tie.Need-returns-2
 returns-2 c =
-    let found = c .before .before .before .before in
-    let room = reading (searching found) in
-    let tests = room .before .before in
-    let a = start tests .args in
-    read-says (a .most) (a .model .now) (a .plan .now) (a .words .now) (a .width) (a .limit) (a .budget) (tests .before .before .if1 .left) (fit tests) (enough room)
-    (read (searching found)) _ _ _ (found .search-model .ensures)
+    let told : tie.After-search-set = search in
+    let some : tie.Then3 = search in
+    let found = count-of some in
+    let here = length-of found in
+    let a = begun here .args in
+    built-in-says (a .most) (a .model .now) (a .plan .now) (a .words .now) (a .width) (a .budget) _ (plain (a .limit)) (few here) (fits here) (found .built-in .ensures) (some .if3 .taken) _ refl _ _ _ (told .search-set .ensures)
 
 returns-3 : tie.Need-returns-3
 returns-3 c =
-    let read = c .before .before .before in
-    let room = read .before .before in
-    let tests = room .before .before in
-    let a = start tests .args in
-    refused-says (a .most) (a .model .now) (a .plan .now) (a .words .now) (settings (a .width) (a .limit) (a .budget)) _ _
-    (unread-run (a .most) (a .model .now) (a .plan .now) (a .words .now) (a .width) (a .limit) (a .budget) (tests .before .before .if1 .left) (fit tests) (enough room)
-    _ (read .read-and-prepare .ensures .0) (omega (arith, c .before .if4 .left)))
-    (c .refusal2 .ensures)
+    let none : tie.Else3 = search in
+    let found : tie.After-built-in = search in
+    let here = length-of found in
+    let a = begun here .args in
+    refused-says (a .most) (a .model .now) (a .plan .now) (a .words .now) (settings (a .width) (a .limit) (a .budget)) 2 _
+    (no-width (a .most) (a .model .now) (a .plan .now) (a .words .now) (a .width) (a .budget) _ (plain (a .limit)) (few here) (fits here) (found .built-in .ensures) (none .if3 .left)) (c .refusal2 .ensures)
 
 returns-4 : tie.Need-returns-4
 returns-4 c =
-    let tests = c .before .before .before in
-    let a = start tests .args in
-    refused-says (a .most) (a .model .now) (a .plan .now) (a .words .now) (settings (a .width) (a .limit) (a .budget)) 3 _
-    (run-lent-before (a .most) (a .model .now) (settings (a .width) (a .limit) (a .budget)) (lent (a .plan .now) (a .words .now)) (tests .before .before .if1 .left) (fit tests)
-    (sym (c .before .before .lent-fits .ensures) ∙ c .before .if3 .left))
-    (c .refusal3 .ensures)
-
-returns-5 : tie.Need-returns-5
-returns-5 c =
-    let tested = c .before .before in
-    let a = short (tested .before) .args in
+    let unfit : tie.Else2 = search in
+    let asked : tie.After-is-length = search in
+    let short = short-of asked in
+    let a = start-of short .args in
     refused-says (a .most) (a .model .now) (a .plan .now) (a .words .now) (settings (a .width) (a .limit) (a .budget)) 2 _
-    (run-bad-setting (a .most) (a .model .now) (settings (a .width) (a .limit) (a .budget)) (lent (a .plan .now) (a .words .now)) (tested .before .if1 .left)
-    (fit-whatever (a .width) (a .limit) (a .budget) 0 ∙ sym (tested .settings-fit .ensures) ∙ c .before .if2 .left))
-    (c .refusal4 .ensures)
+    (run-bad-setting (a .most) (a .model .now) (settings (a .width) (a .limit) (a .budget)) (lent (a .plan .now) (a .words .now)) (short .if1 .left)
+    (bad-length (upTo (a .width)) (plain (a .limit)) (a .budget) (sym (asked .is-length .ensures) ∙ unfit .if2 .left)))
+    (c .refusal3 .ensures)
 
 pub search-up-to-spec : {M : Type 1} → statement M
 search-up-to-spec =
@@ -114,16 +100,14 @@ search-up-to-spec =
     (λ c κs. search needs)
     returns
     (λ c κs. search needs)
-    lent-fits-requires
-    (λ c. search needs)
     (λ c κs. search needs)
-    search-model-requires
+    (λ c. search needs)
+    slice-aggregate-search-set
+    search-set-requires
     (λ c. search needs)
     (λ c. search needs)
     returns-2
     (λ c κs. search needs)
     returns-3
     (λ c κs. search needs)
-    returns-4
-    (λ c κs. search needs)
-    returns-5)
+    returns-4)

@@ -1,9 +1,11 @@
 //! The quotation on the page, and how to see the same again.
 
 use super::pieces::{heading, listing, paragraph};
+use crate::beam::Beam;
 use crate::command::explain::Explained;
 use crate::command::markup::{escaped, percent_encoded};
 use crate::command::quotations::quotation;
+use crate::command::widths;
 use crate::quotation::written;
 use std::path::Path;
 
@@ -16,9 +18,13 @@ pub fn html(explained: &Explained) -> String {
         true => "--loading".to_string(),
         false => format!("--length {}", settings.length),
     };
+    let width = match &settings.beam {
+        Beam::UpTo(width) => format!("--width {width}"),
+        Beam::Listed(list) => format!("--widths {}", word(&widths::option(list))),
+    };
     let plan = format!(
-        "repgypsum plan --width {} {length} --budget {} {title}",
-        settings.width, settings.budget
+        "repgypsum plan {width} {length} --budget {} {title}",
+        settings.budget
     );
     let Some(quotation) = quotation(explained.source, settings, &finished.run) else {
         return heading("How to run it again")

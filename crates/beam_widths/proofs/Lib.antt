@@ -1,0 +1,3 @@
+-- Laws of lists of widths.
+pub mod Places
+pub mod Rising

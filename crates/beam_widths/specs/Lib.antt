@@ -1,0 +1,2 @@
+-- Places in a list of widths, and the built-in list.
+pub mod Lists
