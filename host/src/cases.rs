@@ -2,6 +2,7 @@
 
 pub mod loads;
 pub mod meaning;
+pub mod months;
 pub mod plans;
 pub mod reading;
 pub mod searches;

@@ -12,6 +12,7 @@ mod json;
 mod known;
 mod long_runs;
 mod markup;
+pub mod monthly;
 mod part;
 mod plan;
 mod profile;
@@ -121,6 +122,8 @@ pub fn run(arguments: &[OsString], input: &mut dyn Read) -> Result<Done, Complai
         Some("disassemble") => translate::disassemble,
         Some("explain") => explain::run,
         Some("declarations") => declarations::run,
+        Some("monthly") => monthly::run,
+        Some("figures") => monthly::figures,
         Some("bench") => bench::run,
         Some("help" | "--help" | "-h") => help::page,
         Some("--version") => help::version,

@@ -16,6 +16,7 @@ pub mod generate;
 pub mod json;
 pub mod line;
 pub mod models;
+pub mod month;
 pub mod numbers;
 pub mod proved;
 pub mod quotation;

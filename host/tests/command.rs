@@ -22,6 +22,8 @@ mod loading;
 mod long_runs;
 #[path = "command/markup.rs"]
 mod markup;
+#[path = "command/monthly.rs"]
+mod monthly;
 #[path = "command/page.rs"]
 mod page;
 #[path = "command/plan.rs"]

@@ -30,7 +30,7 @@ fn numbers(answer: Answer) -> [u64; 8]
 }
 
 // Writes the numbers, with one space before each but the first.
-fn write_numbers(numbers: &[u64]) {
+pub fn write_numbers(numbers: &[u64]) {
     let mut i: usize = 0;
     while i < numbers.len() {
         if 0 < i {
@@ -63,7 +63,7 @@ pub fn write_fields(answer: Answer, plan: &mut [u8]) {
 }
 
 // Writes the line of a refusal.
-fn write_refused(number: u8) {
+pub fn write_refused(number: u8) {
     write_all(STDOUT_FILENO, b"refused ");
     print_decimal(STDOUT_FILENO, laws::wide(number));
     write_all(STDOUT_FILENO, b"\n");

@@ -21,4 +21,5 @@ pub mod Counts
 pub mod Budget
 pub mod Fitting
 pub mod ThreeDesigns
+pub mod Gap
 pub mod Mission

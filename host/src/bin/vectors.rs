@@ -1,7 +1,9 @@
 //! Writes the stored cases into the repository named by the first argument: the modules of crates/test_definitions, and what the
-//! programs `test_plan_checks` and `test_searches` are given and write.
+//! programs `test_plan_checks`, `test_searches`, `monthly` and `test_month` are given and write.
 
+use repgypsum_host::cases::months::programs;
 use repgypsum_host::cases::text::{modules, plan_checks, search_cases};
+use repgypsum_host::month::{printed, reference_search};
 use std::fs;
 use std::io;
 use std::path::Path;
@@ -10,7 +12,9 @@ use std::path::Path;
 fn write(folder: &Path, files: &[(String, Vec<u8>)]) -> io::Result<()> {
     fs::create_dir_all(folder)?;
     for (name, bytes) in files {
-        fs::write(folder.join(name), bytes)?;
+        let path = folder.join(name);
+        fs::create_dir_all(path.parent().unwrap_or(folder))?;
+        fs::write(path, bytes)?;
     }
     Ok(())
 }
@@ -38,5 +42,16 @@ fn main() -> io::Result<()> {
         file("args", arguments),
         file("stdout", cases.output.into_bytes()),
     ];
-    write(&program, &files)
+    write(&program, &files)?;
+    for (name, month) in programs() {
+        let program = crates.join(name);
+        write(&program.join("data"), &month.files)?;
+        let output = printed(&month.list, &program.join("data"), reference_search);
+        let files = [
+            file("stdin", month.list),
+            file("stdout", output.into_bytes()),
+        ];
+        write(&program, &files)?;
+    }
+    Ok(())
 }

@@ -20,12 +20,14 @@ usage: repgypsum COMMAND [OPTIONS] [FILE]          docs/GUIDE.md begins from not
   assemble      a text model to bytes
   expand        a text model to the plain text that its loops, constants and files stand for
   disassemble   the bytes of a model to text
+  monthly       plans each file named in a list, one a line, and prints the line of each and the closing line
+  figures       the closing line of lines that were joined
   bench         measures the proved search against a fast plain one on families of models
   help          this page; --version prints the version
 
 The model is read from FILE, or from standard input without one or with `-`. A FILE that ends in .dp is a text model and
 is assembled first (docs/TEXT.md); every other input is the bytes of a model, except that of assemble and expand, which
-is always text.
+is always text. monthly reads a list of names in the place of a model, figures the lines that monthly printed.
 
 plan and explain:
   --width W        widest beam: 1, 2, 4 up to 4096 (16); the rounds have the widths 1, 2, 4 up to it
@@ -57,7 +59,7 @@ explain:
   --lane VARIABLE  draws the steps in lanes, by the variable's value after a step
   --clock VARIABLE draws a step from the number variable's value before it to that after it, in place of its cost
 
-plan, explain, check, declarations:
+plan, explain, check, declarations, monthly, figures:
   --json           the answer as JSON (docs/JSON.md)
 
 check, one of:
@@ -72,8 +74,8 @@ declarations:
 bench: names of families, `all`, or nothing for orders and tsptw; reads no model
 
 Exit status: 0 for an answer, a plan that passes, a translation, a quotation that is the same, declarations of which none
-is shown false; 1 for a refusal, a quotation that differs, a false declaration; 2 for bad usage, a file that cannot be read
-or written, or a text with an error.
+is shown false; 1 for a refusal, a quotation that differs, a false declaration, a closing line of other lines; 2 for bad
+usage, a file that cannot be read or written, or a text with an error.
 ";
 
 /// The page, whatever the command was.

@@ -172,6 +172,13 @@ fn documents_are_those_of_the_page() {
     let tour = example("tsptw-20/tour.dp");
     document(page, 0, &["plan", "--json", gap, "--width=256", &tour]);
     document(page, 0, &["explain", "--json", gap, "--width=256", &tour]);
+    let list = format!("{bytes}\n{cut}\nno/such.model\n");
+    let list = file("json-list", list.as_bytes());
+    document(page, 0, &["monthly", "--json", &list]);
+    for lines in ["refused 4\n", "0 0 0 0 0 0 0 0 0 0 0 0\nrefused 4\n"] {
+        let lines = file("json-lines", lines.as_bytes());
+        document(page, 0, &["figures", "--json", &lines]);
+    }
     assert_eq!(page.unseen(), Vec::<String>::new());
 }
 

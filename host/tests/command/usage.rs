@@ -17,6 +17,8 @@ fn help_and_version() {
         "assemble",
         "expand",
         "disassemble",
+        "monthly",
+        "figures",
     ] {
         assert!(
             page.text().contains(&format!("\n  {command} ")),

@@ -6,7 +6,7 @@ use Rattle.planner.proofs.main.Statement.{statement}
 use Rattle.planner.proofs.main.Tie as tie
 
 slice-aggregate-write-plan : tie.Need-slice-aggregate-write-plan
-slice-aggregate-write-plan c = sym (length-take-le _ _ (c .before .before .before .read-input .ensures))
+slice-aggregate-write-plan c = sym (length-take-le _ _ (c .before .before .before .read-file .ensures))
 
 pub main-spec : {M : Type 1} → statement M
 main-spec =

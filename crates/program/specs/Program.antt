@@ -1,4 +1,4 @@
--- The program's run, at document 01's settings: docs/FORMAT.md, "Program".
+-- The programs' run, at document 01's settings: docs/FORMAT.md, "Program".
 use Prim.Native.Nat.{ℕ}
 use mathlib.Core.Path.{_≡_}
 use mathlib.Core.List.{List}

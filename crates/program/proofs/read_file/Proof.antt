@@ -1,16 +1,16 @@
--- `planner::read_input` fills the buffer from the front: the place is within it, and what is left falls.
+-- `program::read_file` fills the buffer from the front: the place is within it, and what is left falls.
 use Prim.Native.Nat.{_-_, _≤_}
 use mathlib.Core.Path.{_≡_}
 use lib.ListN.{length}
 use borrow.Author.Needs.{needs}
-use Rattle.planner.proofs.read_input.Statement.{statement}
-use Rattle.planner.proofs.read_input.Tie as tie
+use Rattle.program.proofs.read_file.Statement.{statement}
+use Rattle.program.proofs.read_file.Tie as tie
 
 abbrev Inv-loop : tie.InvT-loop
-Inv-loop buffer₀ at₀ buffer at = (at ≤ length buffer) × (length buffer ≡ length buffer₀)
+Inv-loop file buffer₀ at₀ buffer at = (at ≤ length buffer) × (length buffer ≡ length buffer₀)
 
 abbrev μ-loop : tie.MeasureT-loop
-μ-loop buffer₀ at₀ buffer at = length buffer - at
+μ-loop file buffer₀ at₀ buffer at = length buffer - at
 
 loop-holds : tie.Need-loop-holds Inv-loop μ-loop
 loop-holds c = search needs
@@ -54,8 +54,8 @@ same-length-3 c = search needs
 returns-3 : tie.Need-returns-3 Inv-loop μ-loop
 returns-3 c = search needs
 
-pub read-input-spec : {M : Type 1} → statement M
-read-input-spec =
+pub read-file-spec : {M : Type 1} → statement M
+read-file-spec =
     tie.close
     (tie.spec
     Inv-loop

@@ -1,2 +1,0 @@
--- The program's run.
-pub mod Program

@@ -1,0 +1,2 @@
+-- The programs' run.
+pub mod Program

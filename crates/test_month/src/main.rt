@@ -1,0 +1,5 @@
+// The same as monthly, on a list of 1,001 names.
+
+fn main() {
+    month::run();
+}
