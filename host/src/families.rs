@@ -82,9 +82,7 @@ fn all_of(parts: &[Bytes]) -> Bytes {
 /// The numbers below `count` in random order.
 fn shuffled(random: &mut Random, count: usize) -> Vec<usize> {
     let mut order: Vec<usize> = (0..count).collect();
-    for place in (1..count).rev() {
-        order.swap(place, random.below(place + 1));
-    }
+    random.shuffle(&mut order);
     order
 }
 

@@ -65,12 +65,6 @@ fn months_are_varied() {
     assert_eq!(lines(&many.list).len(), MOST_NAMES);
 }
 
-fn shuffled<T>(random: &mut Random, items: &mut [T]) {
-    for place in (1..items.len()).rev() {
-        items.swap(place, random.below(place + 1));
-    }
-}
-
 /// The built program's output, with nothing on standard error.
 fn output(program: &Path, data: &Path, list: &[u8]) -> String {
     let mut command = Command::new(program);
@@ -97,10 +91,10 @@ fn order_does_not_matter() {
     }
     let mut random = Random::new(0x0724);
     for turn in 0..200 {
-        shuffled(&mut random, &mut answers);
+        random.shuffle(&mut answers);
         assert_eq!(Closing::of(&answers), closing);
         if turn < 5 && built.exists() {
-            shuffled(&mut random, &mut names);
+            random.shuffle(&mut names);
             let list = [names.join(&b'\n'), vec![b'\n']].concat();
             let left = output(&built, &data, &list);
             assert_eq!(left, printed(&list, &data, reference_search));

@@ -1,6 +1,7 @@
 //! Stored months: a list of names with the files that it names, for the programs `monthly` and `test_month`.
 
 use crate::build::{elem, not, obj, same, LARGEST};
+use crate::generate::Random;
 use crate::line::LONGEST_MODEL;
 use crate::models::{three_designs, Designs};
 use crate::month::{MOST_NAMES, MOST_NAME_BYTES};
@@ -147,8 +148,8 @@ fn roundabout(name: &str, bytes: usize) -> String {
     path + name
 }
 
-/// Every verdict, every kind of refusal, and every kind of line; the last has no line end.
-pub fn every_kind() -> Month {
+/// A line of every kind: every verdict, every kind of refusal, names that are none, names twice.
+fn kinds() -> Vec<String> {
     let longest = roundabout("p1.model", MOST_NAME_BYTES);
     let too_long = roundabout("p1.model", MOST_NAME_BYTES + 1);
     let far_too_long = roundabout("p1.model", 5000);
@@ -183,13 +184,18 @@ pub fn every_kind() -> Month {
         "width.model",
         "p1.model",
     ];
+    lines.map(str::to_string).to_vec()
+}
+
+/// Every kind of line; the last has no line end.
+pub fn every_kind() -> Month {
     Month {
-        list: lines.join("\n").into_bytes(),
+        list: kinds().join("\n").into_bytes(),
         files: files(),
     }
 }
 
-/// A thousand names, and one more, which is not taken: a width stop, where no other is.
+/// The same lines and further names to a thousand, in an order that is drawn; and one more, which is not taken.
 pub fn one_too_many() -> Month {
     let names = [
         "p1.model",
@@ -200,14 +206,14 @@ pub fn one_too_many() -> Month {
         "",
         "length.model",
     ];
-    let mut lines: Vec<&str> = names.iter().copied().cycle().take(MOST_NAMES).collect();
-    lines.push("width.model");
-    let kept = |name: &str| names.contains(&name) || name == "width.model";
-    let mut files = files();
-    files.retain(|(name, _)| kept(name));
+    let mut lines = kinds();
+    let further = names.iter().cycle().take(MOST_NAMES - lines.len());
+    lines.extend(further.map(|name| name.to_string()));
+    Random::new(0x0707).shuffle(&mut lines);
+    lines.push("width.model".to_string());
     Month {
         list: lines.join("\n").into_bytes(),
-        files,
+        files: files(),
     }
 }
 
