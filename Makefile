@@ -1,6 +1,6 @@
 # Builds and installs what a host uses: archive and shared library, header, pkg-config file, command line, manual page.
 #
-#   make                          builds what is not there yet; the first time it proves the library, in some six minutes
+#   make                          builds what is not there yet; the first time it proves the library, in some ten minutes
 #   make install PREFIX=/usr/local
 #   make uninstall PREFIX=/usr/local
 #   make farm                     examples/farm, from its tables to the auditor's page target/farm.html
