@@ -32,7 +32,7 @@ use Rattle.eval_sets.proofs.Within.{number-known}
 use Rattle.quick.specs.Entries.{EntryForm, entryAt}
 use Rattle.quick.proofs.Compared.{fits-value, variable-run, literal-run, entry-run}
 use Rattle.cursor.specs.Places.{Stands, Begins}
-use Rattle.cursor.specs.Told.{silentFrom, here, NumberTo}
+use Rattle.cursor.specs.Told.{silentFrom, here, NumberTo, NumberTold}
 use Rattle.cursor.specs.Codes.{rangedCode, OperationTold, isOperation}
 
 -- ---- by first bytes alone
@@ -102,6 +102,15 @@ module _ (bytes words state : List ℕ) where
           runs = whole;
         };
       }
+
+  -- a number of two, by what its code tells
+  pub two-told : {p b q r : ℕ} {o : Operation} {x y code : ℤ} → Begins bytes p b → numberForm b ≡ NF.Arithmetic o
+      → NumberTo bytes words state (p + 1) x q → NumberTo bytes words state q y r → OperationTold b x y code → NumberTold bytes words state p code r
+  two-told {o = o} begins form first second told low = two-numbers begins form first second (told o form low)
+
+-- bytes among those that stand
+pub inner : {bytes : List ℕ} {p n : ℕ} (i k : ℕ) → i + k ≤ n → Stands bytes p n → Stands bytes (p + i) k
+inner i k l there = record { inside = omega (arith, l, there .inside); near = omega (arith, l, there .near) }
 
 -- ---- first bytes of operations
 

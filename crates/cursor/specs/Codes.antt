@@ -1,7 +1,9 @@
 -- Codes of values.
-use Prim.Native.Nat.{ℕ, _-_}
+use Prim.Native.Nat.{ℕ, _+_}
 use mathlib.Core.Path.{_≡_}
 use mathlib.Core.Bool.{Bool, true, cond, _&&_}
+use mathlib.Core.List.{List}
+use lib.ListN.{getD}
 use lib.Dec.{eqb, leb, ltb}
 use lib.IntN.{ℤ, pos}
 use lib.Signed.{mag, ltZ}
@@ -30,10 +32,6 @@ QuotientTold x y code = OperationTold 0x25 x y code
 unfoldable pub truthCode : Bool → ℕ
 truthCode b = cond b 1 0
 
--- 57
-unfoldable pub flippedCode : ℕ → ℕ
-flippedCode c = cond (ltb c 2) (1 - c) 2
-
 -- what the relation with first byte b says of two numbers
 abbrev pub RelationTold : (b : ℕ) (x y : ℤ) (code : ℕ) → Type 0
 RelationTold b x y code = (o : Relation) → conditionForm b ≡ CF.Comparison o → code ≡ truthCode (compared o x y)
@@ -55,6 +53,14 @@ isChange b = leb 0x42 b && ltb b 0x44
 -- 44 to 46
 unfoldable pub isCombination : (b : ℕ) → Bool
 isCombination b = leb 0x44 b && ltb b 0x47
+
+-- behind a leaf that begins with byte b, from the byte before it on: 41 v, or 40 with its members
+unfoldable pub behindLeaf : (b : ℕ) → ℕ
+behindLeaf b = cond (eqb b 0x41) 3 11
+
+-- one of the two sets behind the byte at p is no leaf
+unfoldable pub isDeep : (bytes : List ℕ) (p : ℕ) → Bool
+isDeep bytes p = cond (leb 0x42 (getD bytes (p + 1) 0)) true (leb 0x42 (getD bytes (p + behindLeaf (getD bytes (p + 1) 0)) 0))
 
 -- 50 to 52
 unfoldable pub isRelation : (b : ℕ) → Bool

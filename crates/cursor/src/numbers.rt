@@ -2,11 +2,12 @@
 
 ghost use mathlib.Core.Path.{_≡_};
 ghost use mathlib.Core.Bool.{true};
-ghost use Prim.Native.Nat.{_<_};
+ghost use Prim.Native.Nat.{_+_, _<_};
+ghost use lib.ListN.{getD};
 ghost use lib.Signed.{mag};
 ghost use Rattle.model.specs.Numbers.{rangeEnd};
-ghost use Rattle.cursor.specs.Places.{Begins};
-ghost use Rattle.cursor.specs.Told.{NumberTold};
+ghost use Rattle.cursor.specs.Places.{Stands, Begins};
+ghost use Rattle.cursor.specs.Told.{NumberTo, NumberTold};
 ghost use Rattle.cursor.specs.Codes.{rangedCode, OperationTold, QuotientTold, isOperation};
 use crate::places::first_byte;
 use crate::places::stands;
@@ -29,7 +30,7 @@ use words::tables::entry;
 pub const SILENT: i64 = 4611686018427387904;
 
 // A number in range, or nothing.
-fn ranged(z: i64) -> i64
+pub fn ranged(z: i64) -> i64
     ensures { λ r. ⌜ r ≡ rangedCode z ⌝ }
 {
     if in_range(z) {
@@ -39,7 +40,7 @@ fn ranged(z: i64) -> i64
 }
 
 // 25 of two numbers in range.
-fn quotient(x: i64, y: i64) -> i64
+pub fn quotient(x: i64, y: i64) -> i64
     requires { ⌜ (mag x < rangeEnd) × (mag y < rangeEnd) ⌝ }
     ensures { λ r. ⌜ QuotientTold x y r ⌝ }
 {
@@ -141,6 +142,63 @@ pub fn literal(
         if e[p] == 0x20 {
             *at = p + 5;
             return integer(&e[p + 1..]);
+        }
+    }
+    SILENT
+}
+
+// The number variable at a place: 21 v.
+pub fn variable_at(
+    m: &&[u8],
+    p: usize,
+    outline: &[u64; PREPARED_WORDS],
+    state: &[u64; STATE_WORDS],
+) -> i64
+    requires { ⌜ Stands (now (now m)) p 2 × (getD (now (now m)) p 0 ≡ 0x21) ⌝ }
+    ensures { λ r. ⌜ NumberTo (now (now (m .entry))) (now (outline .entry)) (now (state .entry)) p r (p + 2) ⌝ }
+{
+    let e = *m;
+    signed_word(word_at(state, e[p + 1] as usize))
+}
+
+// The literal at a place: 20 and a number.
+pub fn literal_at(
+    m: &&[u8],
+    p: usize,
+    outline: &[u64; PREPARED_WORDS],
+    state: &[u64; STATE_WORDS],
+) -> i64
+    requires { ⌜ Stands (now (now m)) p 5 × (getD (now (now m)) p 0 ≡ 0x20) ⌝ }
+    ensures { λ r. ⌜ NumberTo (now (now (m .entry))) (now (outline .entry)) (now (state .entry)) p r (p + 5) ⌝ }
+{
+    let e = *m;
+    integer(&e[p + 1..])
+}
+
+// A number variable with a literal added or taken off, 22 or 23 21 v 20 and a number, at the cursor.
+pub fn shifted(
+    m: &&[u8],
+    at: &mut usize,
+    outline: &[u64; PREPARED_WORDS],
+    state: &[u64; STATE_WORDS],
+) -> i64
+    ensures { λ r. ⌜ NumberTold (now (now (m .entry))) (now (outline .entry)) (now (state .entry)) (now (at .entry)) r (now (at .exit)) ⌝ }
+{
+    let p = *at;
+    let e = *m;
+    if stands(e, p, 8) {
+        if e[p + 3] == 0x20 {
+            if e[p + 1] == 0x21 {
+                let x = variable_at(m, p + 1, outline, state);
+                let y = literal_at(m, p + 3, outline, state);
+                *at = p + 8;
+                if e[p] == 0x22 {
+                    return ranged(sum(x, y));
+                }
+                if e[p] == 0x23 {
+                    return ranged(difference(x, y));
+                }
+            }
         }
     }
     SILENT

@@ -4,9 +4,9 @@ ghost use mathlib.Core.Path.{_≡_};
 ghost use mathlib.Core.Bool.{true};
 ghost use Prim.Native.Nat.{_<_};
 ghost use Rattle.eval_sets.specs.Runs.{objectsIn};
-ghost use Rattle.cursor.specs.Places.{Begins};
+ghost use Rattle.cursor.specs.Places.{Stands, Begins};
 ghost use Rattle.cursor.specs.Told.{SetTold};
-ghost use Rattle.cursor.specs.Codes.{combinedBy, isChange, isCombination};
+ghost use Rattle.cursor.specs.Codes.{combinedBy, isChange, isCombination, behindLeaf, isDeep};
 use crate::places::first_byte;
 use crate::places::stands;
 use outline::layout::KINDS;
@@ -221,7 +221,29 @@ fn two_sets(
     combined(b, s, t)
 }
 
-// A near set, or 44 to 46 and two of them, of which the first is no leaf.
+// Where the second of two sets stands whose first one begins with b and is a leaf, from the byte before both on.
+fn behind_leaf(b: u8) -> usize
+    ensures { λ r. ⌜ r ≡ behindLeaf b ⌝ }
+{
+    if b == 0x41 {
+        return 3;
+    }
+    11
+}
+
+// Whether one of the two sets behind a place is no leaf.
+fn is_deep(e: &[u8], p: usize) -> bool
+    requires { ⌜ Stands (now e) p 1 ⌝ }
+    ensures { λ r. ⌜ r ≡ isDeep (now (e .entry)) p ⌝ }
+{
+    let b = first_byte(e, p + 1);
+    if 0x42 <= b {
+        return true;
+    }
+    0x42 <= first_byte(e, p + behind_leaf(b))
+}
+
+// A near set, or 44 to 46 and two of them, of which one is no leaf.
 pub fn set(
     m: &&[u8],
     at: &mut usize,
@@ -233,7 +255,7 @@ pub fn set(
     let p = *at;
     let b = first_byte(*m, p);
     if is_combination(b) {
-        if 0x42 <= first_byte(*m, p + 1) {
+        if is_deep(*m, p) {
             return two_sets(b, m, at, outline, state);
         }
     }

@@ -3,7 +3,7 @@ use Prim.Native.Nat.{ℕ, zero, suc, _+_, _-_, _≤_, _<_, _^_}
 use mathlib.Core.Path.{_≡_, refl, sym, ap, _∙_}
 use mathlib.Core.Bool.{Bool, true, false, not, cond, false≢true}
 use mathlib.Core.List.{List}
-use native.Mathlib.Numerals.{one-add, add-one}
+use native.Mathlib.Numerals.{add-one}
 use native.Mathlib.Omega.{arith}
 use lib.ListN.{length, getD, drop, length-drop}
 use lib.Seq.{drop-drop}
@@ -16,6 +16,7 @@ use mir.Syntax.{w64}
 use mir.Val.{SFits, ofZ, toZ}
 use Rattle.words.proofs.Integers.{back}
 use Rattle.model.specs.Values.{value, _>>=_ as _andThen_}
+use Rattle.model.specs.Readers.{read, word}
 use Rattle.model.specs.Sets as Sets
 use Rattle.model.specs.Meaning.{two, equalZ}
 use Rattle.eval_sets.specs.declared.answers.ConditionValue.{ConditionValue}
@@ -29,34 +30,18 @@ use Rattle.eval_sets.specs.Forms.{conditionForm, parts, span}
 use Rattle.eval_sets.specs.Runs.{compared, runElement, runSet, runNumber, runCondition, sameElements, memberOf, emptySet, subsetOf, agree, decided, connectiveFirst, runConnective, conditionBehind, conditionAt}
 use Rattle.eval_sets.proofs.Opening.{condition-opens}
 use Rattle.eval_sets.proofs.Parts.{test-is, elements-are, element-set-is, sets-are}
-use Rattle.eval_sets.proofs.Spans.{span-within, span-none}
+use Rattle.eval_sets.proofs.Spans.{span-within}
 use Rattle.quick.specs.Sets.{beginsElement, objectIn}
 use Rattle.quick.proofs.Changes.{element-run}
 use Rattle.cursor.specs.Places.{Stands, Begins, FirstByte, BehindAll}
 use Rattle.cursor.specs.Told.{here, NumberTo, ConditionTo, SetTo, FailsAt, ConditionTold, TestTold}
-use Rattle.cursor.specs.Codes.{truthCode, flippedCode, RelationTold, isRelation}
-use Rattle.cursor.proofs.NumberLaws.{span-parts}
-use Rattle.cursor.proofs.SetLaws.{variable-is}
+use Rattle.cursor.specs.Codes.{truthCode, combinedBy, RelationTold, isCombination, isRelation}
+use Rattle.cursor.proofs.NumberLaws.{inner}
+use Rattle.cursor.proofs.SetLaws.{variable-is, literal-is, two-sets-are}
 
 -- ---- passing over
 
 module _ (bytes : List ℕ) where
-  -- behind one, and behind the others from there
-  pub record FirstPassed (p k q : ℕ) : Type 0 where
-    pub between : ℕ
-    pub first : BehindAll bytes p 1 between
-    pub rest : BehindAll bytes between k q
-
-  pub first-passed : (p k q : ℕ) → BehindAll bytes p (suc k) q → FirstPassed p k q
-  first-passed p k q h =
-      let n = span (drop p bytes) 0 1 in
-      let more : q ≡ p + (n + span (drop n (drop p bytes)) 0 k) = h .ends ∙ ap (λ (i : ℕ). p + i) (ap (λ (i : ℕ). span (drop p bytes) 0 i) (sym (one-add k)) ∙ span-parts (drop p bytes) 0 1 k) in
-      record {
-        between = p + n;
-        first = record { ends = refl; there = record { inside = omega (arith, h .there .inside); near = omega (arith, h .there .near) } };
-        rest = record { ends = more ∙ rw (drop-drop n p bytes) (omega arith); there = h .there };
-      }
-
   pub passed-one : (p : ℕ) → length bytes < 2 ^ 63 → p ≤ length bytes → BehindAll bytes p 1 (p + span (drop p bytes) 0 1)
   passed-one p small inside =
       let within = span-within (drop p bytes) 0 1 in
@@ -149,22 +134,6 @@ same-bits {x} {y} f g = go (eqb (ofZ w64 x) (ofZ w64 y)) refl (equalZ x y) refl
 pub relation-some : (b : ℕ) → isRelation b ≡ true → b ≡ 0 → ⊥
 unfolding isRelation
 relation-some b h z = let x = and-both (leb 0x50 b) (ltb b 0x53) h in omega (arith, leb-true 0x50 b (x .0))
-
-flipped-one : (c : ℕ) → flippedCode c ≡ 1 → c ≡ 0
-unfolding flippedCode
-flipped-one c = go (ltb c 2) refl
-  where
-    go : (t : Bool) → ltb c 2 ≡ t → cond t (1 - c) 2 ≡ 1 → c ≡ 0
-    go true t e = let l = ltb-true c 2 t in omega arith
-    go false t e = absurd (omega arith)
-
-flipped-none : (c : ℕ) → flippedCode c ≡ 0 → c ≡ 1
-unfolding flippedCode
-flipped-none c = go (ltb c 2) refl
-  where
-    go : (t : Bool) → ltb c 2 ≡ t → cond t (1 - c) 2 ≡ 0 → c ≡ 1
-    go true t e = let l = ltb-true c 2 t in omega arith
-    go false t e = absurd (omega arith)
 
 pub suc-sub-one : (k : ℕ) → suc k - 1 ≡ k
 suc-sub-one k = omega arith
@@ -314,6 +283,10 @@ module _ (bytes words state : List ℕ) where
       → ConditionTold bytes words state p code (p + 5)
   same-told {p} begins there a b hx hy e = truth-told (e ∙ rw (hx, hy)) (same-is p begins there a b)
 
+  pub near-member-told : {p x s q code : ℕ} {m : Bool} → Begins bytes p 0x54 → Stands bytes p 3 → beginsElement (getD bytes (p + 1) 0) ≡ true
+      → x ≡ objectIn (getD bytes (p + 1) 0) (getD bytes (p + 2) 0) state → SetTo bytes words state (p + 3) s q → m ≡ Sets.isMember x s → code ≡ truthCode m → ConditionTold bytes words state p code q
+  near-member-told {p} begins there a hx set hm e = truth-told (e ∙ rw (hm, hx)) (member-is p begins there a set)
+
   pub member-told : {p x s code : ℕ} {m : Bool} → Begins bytes p 0x54 → Stands bytes p 5 → getD bytes (p + 3) 0 ≡ 0x41 → beginsElement (getD bytes (p + 1) 0) ≡ true
       → x ≡ objectIn (getD bytes (p + 1) 0) (getD bytes (p + 2) 0) state → s ≡ getD state (getD bytes (p + 4) 0) 0 → m ≡ Sets.isMember x s → code ≡ truthCode m
       → ConditionTold bytes words state p code (p + 5)
@@ -323,28 +296,20 @@ module _ (bytes words state : List ℕ) where
       let set : SetTo bytes words state (p + 3) s (p + 5) = rw at-five at (variable-is bytes words state (p + 3) s (record { inside = omega (arith, there .inside); near = omega (arith, there .near) }) v (hs ∙ ap (λ (i : ℕ). getD state (getD bytes i 0) 0) (sym at-three))) in
       truth-told (e ∙ rw (hm, hx)) (member-is p begins (record { inside = omega (arith, there .inside); near = omega (arith, there .near) }) a set)
 
-  pub flipped-told : {p q c code : ℕ} → Begins bytes p 0x57 → ConditionTold bytes words state (p + 1) c q → code ≡ flippedCode c → ConditionTold bytes words state p code q
-  flipped-told {c = c} begins t e = record {
-    holds = λ h. negated-is begins (t .fails (flipped-one c (sym e ∙ h)));
-    fails = λ h. negated-is begins (t .holds (flipped-none c (sym e ∙ h)));
-  }
-
-  pub silent-told : {p q code : ℕ} → (code ≡ 0 → ⊥) → (code ≡ 1 → ⊥) → ConditionTold bytes words state p code q
-  silent-told n m = record { holds = λ e. absurd (m e); fails = λ e. absurd (n e) }
-
-  pub holds-told : {p q : ℕ} → ConditionTo bytes words state p true q → ConditionTold bytes words state p 1 q
-  holds-told t = record { holds = λ e. t; fails = λ e. absurd (omega arith) }
-
-  pub fails-told : {p q code : ℕ} → code ≡ 0 → ConditionTo bytes words state p false q → ConditionTold bytes words state p code q
-  fails-told z t = record { holds = λ e. absurd (omega arith); fails = λ e. t }
-
-  pub either-told : {p q r code : ℕ} → Begins bytes p 0x59 → ConditionTo bytes words state (p + 1) false q → ConditionTold bytes words state q code r → ConditionTold bytes words state p code r
-  unfolding conditionForm
-  either-told begins s t = record { holds = λ e. second-is true begins refl s (t .holds e); fails = λ e. second-is true begins refl s (t .fails e) }
-
-  pub either-decided : {p q r code : ℕ} → Begins bytes p 0x59 → ConditionTo bytes words state (p + 1) true q → BehindAll bytes q 1 r → code ≡ 1 → ConditionTold bytes words state p code r
-  unfolding conditionForm
-  either-decided begins s t one = record { holds = λ e. decided-is true begins refl s t; fails = λ e. absurd (omega arith) }
+  -- 55 45 40 n members 41 v
+  pub missing-told : {p s t code : ℕ} → Begins bytes p 0x55 → Stands bytes p 14 → getD bytes (p + 1) 0 ≡ 0x45 → getD bytes (p + 2) 0 ≡ 0x40 → getD bytes (p + 12) 0 ≡ 0x41
+      → word 8 (drop (p + 4) bytes) ≡ read s 8 → t ≡ getD state (getD bytes (p + 13) 0) 0 → code ≡ truthCode (eqb (Sets.intersection s t) 0) → ConditionTold bytes words state p code (p + 14)
+  unfolding isCombination combinedBy
+  missing-told {p} {s} {t} begins there both literal variable members word-is e =
+      let on-two : p + 1 + 1 ≡ p + 2 = omega arith in
+      let on-four : p + 2 + 2 ≡ p + 4 = omega arith in
+      let on-twelve : p + 2 + 10 ≡ p + 12 = omega arith in
+      let on-thirteen : p + 12 + 1 ≡ p + 13 = omega arith in
+      let on-end : p + 12 + 2 ≡ p + 14 = omega arith in
+      let first : SetTo bytes words state (p + 2) s (p + 12) = rw on-twelve at (literal-is bytes words state (p + 2) s (inner 2 10 (omega arith) there) literal (rw on-four members)) in
+      let second : SetTo bytes words state (p + 12) t (p + 14) = rw on-end at (variable-is bytes words state (p + 12) t (inner 12 2 (omega arith) there) variable (rw on-thirteen word-is)) in
+      let common : SetTo bytes words state (p + 1) (Sets.intersection s t) (p + 14) = two-sets-are bytes words state (record { there = inner 1 1 (omega arith) there; byte = both }) refl (rw on-two first) second in
+      truth-told e (empty-is begins common)
 
   -- ---- 58: conditions that are due one behind the other, from a to q
 
@@ -352,11 +317,6 @@ module _ (bytes words state : List ℕ) where
   pub data AllHold : (due a q : ℕ) → Type 0 where
     none : {a : ℕ} → AllHold zero a a
     more : {k a r q : ℕ} → ConditionTo bytes words state a true r → AllHold k r q → AllHold (suc k) a q
-
-  -- one does not, and those behind it are passed over
-  pub data OneFails : (due a q : ℕ) → Type 0 where
-    now : {k a r q : ℕ} → ConditionTo bytes words state a false r → BehindAll bytes r k q → OneFails (suc k) a q
-    later : {k a r q : ℕ} → ConditionTo bytes words state a true r → OneFails k r q → OneFails (suc k) a q
 
   -- one does not, wherever those behind it end
   pub data OneBroken : (due a : ℕ) → Type 0 where
@@ -367,14 +327,6 @@ module _ (bytes words state : List ℕ) where
   unfolding conditionForm
   both-hold begins (more s (more t rest)) = more (second-is false begins refl s t) rest
 
-  one-fails : {k a q : ℕ} → Begins bytes a 0x58 → OneFails (suc (suc k)) (a + 1) q → OneFails (suc k) a q
-  unfolding conditionForm
-  one-fails {k} {a} {q} begins (now {r = r} s passed) =
-      let f = first-passed bytes r k q passed in
-      now (decided-is false begins refl s (f .first)) (f .rest)
-  one-fails begins (later s (now t passed)) = now (second-is false begins refl s t) passed
-  one-fails begins (later s (later t rest)) = later (second-is false begins refl s t) rest
-
   fails-at : {p q : ℕ} → ConditionTo bytes words state p false q → FailsAt bytes words state p
   fails-at t = record { used = t .used; is = t .is }
 
@@ -384,55 +336,18 @@ module _ (bytes words state : List ℕ) where
   one-broken small begins (later s (now t)) = now (fails-at (second-is false begins refl s (record { used = t .used; ends = refl; is = t .is })))
   one-broken small begins (later s (later t rest)) = later (second-is false begins refl s t) rest
 
-  -- the condition at p, by those that are due from a on
-  pub record Joins (p due a : ℕ) : Type 0 where
-    pub counted : due + p ≤ a + 1
-    pub holds : (q : ℕ) → AllHold due a q → ConditionTo bytes words state p true q
-    pub fails : (q : ℕ) → OneFails due a q → ConditionTo bytes words state p false q
-
-  pub joins-start : (p : ℕ) → Joins p 1 p
-  joins-start p = record { counted = omega arith; holds = holds; fails = fails }
-    where
-      holds : (q : ℕ) → AllHold 1 p q → ConditionTo bytes words state p true q
-      holds q (more t none) = t
-
-      fails : (q : ℕ) → OneFails 1 p q → ConditionTo bytes words state p false q
-      fails q (now {r = r} t passed) =
-          let z : q ≡ r = passed .ends ∙ rw (span-none (drop r bytes)) (omega arith) in
-          record { used = t .used; ends = z ∙ t .ends; is = t .is }
-
-  pub joins-and : (p due a : ℕ) → Joins p due a → (due ≡ 0 → ⊥) → Begins bytes a 0x58 → Joins p (due + 1) (a + 1)
-  joins-and p zero a j some begins = absurd (some refl)
-  joins-and p (suc k) a j some begins = rw (add-one (suc k)) (record {
-    counted = omega (arith, j .counted);
-    holds = λ q all. j .holds q (both-hold begins all);
-    fails = λ q one. j .fails q (one-fails begins one);
-  })
-
-  pub joins-on : (p due a b : ℕ) → Joins p due a → (due ≡ 0 → ⊥) → ConditionTo bytes words state a true b → Joins p (due - 1) b
-  joins-on p zero a b j some t = absurd (some refl)
-  joins-on p (suc k) a b j some t = rw (suc-sub-one k) (record {
-    counted = omega (arith, j .counted, t .ends);
-    holds = λ q all. j .holds q (more t all);
-    fails = λ q one. j .fails q (later t one);
-  })
-
-  pub joins-fails : (p due a b q : ℕ) → Joins p due a → (due ≡ 0 → ⊥) → ConditionTo bytes words state a false b → BehindAll bytes b (due - 1) q → ConditionTo bytes words state p false q
-  joins-fails p zero a b q j some t passed = absurd (some refl)
-  joins-fails p (suc k) a b q j some t passed = j .fails q (now t (rw (suc-sub-one k) at passed))
-
-  pub joins-end : (p due a : ℕ) → Joins p due a → due ≡ 0 → ConditionTo bytes words state p true a
-  joins-end p due a j none-due = j .holds a (rw none-due none)
-
-  -- the same where the end of one that fails is not asked for
+  -- the condition at p, by those that are due from a on; the end of one that fails is not asked for
   pub record Tests (p due a : ℕ) : Type 0 where
     pub counted : due + p ≤ a + 1
     pub holds : (q : ℕ) → AllHold due a q → ConditionTo bytes words state p true q
     pub fails : OneBroken due a → FailsAt bytes words state p
 
   pub tests-start : (p : ℕ) → Tests p 1 p
-  tests-start p = record { counted = omega arith; holds = joins-start p .holds; fails = fails }
+  tests-start p = record { counted = omega arith; holds = holds; fails = fails }
     where
+      holds : (q : ℕ) → AllHold 1 p q → ConditionTo bytes words state p true q
+      holds q (more t none) = t
+
       fails : OneBroken 1 p → FailsAt bytes words state p
       fails (now t) = t
 

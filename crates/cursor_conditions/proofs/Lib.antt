@@ -1,2 +1,3 @@
 pub mod ConditionLaws
 pub mod SumLaws
+pub mod Waiting

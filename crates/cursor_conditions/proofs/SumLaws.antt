@@ -33,7 +33,7 @@ use Rattle.eval_sets.proofs.Opening.{number-opens}
 use Rattle.eval_sets.proofs.Parts.{choice-is}
 use Rattle.eval_sets.proofs.Spans.{span-operands, span-none}
 use Rattle.eval_sets.proofs.Within.{number-known}
-use Rattle.cursor.specs.Places.{Stands, Begins}
+use Rattle.cursor.specs.Places.{Stands, Begins, BehindAll}
 use Rattle.cursor.specs.Told.{here, NumberTo, ConditionTo, SetTo, NumberTold, ConditionTold, Chosen, ChosenTold}
 use Rattle.cursor.specs.Codes.{OperationTold}
 use Rattle.cursor.proofs.NumberLaws.{literal-is, two-numbers}
@@ -152,6 +152,20 @@ module _ (bytes words state : List ℕ) where
       }
 
   -- 24
+  -- two numbers, each passed over where it ends
+  pub both-chosen : {p q r a b c : ℕ} {x y z : ℤ} → NumberTo bytes words state p x q → BehindAll bytes p 1 a → a ≡ q → NumberTo bytes words state q y r → BehindAll bytes q 1 b → b ≡ r → z ≡ cond (eqb c 1) x y
+      → Chosen bytes words state p c z r
+  both-chosen {q = q} {x = x} {y = y} first passed e second passed-too f is = record {
+    first = x;
+    second = y;
+    between = q;
+    first-is = first;
+    second-is = second;
+    first-skipped = sym e ∙ passed .ends;
+    second-skipped = sym f ∙ passed-too .ends;
+    chosen = is;
+  }
+
   pub weighed-told : {p q r : ℕ} {x y code : ℤ} → Begins bytes p 0x24 → NumberTo bytes words state (p + 1) x q → NumberTo bytes words state q y r → OperationTold 0x24 x y code
       → NumberTold bytes words state p code r
   unfolding numberForm

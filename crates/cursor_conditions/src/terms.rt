@@ -5,7 +5,7 @@ ghost use Prim.Native.Nat.{_<_};
 ghost use lib.IntN.{pos, natAbs};
 ghost use lib.Signed.{mag};
 ghost use Rattle.model.specs.Numbers.{rangeEnd};
-ghost use Rattle.cursor.specs.Places.{Begins};
+ghost use Rattle.cursor.specs.Places.{Stands, Begins};
 ghost use Rattle.cursor.specs.Told.{NumberTold, ChosenTold};
 ghost use Rattle.cursor.specs.Codes.{beginsJoined};
 use crate::conditions::UNTOLD;
@@ -13,6 +13,8 @@ use crate::conditions::whole;
 use cursor::numbers::SILENT;
 use cursor::numbers::literal;
 use cursor::numbers::operation;
+use cursor::numbers::simple;
+use cursor::places::behind;
 use cursor::places::first_byte;
 use cursor::places::stands;
 use cursor::sets::set;
@@ -202,6 +204,77 @@ fn weighed(
     SILENT
 }
 
+// The first of two simple numbers at the cursor where c is 1, else the second.
+fn simple_by(
+    c: u8,
+    m: &&[u8],
+    at: &mut usize,
+    outline: &[u64; PREPARED_WORDS],
+    state: &[u64; STATE_WORDS],
+) -> i64
+    requires { ⌜ Stands (now (now m)) (now at) 0 × (c < 2) ⌝ }
+    ensures { λ r. ⌜ ChosenTold (now (now (m .entry))) (now (outline .entry)) (now (state .entry)) (now (at .entry)) c r (now (at .exit)) ⌝ }
+{
+    let p = *at;
+    let x = simple(m, at, outline, state);
+    if x < SILENT {
+        let q = *at;
+        if behind(*m, p, 1) == q {
+            let y = simple(m, at, outline, state);
+            if y < SILENT {
+                if behind(*m, q, 1) == *at {
+                    if c == 1 {
+                        return x;
+                    }
+                    return y;
+                }
+            }
+        }
+    }
+    SILENT
+}
+
+// 2B, a condition and two simple numbers at the cursor.
+fn simple_choice(
+    m: &&[u8],
+    at: &mut usize,
+    outline: &[u64; PREPARED_WORDS],
+    state: &[u64; STATE_WORDS],
+) -> i64
+    requires { ⌜ Begins (now (now m)) (now at) 0x2b ⌝ }
+    ensures { λ r. ⌜ NumberTold (now (now (m .entry))) (now (outline .entry)) (now (state .entry)) (now (at .entry)) r (now (at .exit)) ⌝ }
+{
+    let p = *at;
+    *at = p + 1;
+    let c = whole(m, at, outline, state);
+    if c < UNTOLD {
+        return simple_by(c, m, at, outline, state);
+    }
+    SILENT
+}
+
+// 2B at the cursor: of two literals, else of two simple numbers.
+fn any_choice(
+    m: &&[u8],
+    at: &mut usize,
+    outline: &[u64; PREPARED_WORDS],
+    state: &[u64; STATE_WORDS],
+) -> i64
+    requires { ⌜ Begins (now (now m)) (now at) 0x2b ⌝ }
+    ensures { λ r. ⌜ NumberTold (now (now (m .entry))) (now (outline .entry)) (now (state .entry)) (now (at .entry)) r (now (at .exit)) ⌝ }
+{
+    let mut end = *at;
+    let x = choice(m, &mut end, outline, state);
+    if x < SILENT {
+        *at = end;
+        return x;
+    }
+    let mut far = *at;
+    let y = simple_choice(m, &mut far, outline, state);
+    *at = far;
+    y
+}
+
 // A number of one of these forms at the cursor.
 pub fn number(
     m: &&[u8],
@@ -216,7 +289,7 @@ pub fn number(
         return sum_of_terms(m, at, outline, state);
     }
     if b == 0x2b {
-        return choice(m, at, outline, state);
+        return any_choice(m, at, outline, state);
     }
     if b == 0x24 {
         return weighed(m, at, outline, state);

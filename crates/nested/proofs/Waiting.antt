@@ -16,13 +16,16 @@ use Rattle.model.specs.Numbers.{rangeEnd, rangeSize}
 use Rattle.model.specs.Values.{Value}
 use Rattle.words.proofs.Integers.{word-back}
 use Rattle.eval_sets.specs.declared.answers.NumberValue.the-variants as N
-use Rattle.eval_sets.specs.Answers.{numberAnswer}
-use Rattle.eval_sets.specs.Runs.{runNumber}
+use Rattle.eval_sets.specs.Answers.{numberAnswer, elementAnswer}
+use Rattle.eval_sets.specs.Runs.{tableIn, entryOf, runElement, runNumber}
+use Rattle.words.specs.Tables.{columnSum}
+use Rattle.quick.specs.Sets.{beginsElement, objectIn}
 use Rattle.quick.specs.Sums.{VariableTotal, totalIn}
+use Rattle.quick.proofs.Changes.{element-run}
 use Rattle.quick.proofs.Compared.{fits-value}
-use Rattle.quick.proofs.Totals.{variable-total}
+use Rattle.quick.proofs.Totals.{total-of, variable-total}
 use Rattle.cursor.specs.Places.{Stands, Begins}
-use Rattle.cursor.specs.Told.{silentFrom, here, NumberIs, NumberTo}
+use Rattle.cursor.specs.Told.{silentFrom, here, NumberIs, NumberTo, SetTo}
 use Rattle.cursor.specs.Codes.{OperationTold, isOperation}
 use Rattle.cursor_conditions.proofs.ConditionLaws.{suc-sub-one}
 use Rattle.cursor.proofs.NumberLaws.{operates, two-numbers}
@@ -59,6 +62,25 @@ module _ (bytes words state : List ℕ) where
           let deep : d - 2 + 2 ≡ d = omega (arith, h) in
           let run = rw deep at (variable-total bytes words state (d - 2) p form) in
           run ∙ ap (λ (v : Value ℤ). numberAnswer v 6) (fits-value (totalIn bytes p words state) (rw e at l)) ∙ ap (λ (v : ℤ). N.Value v 6) (sym e)
+
+  -- 2A t, a set and an element
+  pub near-total-is : {p s q : ℕ} (z : ℤ) → Begins bytes p 0x2a → SetTo bytes words state (p + 2) s q → Stands bytes q 2 → beginsElement (getD bytes q 0) ≡ true
+      → z ≡ columnSum bytes (tableIn words (getD bytes (p + 1) 0)) s (objectIn (getD bytes q 0) (getD bytes (q + 1) 0) state) → mag z < rangeEnd → NumberTo bytes words state p z (q + 2)
+  unfolding numberAnswer entryOf
+  near-total-is {p} {s} {q} z begins set there element e l = record {
+    used = 1 + (1 + (set .used + 2));
+    ends = omega (arith, set .ends);
+    is = record { there = record { inside = omega (arith, set .ends, there .inside); near = omega (arith, set .ends, there .near) }; fits = l; runs = runs };
+  }
+    where
+      column : runElement state (drop (p + 2 + set .used) bytes) ≡ elementAnswer (objectIn (getD bytes q 0) (getD bytes (q + 1) 0) state) 2
+      column = ap (λ (i : ℕ). runElement state (drop i bytes)) (sym (set .ends)) ∙ element-run state bytes q (there .inside) element
+
+      runs : (d : ℕ) → 1 + (1 + (set .used + 2)) ≤ d → runNumber d (here bytes words state) (drop p bytes) ≡ N.Value z (1 + (1 + (set .used + 2)))
+      runs d h =
+          let deep : d - 2 + 2 ≡ d = omega (arith, h) in
+          let run = rw deep at (total-of bytes words state (d - 2) p s (set .is .objects) (set .used) _ (omega (arith, set .ends, set .is .there .inside)) (begins .byte) (set .is .runs (d - 2 + 1) (omega (arith, h))) column) in
+          run ∙ ap (λ (v : Value ℤ). numberAnswer v (1 + (1 + (set .used + 2)))) (fits-value _ (rw e at l)) ∙ ap (λ (v : ℤ). N.Value v (1 + (1 + (set .used + 2)))) (sym e)
 
   module _ (p : ℕ) where
     -- k operations wait before the place a: each for its first number, or for its second behind the first

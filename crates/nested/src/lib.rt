@@ -1,7 +1,7 @@
 // Numbers of several operations, read along a cursor, sound or silent. Operations wait for their numbers in two small arrays; no function calls itself.
 
-ghost use mathlib.Core.Path.{_≡_};
-ghost use mathlib.Core.Bool.{true};
+pub mod rounded;
+
 ghost use Rattle.cursor.specs.Places.{Begins, FirstByte};
 ghost use Rattle.cursor.specs.Told.{NumberTold};
 ghost use Rattle.nested.specs.Known.{KnownAt};
@@ -12,15 +12,20 @@ use cursor::numbers::literal;
 use cursor::numbers::operation;
 use cursor::places::first_byte;
 use cursor::places::stands;
+use cursor::sets::near_set;
 use cursor_conditions::terms::choice;
 use outline::layout::PREPARED_WORDS;
 use outline::layout::STATE_WORDS;
+use outline::layout::TABLES;
 use outline::word_at;
+use quick::sets::begins_element;
+use quick::sets::object;
 use quick::sums::is_variable_total;
 use quick::sums::total_at;
 use words::arithmetic::biased;
 use words::arithmetic::in_range;
 use words::arithmetic::signed_word;
+use words::tables::total;
 
 // How many operations may wait.
 const MOST_WAITING: usize = 8;
@@ -70,6 +75,40 @@ fn summed(
     SILENT
 }
 
+// 2A t, a near set and an element at the cursor.
+fn summed_near(
+    m: &&[u8],
+    at: &mut usize,
+    outline: &[u64; PREPARED_WORDS],
+    state: &[u64; STATE_WORDS],
+) -> i64
+    requires { ⌜ Begins (now (now m)) (now at) 0x2a ⌝ }
+    ensures { λ r. ⌜ NumberTold (now (now (m .entry))) (now (outline .entry)) (now (state .entry)) (now (at .entry)) r (now (at .exit)) ⌝ }
+{
+    let p = *at;
+    let e = *m;
+    if stands(e, p, 2) {
+        *at = p + 2;
+        let s = near_set(m, at, outline, state);
+        let q = *at;
+        if q == p + 2 {
+            return SILENT;
+        }
+        if stands(e, q, 2) {
+            if begins_element(e[q]) {
+                *at = q + 2;
+                let table = word_at(outline, TABLES + e[p + 1] as usize);
+                let j = object(e[q], e[q + 1], state);
+                let z = total(e, table, s, j);
+                if in_range(z) {
+                    return z;
+                }
+            }
+        }
+    }
+    SILENT
+}
+
 // A number without operations at the cursor, which begins with byte b. A table's sum at `place` is known: `sum`.
 fn part(
     b: u8,
@@ -100,7 +139,15 @@ fn part(
             *at = place + 6;
             return sum;
         }
-        return summed(m, at, outline, state);
+        let p = *at;
+        let z = summed(m, at, outline, state);
+        if z < SILENT {
+            return z;
+        }
+        let mut far = p;
+        let y = summed_near(m, &mut far, outline, state);
+        *at = far;
+        return y;
     }
     if b == 0x2b {
         let mut end = *at;

@@ -130,7 +130,7 @@ module _ (bytes words state : List ℕ) where
       element-literal state (drop at bytes) (rw (length-drop at bytes) (omega arith)) (sym (first-at at bytes) ∙ b) ∙ ap (λ (i : ℕ). elementAnswer (i % mostObjects) 2) (getD-drop at bytes 1 0)
 
   -- behind 2A t: the set s, which uses m bytes, and the column j
-  total-of : (d at s objects m j : ℕ) → at + 2 ≤ length bytes → getD bytes at 0 ≡ 0x2a → runSet (d + 1) state words (drop (at + 2) bytes) ≡ setAnswer s objects m → runElement state (drop (at + 2 + m) bytes) ≡ elementAnswer j 2
+  pub total-of : (d at s objects m j : ℕ) → at + 2 ≤ length bytes → getD bytes at 0 ≡ 0x2a → runSet (d + 1) state words (drop (at + 2) bytes) ≡ setAnswer s objects m → runElement state (drop (at + 2 + m) bytes) ≡ elementAnswer j 2
       → runNumber (d + 2) here (drop at bytes) ≡ numberAnswer (fits (sumOver (λ i. entryOf bytes (tableIn words (getD bytes (at + 1) 0)) i j) (members s))) (1 + (1 + (m + 2)))
   unfolding numberForm numberAt numberBehind
   total-of d at s objects m j l b set column =

@@ -20,6 +20,7 @@ use crate::conditions::conditions_hold;
 use crate::conditions::constraints_hold;
 use crate::parts::element_at;
 use crate::parts::number_near;
+use crate::parts::number_short;
 use crate::parts::set_at;
 use cursor::numbers::SILENT;
 use eval_sets::answers::NumberValue;
@@ -92,7 +93,7 @@ fn number_word(
     requires { ⌜ Outlined (now model) (now outline) × (at ≤ length (now model)) ⌝ }
     ensures { λ r. ⌜ NumberWordSays (now (model .entry)) at (now (state .entry)) r × WordWithin (length (now (model .entry)) - at) r ⌝ }
 {
-    match number_near(model, at, outline, state) {
+    match number_short(model, at, outline, state) {
         NumberValue::Value(z, used) => WordAnswer::Word(biased(z), used),
         NumberValue::Trouble(t) => WordAnswer::Trouble(t),
     }

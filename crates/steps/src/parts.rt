@@ -8,6 +8,7 @@ ghost use Rattle.nested.specs.Known.{KnownAt};
 ghost use Rattle.steps.specs.InBytes.{Outlined};
 ghost use Rattle.steps.specs.Says.{ConditionSays, NumberSays, ElementSays, SetSays};
 use cursor::numbers::SILENT;
+use cursor::numbers::shifted;
 use eval_numbers::number;
 use eval_sets::answers::ConditionValue;
 use eval_sets::answers::ElementValue;
@@ -16,6 +17,7 @@ use eval_sets::answers::SetValue;
 use eval_sets::sets::element;
 use eval_sets::sets::set;
 use eval_tests::test;
+use nested::rounded::rounded;
 use outline::layout::PREPARED_WORDS;
 use outline::layout::STATE_WORDS;
 
@@ -69,7 +71,7 @@ pub fn number_at(
 }
 
 // The same, along a cursor where that tells it, else by the evaluators. A table's sum at `place` is known: `sum`.
-pub fn number_knowing(
+fn number_with(
     model: &[u8],
     at: usize,
     outline: &[u64; PREPARED_WORDS],
@@ -90,6 +92,30 @@ pub fn number_knowing(
     number_at(model, at, outline, state)
 }
 
+// The same, a quotient rounded up in place where a sum is known.
+pub fn number_knowing(
+    model: &[u8],
+    at: usize,
+    outline: &[u64; PREPARED_WORDS],
+    state: &[u64; STATE_WORDS],
+    place: usize,
+    sum: i64,
+) -> NumberValue
+    requires { ⌜ Outlined (now model) (now outline) × (at ≤ length (now model)) × KnownAt (now model) (now outline) (now state) place sum ⌝ }
+    ensures { λ r. ⌜ NumberSays (now (model .entry)) at (now (state .entry)) r × NumberWithin (length (now (model .entry)) - at) r ⌝ }
+{
+    if place < model.len() {
+        let whole = model;
+        let mut end = at;
+        let told = rounded(&whole, &mut end, outline, state, place, sum);
+        if told < SILENT {
+            let used = end - at;
+            return NumberValue::Value(told, used);
+        }
+    }
+    number_with(model, at, outline, state, place, sum)
+}
+
 // The same with nothing known.
 pub fn number_near(
     model: &[u8],
@@ -100,7 +126,27 @@ pub fn number_near(
     requires { ⌜ Outlined (now model) (now outline) × (at ≤ length (now model)) ⌝ }
     ensures { λ r. ⌜ NumberSays (now (model .entry)) at (now (state .entry)) r × NumberWithin (length (now (model .entry)) - at) r ⌝ }
 {
-    number_knowing(model, at, outline, state, model.len(), 0)
+    number_with(model, at, outline, state, model.len(), 0)
+}
+
+// The same, a variable with a literal added or taken off in place.
+pub fn number_short(
+    model: &[u8],
+    at: usize,
+    outline: &[u64; PREPARED_WORDS],
+    state: &[u64; STATE_WORDS],
+) -> NumberValue
+    requires { ⌜ Outlined (now model) (now outline) × (at ≤ length (now model)) ⌝ }
+    ensures { λ r. ⌜ NumberSays (now (model .entry)) at (now (state .entry)) r × NumberWithin (length (now (model .entry)) - at) r ⌝ }
+{
+    let whole = model;
+    let mut end = at;
+    let told = shifted(&whole, &mut end, outline, state);
+    if told < SILENT {
+        let used = end - at;
+        return NumberValue::Value(told, used);
+    }
+    number_near(model, at, outline, state)
 }
 
 // The object of the element at a place.

@@ -1,6 +1,6 @@
 -- `nested::number` meets its contract.
-use Prim.Native.Nat.{_+_, _-_, _*_, _≤_}
-use mathlib.Core.Path.{_≡_, refl, sym, _∙_}
+use Prim.Native.Nat.{_+_, _-_, _*_}
+use mathlib.Core.Path.{refl, sym, _∙_}
 use mathlib.Core.Bool.{true, cond, false≢true}
 use native.Mathlib.Omega.{arith}
 use borrow.Author.Needs.{needs}

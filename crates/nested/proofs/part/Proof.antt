@@ -60,7 +60,9 @@ part-spec =
     add-at
     returns-4
     (λ c κs. search needs)
-    (λ c. let f : SFits w64 (c .summed .result) = search needs in rw (back f) (c .summed .ensures))
-    (λ c κs. let start : tie.Start = search in let here : tie.Then6 = search in begun 0x2b (start .pre .0) (here .if6 .taken) (λ z. absurd (omega (arith, z))))
+    (λ c. let first : tie.After-summed = search in let f : SFits w64 (first .summed .result) = search needs in rw (back f) (first .summed .ensures))
+    (λ c κs. let start : tie.Start = search in let here : tie.Then4 = search in begun 0x2a (start .pre .0) (here .if4 .taken) (λ z. absurd (omega (arith, z))))
+    (λ c. let f : SFits w64 (c .summed-near .result) = search needs in rw (back f) (c .summed-near .ensures))
+    (λ c κs. let start : tie.Start = search in let here : tie.Then7 = search in begun 0x2b (start .pre .0) (here .if7 .taken) (λ z. absurd (omega (arith, z))))
     (λ c. let f : SFits w64 (c .choice .result) = search needs in rw (back f) (c .choice .ensures))
     (λ c l. absurd (false≢true l)))

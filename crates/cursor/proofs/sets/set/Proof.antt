@@ -1,7 +1,6 @@
 -- `cursor::sets::set` meets its contract.
 use mathlib.Core.Path.{_≡_, sym, _∙_}
 use mathlib.Core.Bool.{true}
-use native.Mathlib.Omega.{arith}
 use borrow.Author.Needs.{needs}
 use Rattle.cursor.specs.Places.{Begins}
 use Rattle.cursor.specs.Codes.{isCombination}
@@ -22,8 +21,8 @@ combines c = sym (c .before .is-combination .ensures) ∙ c .if1 .taken
 begins : (c : tie.Then1) → Begins (start-of c .args .m .now .now) (start-of c .args .at .now) (byte-of c .first-byte .result)
 begins c = byte-of c .first-byte .ensures .begins (combination-some (byte-of c .first-byte .result) (combines c))
 
-add-first-byte : tie.Need-add-first-byte
-add-first-byte c = let here : tie.Then1 = search in omega (arith, begins here .there .near)
+is-deep-requires : tie.Need-is-deep-requires
+is-deep-requires c κs = let here : tie.Then1 = search in begins here .there
 
 two-sets-requires : tie.Need-two-sets-requires
 two-sets-requires c κs = let here : tie.Then1 = search in (begins here, combines here)
@@ -34,8 +33,7 @@ set-spec =
     (tie.spec
     (λ c κs. search needs)
     (λ c κs. search needs)
-    add-first-byte
-    (λ c κs. search needs)
+    is-deep-requires
     two-sets-requires
     (λ c. search needs)
     (λ c κs. search needs)

@@ -6,14 +6,14 @@ use Rattle.cursor_conditions.proofs.ConditionLaws.{begun, relation-some
 use Rattle.cursor_conditions.proofs.conditions.plain.Statement.{statement}
 use Rattle.cursor_conditions.proofs.conditions.plain.Tie as tie
 
-member-requires : tie.Need-member-requires
-member-requires c κs =
+any-member-requires : tie.Need-any-member-requires
+any-member-requires c κs =
     let start : tie.Start = search in
     let taken : tie.Then1 = search in
     begun 0x54 (start .pre) (taken .if1 .taken) (λ z. absurd (omega arith))
 
-empty-requires : tie.Need-empty-requires
-empty-requires c κs =
+any-empty-requires : tie.Need-any-empty-requires
+any-empty-requires c κs =
     let start : tie.Start = search in
     let taken : tie.Then2 = search in
     begun 0x55 (start .pre) (taken .if2 .taken) (λ z. absurd (omega arith))
@@ -30,8 +30,8 @@ subset-requires c κs =
     let taken : tie.Then4 = search in
     begun 0x56 (start .pre) (taken .if4 .taken) (λ z. absurd (omega arith))
 
-comparison-requires : tie.Need-comparison-requires
-comparison-requires c κs =
+any-comparison-requires : tie.Need-any-comparison-requires
+any-comparison-requires c κs =
     let start : tie.Start = search in
     let taken : tie.Then5 = search in
     let compares = sym (taken .before .is-relation .ensures) ∙ taken .if5 .taken in
@@ -44,15 +44,15 @@ pub plain-spec : {M : Type 1} → statement M
 plain-spec =
     tie.close
     (tie.spec
-    member-requires
+    any-member-requires
     (λ c. search needs)
-    empty-requires
+    any-empty-requires
     (λ c. search needs)
     same-requires
     (λ c. search needs)
     subset-requires
     (λ c. search needs)
     (λ c κs. search needs)
-    comparison-requires
+    any-comparison-requires
     (λ c. search needs)
     returns-6)

@@ -14,16 +14,16 @@ returns c =
     let f : SFits w64 (c .sum-of-terms .result) = search needs in
     rw (back f) (c .sum-of-terms .ensures)
 
-choice-requires : tie.Need-choice-requires
-choice-requires c κs =
+any-choice-requires : tie.Need-any-choice-requires
+any-choice-requires c κs =
     let read : tie.After-first-byte = search in
     let taken : tie.Then2 = search in
     begun 0x2b (read .first-byte .ensures) (taken .if2 .taken) (λ z. absurd (omega arith))
 
 returns-2 : tie.Need-returns-2
 returns-2 c =
-    let f : SFits w64 (c .choice .result) = search needs in
-    rw (back f) (c .choice .ensures)
+    let f : SFits w64 (c .any-choice .result) = search needs in
+    rw (back f) (c .any-choice .ensures)
 
 weighed-requires : tie.Need-weighed-requires
 weighed-requires c κs =
@@ -57,7 +57,7 @@ number-spec =
     (λ c κs. search needs)
     (λ c κs. search needs)
     returns
-    choice-requires
+    any-choice-requires
     returns-2
     weighed-requires
     returns-3

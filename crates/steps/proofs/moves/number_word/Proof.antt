@@ -7,15 +7,16 @@ use borrow.Author.Needs.{needs}
 use Rattle.steps.proofs.moves.number_word.Statement.{statement}
 use Rattle.steps.proofs.moves.number_word.Tie as tie
 
-number-near-requires : tie.Need-number-near-requires
-number-near-requires c κs = search needs
+number-short-requires : tie.Need-number-short-requires
+number-short-requires c κs = search needs
 
 enum-known-z : tie.Need-enum-known-z
 enum-known-z c = search needs
 
 biased-requires : tie.Need-biased-requires
 biased-requires c κs =
-    let w = value-within _ (c .before .z .given .1) (c .before .before .before .number-near .ensures .1) in
+    let run : tie.After-number-short = search in
+    let w = value-within _ (c .before .z .given .1) (run .number-short .ensures .1) in
     rw (back (range-fits (w .0))) (w .0)
 
 enum-known-t : tie.Need-enum-known-t
@@ -24,17 +25,21 @@ enum-known-t c = search needs
 returns : tie.Need-returns
 returns c =
     let start : tie.Start = search in
-    let w = value-within _ (c .before .before .z .given .1) (c .before .before .before .before .number-near .ensures .1) in (
+    let run : tie.After-number-short = search in
+    let w = value-within _ (c .before .before .z .given .1) (run .number-short .ensures .1) in (
       number-word-says _ (start .args .at) _ _
-          (c .before .before .before .before .number-near .ensures .0) (c .before .before .z .given .1)
+          (run .number-short .ensures .0) (c .before .before .z .given .1)
           (rw (back (range-fits (w .0))) at (c .biased .ensures)),
       w .1,
     )
 
 returns-2 : tie.Need-returns-2
-returns-2 c = let start : tie.Start = search in (number-word-troubles _ (start .args .at) _ _ (c .before .before .before .number-near .ensures .0) (c .before .t .given .1), tt)
+returns-2 c =
+    let start : tie.Start = search in
+    let run : tie.After-number-short = search in
+    (number-word-troubles _ (start .args .at) _ _ (run .number-short .ensures .0) (c .before .t .given .1), tt)
 
 pub number-word-spec : {M : Type 1} → statement M
 number-word-spec =
     tie.close
-    (tie.spec number-near-requires enum-known-z biased-requires enum-known-t returns returns-2)
+    (tie.spec number-short-requires enum-known-z biased-requires enum-known-t returns returns-2)

@@ -1,0 +1,2 @@
+-- What connectives that wait make of the conditions behind them.
+pub mod Waiting
