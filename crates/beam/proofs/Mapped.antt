@@ -1,26 +1,28 @@
 -- Lists of words as lists of nodes: the definition's tests, placing, filtering and cutting on nodes are those on their words.
-use Prim.Native.Nat.{ℕ, zero, suc, _+_, _*_, _≤_, _<_}
+use Prim.Native.Nat.{ℕ, zero, suc, _+_, _*_, _<_}
 use mathlib.Core.Path.{_≡_, refl, sym, ap, _∙_}
 use mathlib.Core.Bool.{Bool, true, false, cond, not, _&&_, _||_}
 use mathlib.Core.List.{List, [], _∷_, _++_, map, dropLast}
 use native.Mathlib.Omega.{arith}
-use borrow.Author.Tests.{ltb-true, ltb-false, le-leb, lt-leb}
-use lib.Dec.{ltb, leb}
+use lib.Dec.{ltb}
 use lib.ListN.{length, getD, take, drop, length-map}
 use Rattle.laws.specs.Lists.{any, filter}
 use Rattle.laws.proofs.Bools.{or-neither}
 use Rattle.model.specs.Numbers.{mostVariables}
 use Rattle.model.specs.Meaning.{State}
+use Rattle.model.specs.declared.Cost.{Cost}
+use Rattle.model.specs.Costs.{atMost}
 use Rattle.steps.specs.InBytes.{systemIn, stateIn}
 use Rattle.steps.specs.Follow.{costsIn}
 use Rattle.steps.proofs.Promises.{cost-order}
 use Rattle.search.specs.Search.{Node, Round, less, before as before·node, place, beats as beats·node, cut, insert}
-use Rattle.beam_order.specs.Slots.{gAt, hAt, fAt, stateAt, slotWords, wordsIn, earlier, placed}
+use Rattle.beam_order.specs.Slots.{hAt, stateAt, slotWords, gOf, hOf, fOf, wordsIn, earlier, placed}
 use Rattle.beam_order.specs.Order.{without}
-use Rattle.beam_order.proofs.Arrays.{word-in}
+use Rattle.beam_order.proofs.Words.{g-in-slot, g-front}
+use Rattle.beam_order.proofs.Tests.{before-by-tests}
 use Rattle.beam.specs.Nodes.{nodeOf, ChildWords, dominatesAt, beats}
 use Rattle.beam.specs.Layers.{roundWith}
-use Rattle.beam.proofs.Written.{state-in, child-word, child-state}
+use Rattle.beam.proofs.Written.{state-in, child-state}
 
 -- ---- any list
 
@@ -85,16 +87,8 @@ filter-without {A} q at (suc p) (x ∷ k) h e = by-test (q (at x)) (filter-witho
 
 -- ---- tests
 
--- "less" is the words' test
-pub not-at-most : (a b : ℕ) → not (leb b a) ≡ ltb a b
-not-at-most a b = by-test (ltb a b) refl
-  where
-    by-test : (t : Bool) → ltb a b ≡ t → not (leb b a) ≡ t
-    by-test true e = rw (lt-leb b a (ltb-true a b e))
-    by-test false e = rw (le-leb b a (ltb-false a b e))
-
 -- a round that keeps its nodes, unmarked
-pub round-same : (r : Round State ℕ) (l : List (Node State ℕ)) → r .kept ≡ l → r ≡ roundWith l false r
+pub round-same : (r : Round State Cost) (l : List (Node State Cost)) → r .kept ≡ l → r ≡ roundWith l false r
 unfolding roundWith
 round-same r l e = rw (← e) (ap (λ (t : Bool). record { kept = r .kept; widthMark = t; lengthMark = r .lengthMark; improved = r .improved; progress = r .progress }) (unmarked (r .widthMark)))
   where
@@ -103,22 +97,14 @@ round-same r l e = rw (← e) (ap (λ (t : Bool). record { kept = r .kept; width
     unmarked false = refl
 
 module _ (bytes : List ℕ) (parentPath : ℕ → List ℕ) where
-  abbrev node : List ℕ → Node State ℕ
+  abbrev node : List ℕ → Node State Cost
   node = nodeOf bytes parentPath
-
-  by-order : (f h f′ h′ : ℕ) → (not (leb f′ f) || (leb f f′ && not (leb h′ h))) ≡ cond (ltb f f′) true (cond (ltb f′ f) false (ltb h h′))
-  by-order f h f′ h′ = rw (not-at-most f f′, not-at-most h h′) (by-tests (ltb f f′) (ltb f′ f) refl)
-    where
-      by-tests : (t u : Bool) → ltb f′ f ≡ u → (t || (leb f f′ && ltb h h′)) ≡ cond t true (cond u false (ltb h h′))
-      by-tests true u e = refl
-      by-tests false true e = rw (lt-leb f f′ (ltb-true f′ f e))
-      by-tests false false e = rw (le-leb f f′ (ltb-false f′ f e))
 
   pub same-before : (a b : List ℕ) → before·node (costsIn bytes) (systemIn bytes) (node a) (node b) ≡ earlier a b
   unfolding before·node less nodeOf earlier
   same-before a b =
-      rw (cost-order bytes (getD b fAt 0) (getD a fAt 0), cost-order bytes (getD a fAt 0) (getD b fAt 0), cost-order bytes (getD b hAt 0) (getD a hAt 0))
-      (by-order (getD a fAt 0) (getD a hAt 0) (getD b fAt 0) (getD b hAt 0))
+      rw (cost-order bytes (fOf b) (fOf a), cost-order bytes (fOf a) (fOf b), cost-order bytes (hOf b) (hOf a))
+      (before-by-tests (fOf a) (fOf b) (getD a hAt 0) (getD b hAt 0))
 
   pub same-place : (c : List ℕ) (l : List (List ℕ)) → place (costsIn bytes) (systemIn bytes) (node c) (map node l) ≡ map node (placed c l)
   unfolding place placed
@@ -131,20 +117,20 @@ module _ (bytes : List ℕ) (parentPath : ℕ → List ℕ) where
 
   pub same-beats : (a b : List ℕ) → beats·node (costsIn bytes) (systemIn bytes) (node a) (node b) ≡ beats bytes a b
   unfolding beats·node nodeOf beats
-  same-beats a b = rw (cost-order bytes (getD a gAt 0) (getD b gAt 0))
+  same-beats a b = rw (cost-order bytes (gOf a) (gOf b))
 
   -- ---- rule 5 on words
 
   abbrev left : (c : List ℕ) (l : List (List ℕ)) → List (List ℕ)
   left c l = placed c (filter (λ m. not (beats bytes c m)) l)
 
-  module _ (w : ℕ) (c : List ℕ) (l : List (List ℕ)) (r : Round State ℕ) (is : r .kept ≡ map node l) where
+  module _ (w : ℕ) (c : List ℕ) (l : List (List ℕ)) (r : Round State Cost) (is : r .kept ≡ map node l) where
     tested : any (λ k. beats·node (costsIn bytes) (systemIn bytes) k (node c)) (r .kept) ≡ any (λ m. beats bytes m c) l
     tested = ap (any (λ k. beats·node (costsIn bytes) (systemIn bytes) k (node c))) is ∙ any-map node (λ k. beats·node (costsIn bytes) (systemIn bytes) k (node c)) l ∙ any-same _ _ l (λ m. same-beats m c)
 
     placed-left : place (costsIn bytes) (systemIn bytes) (node c) (filter (λ k. not (beats·node (costsIn bytes) (systemIn bytes) (node c) k)) (r .kept)) ≡ map node (left c l)
     placed-left =
-        ap (λ (k : List (Node State ℕ)). place (costsIn bytes) (systemIn bytes) (node c) (filter (λ x. not (beats·node (costsIn bytes) (systemIn bytes) (node c) x)) k)) is
+        ap (λ (k : List (Node State Cost)). place (costsIn bytes) (systemIn bytes) (node c) (filter (λ x. not (beats·node (costsIn bytes) (systemIn bytes) (node c) x)) k)) is
         ∙ ap (place (costsIn bytes) (systemIn bytes) (node c)) (filter-map node (λ x. not (beats·node (costsIn bytes) (systemIn bytes) (node c) x)) l ∙ ap (map node) (filter-same _ _ l (λ m. ap not (same-beats c m))))
         ∙ same-place c (filter (λ m. not (beats bytes c m)) l)
 
@@ -161,22 +147,22 @@ module _ (bytes : List ℕ) (parentPath : ℕ → List ℕ) where
         let long : ltb w (length (map node (left c l))) ≡ marked = rw (length-map (left c l) node) m in
         rw (tested, e, placed-left, long, k) (by-mark marked)
       where
-        by-mark : (t : Bool) → _≡_ {A = Round State ℕ} (record { kept = cond t (dropLast (map node (left c l))) (map node (left c l)); widthMark = r .widthMark || t; lengthMark = r .lengthMark; improved = r .improved; progress = r .progress })
+        by-mark : (t : Bool) → _≡_ {A = Round State Cost} (record { kept = cond t (dropLast (map node (left c l))) (map node (left c l)); widthMark = r .widthMark || t; lengthMark = r .lengthMark; improved = r .improved; progress = r .progress })
             (record { kept = map node (cond t (dropLast (left c l)) (left c l)); widthMark = r .widthMark || t; lengthMark = r .lengthMark; improved = r .improved; progress = r .progress })
         by-mark true = rw (cut-map node (left c l))
         by-mark false = refl
 
 -- ---- the code's test
 
-pub dominates-by : (bytes : List ℕ) (g : ℕ) (a : List ℕ) (other : ℕ) (b : List ℕ) (r : Bool) → g ≤ other → r ≡ systemIn bytes .dominates (stateIn bytes a) (stateIn bytes b) → r ≡ dominatesAt bytes g a other b
-dominates-by bytes g a other b r h e = e ∙ rw (le-leb g other h) (sym (both _))
+pub dominates-by : (bytes : List ℕ) (g : Cost) (a : List ℕ) (other : Cost) (b : List ℕ) (r : Bool) → atMost g other ≡ true → r ≡ systemIn bytes .dominates (stateIn bytes a) (stateIn bytes b) → r ≡ dominatesAt bytes g a other b
+dominates-by bytes g a other b r h e = e ∙ rw h (sym (both _))
   where
     both : (t : Bool) → (t && true) ≡ t
     both true = refl
     both false = refl
 
-pub dominates-not : (bytes : List ℕ) (g : ℕ) (a : List ℕ) (other : ℕ) (b : List ℕ) → other < g → false ≡ dominatesAt bytes g a other b
-dominates-not bytes g a other b h = rw (lt-leb g other h) (sym (neither (systemIn bytes .dominates (stateIn bytes a) (stateIn bytes b))))
+pub dominates-not : (bytes : List ℕ) (g : Cost) (a : List ℕ) (other : Cost) (b : List ℕ) → atMost g other ≡ false → false ≡ dominatesAt bytes g a other b
+dominates-not bytes g a other b h = rw h (sym (neither (systemIn bytes .dominates (stateIn bytes a) (stateIn bytes b))))
   where
     neither : (t : Bool) → (t && false) ≡ false
     neither true = refl
@@ -190,10 +176,10 @@ module _ (bytes slots : List ℕ) (s : ℕ) (header state : List ℕ) (both : Ch
   abbrev slotState : List ℕ
   slotState = take mostVariables (drop (at + stateAt) slots)
 
-  pub child-beats : dominatesAt bytes (getD header gAt 0) state (getD slots (at + gAt) 0) slotState ≡ beats bytes (header ++ state) (wordsIn slots s)
+  pub child-beats : dominatesAt bytes (gOf header) state (gOf (drop at slots)) slotState ≡ beats bytes (header ++ state) (wordsIn slots s)
   unfolding beats
-  child-beats = rw (child-word header state both gAt (omega arith), child-state header state both, word-in slots s gAt (omega arith), state-in slots s)
+  child-beats = rw (g-front header state (both .header-long), child-state header state both, g-in-slot slots s, state-in slots s)
 
-  pub beats-child : dominatesAt bytes (getD slots (at + gAt) 0) slotState (getD header gAt 0) state ≡ beats bytes (wordsIn slots s) (header ++ state)
+  pub beats-child : dominatesAt bytes (gOf (drop at slots)) slotState (gOf header) state ≡ beats bytes (wordsIn slots s) (header ++ state)
   unfolding beats
-  beats-child = rw (child-word header state both gAt (omega arith), child-state header state both, word-in slots s gAt (omega arith), state-in slots s)
+  beats-child = rw (g-front header state (both .header-long), child-state header state both, g-in-slot slots s, state-in slots s)

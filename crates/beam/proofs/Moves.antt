@@ -1,13 +1,16 @@
 -- What each move leaves of a layer in one list: the laws of three lists, at its parts.
 use Prim.Native.Nat.{ℕ, _+_, _*_, _-_, _^_, _≤_, _<_}
 use mathlib.Core.Path.{_≡_, sym, ap, subst, _∙_}
-use mathlib.Core.Bool.{true}
+use mathlib.Core.Bool.{true, false}
 use mathlib.Core.List.{List, _++_}
 use native.Mathlib.Omega.{arith}
 use lib.ListN.{length, take, drop, getD}
-use lib.Seq.{length-take-le, getD-take}
-use Rattle.beam_order.specs.Slots.{headerWords, slotWords, fAt, placed, layerWords, linksAt, orderAt}
+use lib.Seq.{length-take-le}
+use Rattle.model.specs.declared.Cost.{Cost}
+use Rattle.model.specs.Costs.{atMost}
+use Rattle.beam_order.specs.Slots.{headerWords, slotWords, fOf, wordsIn, placed, layerWords, linksAt, orderAt}
 use Rattle.beam_order.specs.Order.{used, inserted, removed, without, upFrom, earlierAt, Cutoff, FoundBelow}
+use Rattle.beam_order.proofs.Words.{f-in-slot}
 use Rattle.beam_index.specs.Links.{Added, Cleared}
 use Rattle.beam_index.specs.Links as L
 use Rattle.beam.specs.Nodes.{stateWords}
@@ -117,25 +120,30 @@ module _ {w n : ℕ} {words : List ℕ} (la : Layer w n words) where
   place-below i h = subst (λ (s : ℕ). s < w) (order-at w words i (omega (arith, few-in))) (la .parts .inside .each i h)
 
   -- the f at a place
-  pub f-in : (i : ℕ) → i < n → getD (slotsOf w words) (getD (orderOf w words) i 0 * slotWords + fAt) 0 ≡ getD words (getD words (orderAt * w + i) 0 * slotWords + fAt) 0
+  abbrev pub fAtPlace : ℕ → Cost
+  fAtPlace i = fOf (drop (getD words (orderAt * w + i) 0 * slotWords) words)
+
+  pub f-in : (i : ℕ) → i < n → fOf (wordsIn (slotsOf w words) (getD (orderOf w words) i 0)) ≡ fAtPlace i
   f-in i h =
-      ap (λ (s : ℕ). getD (slotsOf w words) (s * slotWords + fAt) 0) (order-at w words i (omega (arith, few-in)))
-      ∙ getD-take (orderAt * w) words (getD words (orderAt * w + i) 0 * slotWords + fAt) 0 (omega (arith, place-below i h))
+      let s = getD words (orderAt * w + i) 0 in
+      ap (λ (x : ℕ). fOf (wordsIn (slotsOf w words) x)) (order-at w words i (omega (arith, few-in)))
+      ∙ ap fOf (words-front words (orderAt * w) s (omega (arith, place-below i h)))
+      ∙ f-in-slot words s
 
   -- from place r on no f is below the best
-  abbrev pub Rest : (r best : ℕ) → Type 0
-  Rest r best = (i : ℕ) → r ≤ i → i < n → best ≤ getD words (getD words (orderAt * w + i) 0 * slotWords + fAt) 0
+  abbrev pub Rest : (r : ℕ) (best : Cost) → Type 0
+  Rest r best = (i : ℕ) → r ≤ i → i < n → atMost best (fAtPlace i) ≡ true
 
-  below-in : (r best : ℕ) → r ≤ n → ((i : ℕ) → i < r → getD (slotsOf w words) (getD (orderOf w words) i 0 * slotWords + fAt) 0 < best) → Rest r best → Below w n r best words
+  below-in : (r : ℕ) (best : Cost) → r ≤ n → ((i : ℕ) → i < r → atMost best (fOf (wordsIn (slotsOf w words) (getD (orderOf w words) i 0))) ≡ false) → Rest r best → Below w n r best words
   below-in r best h low rest =
       record {
         fewer = h;
         layer = record { long = la .long; parts = fewer-layer (la .parts) r h };
-        left = left-below (la .parts) r best h low (λ i a b. omega (arith, f-in i b, rest i a b));
+        left = left-below (la .parts) r best h low (λ i a b. ap (atMost best) (f-in i b) ∙ rest i a b);
       }
 
-  pub below-at : (r best : ℕ) → 0 < r → r ≤ n → getD words (getD words (orderAt * w + (r - 1)) 0 * slotWords + fAt) 0 < best → Rest r best → Below w n r best words
-  below-at r best pos h low = below-in r best h (low-before (la .parts) r best pos h (omega (arith, f-in (r - 1) (omega arith))))
+  pub below-at : (r : ℕ) (best : Cost) → 0 < r → r ≤ n → atMost best (fAtPlace (r - 1)) ≡ false → Rest r best → Below w n r best words
+  below-at r best pos h low = below-in r best h (low-before (la .parts) r best pos h (ap (atMost best) (f-in (r - 1) (omega arith)) ∙ low))
 
-  pub below-none : (best : ℕ) → Rest 0 best → Below w n 0 best words
+  pub below-none : (best : Cost) → Rest 0 best → Below w n 0 best words
   below-none best = below-in 0 best (omega arith) (λ i l. absurd (omega arith))

@@ -5,16 +5,16 @@ use mathlib.Core.Bool.{false, cond}
 use mathlib.Core.List.{List, [], _∷_, map}
 use native.Mathlib.Omega.{arith}
 use native.Mathlib.Numerals.{add-one}
-use lib.Dec.{leb}
 use lib.ListN.{length, take, drop, getD, length-map, length-drop, take-append-drop, List·getD-map}
 use lib.Seq.{drop-cons, getD-take, length-take-le, take-append-le, drop-append-le}
+use Rattle.model.specs.declared.Cost.{Cost}
+use Rattle.model.specs.Costs.{atMost}
 use Rattle.search.specs.Search.{raisedLow}
 use Rattle.steps.specs.InBytes.{systemIn}
 use Rattle.steps.specs.Follow.{costsIn}
 use Rattle.steps.proofs.Promises.{cost-order}
-use Rattle.beam_order.specs.Slots.{slotWords, fAt, wordsIn, Sorted, layerWords, orderAt}
+use Rattle.beam_order.specs.Slots.{slotWords, fOf, wordsIn, Sorted, layerWords, orderAt}
 use Rattle.beam_order.specs.Order.{keptIn}
-use Rattle.beam_order.proofs.Arrays.{word-in}
 use Rattle.beam.specs.Nodes.{nodeOf, nodeIn, nodesIn}
 use Rattle.beam.specs.Layers.{slotsOf, orderOf, nodesOf, Layer}
 use Rattle.beam.proofs.Ends.{least-first}
@@ -64,15 +64,16 @@ module _ (bytes : List ℕ) (path : ℕ → List ℕ) {w n : ℕ} {words : List 
       ∙ rw (node-at i h, add-one i)
 
   -- rule 6: low rises to the f of the first, if that is greater
-  pub raised-low : (low : ℕ) → 0 < n → raisedLow (costsIn bytes) (systemIn bytes) false (nodesOf w words bytes path n) low ≡ (let f = getD words (getD words (orderAt * w) 0 * slotWords + fAt) 0 in cond (leb f low) low f)
+  pub raised-low : (low : Cost) → 0 < n → raisedLow (costsIn bytes) (systemIn bytes) false (nodesOf w words bytes path n) low ≡ (let f = fOf (drop (getD words (orderAt * w) 0 * slotWords) words) in cond (atMost f low) low f)
   unfolding nodesIn keptIn
   raised-low low pos =
       let z : orderAt * w + 0 ≡ orderAt * w = omega arith in
       by-list (take n order) (omega (arith, first-length)) (la .parts .sorted)
-      ∙ ap (λ (f : ℕ). cond (leb f low) low f) (ap (λ (s : ℕ). getD (wordsIn slots s) fAt 0) (getD-take n order 0 0 pos) ∙ word-in slots (getD order 0 0) fAt (omega arith) ∙ f-in la 0 pos ∙ ap (λ (i : ℕ). getD words (getD words i 0 * slotWords + fAt) 0) z)
+      ∙ ap (λ (f : Cost). cond (atMost f low) low f)
+      (ap (λ (s : ℕ). fOf (wordsIn slots s)) (getD-take n order 0 0 pos) ∙ f-in la 0 pos ∙ ap (λ (i : ℕ). fOf (drop (getD words i 0 * slotWords) words)) z)
     where
-      by-list : (k : List ℕ) → 0 < length k → Sorted (map (wordsIn slots) k) → raisedLow (costsIn bytes) (systemIn bytes) false (map (nodeOf bytes path) (map (wordsIn slots) k)) low ≡ (let f = getD (wordsIn slots (getD k 0 0)) fAt 0 in cond (leb f low) low f)
+      by-list : (k : List ℕ) → 0 < length k → Sorted (map (wordsIn slots) k) → raisedLow (costsIn bytes) (systemIn bytes) false (map (nodeOf bytes path) (map (wordsIn slots) k)) low ≡ (let f = fOf (wordsIn slots (getD k 0 0)) in cond (atMost f low) low f)
       by-list [] h s = absurd (omega arith)
       by-list (y ∷ k) h s =
           unfold raisedLow in
-          rw (cost-order bytes) (ap (λ (f : ℕ). cond (leb f low) low f) (least-first bytes path (wordsIn slots y) (map (wordsIn slots) k) s))
+          rw (cost-order bytes) (ap (λ (f : Cost). cond (atMost f low) low f) (least-first bytes path (wordsIn slots y) (map (wordsIn slots) k) s))

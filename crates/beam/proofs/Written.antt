@@ -5,7 +5,7 @@ use mathlib.Core.Logic.{_≢_}
 use mathlib.Core.List.{List, [], _∷_, _++_, append-assoc}
 use native.Mathlib.Omega.{arith}
 use native.Mathlib.Decide.{decLt}
-use lib.ListN.{length, take, drop, getD, length-drop, length-append, take-append-drop, List·getD-append}
+use lib.ListN.{length, take, drop, length-drop, length-append, take-append-drop}
 use lib.Seq.{length-take-le, take-at, take-nil, drop-nil, drop-at, take-take, drop-drop, take-append-le, drop-append-le}
 use Rattle.model.specs.Numbers.{mostVariables}
 use Rattle.beam_order.specs.Slots.{headerWords, stateAt, slotWords, wordsIn}
@@ -46,9 +46,6 @@ state-in words s = sym (take-of-drop stateAt mostVariables (drop (s * slotWords)
 module _ (header state : List ℕ) (both : ChildWords header state) where
   pub child-long : length (header ++ state) ≡ slotWords
   child-long = omega (arith, length-append header state, both .header-long, both .state-long)
-
-  pub child-word : (q : ℕ) → q < headerWords → getD (header ++ state) q 0 ≡ getD header q 0
-  child-word q h = List·getD-append header state 0 q (omega (arith, both .header-long))
 
   pub child-state : stateWords (header ++ state) ≡ state
   child-state = drop-at header state stateAt (both .header-long)

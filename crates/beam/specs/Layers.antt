@@ -8,6 +8,7 @@ use mathlib.Core.Option.{some}
 use lib.ListN.{length, take, drop, getD}
 use Rattle.laws.specs.Lists.{filter}
 use Rattle.model.specs.Meaning.{State}
+use Rattle.model.specs.declared.Cost.{Cost}
 use Rattle.search.specs.Search.{Node, Route, Round, belowBest, insert}
 use Rattle.steps.specs.InBytes.{systemIn}
 use Rattle.steps.specs.Follow.{costsIn}
@@ -36,7 +37,7 @@ module _ (w : ℕ) (layer : List ℕ) where
   abbrev pub keptOf : (n : ℕ) → List (List ℕ)
   keptOf n = keptIn slotsOf orderOf n
 
-  abbrev pub nodesOf : (bytes : List ℕ) (parentPath : ℕ → List ℕ) (n : ℕ) → List (Node State ℕ)
+  abbrev pub nodesOf : (bytes : List ℕ) (parentPath : ℕ → List ℕ) (n : ℕ) → List (Node State Cost)
   nodesOf bytes parentPath n = nodesIn bytes parentPath slotsOf orderOf n
 
 -- a layer of n nodes
@@ -87,13 +88,13 @@ abbrev pub unbeaten : (bytes child : List ℕ) → List (List ℕ) → List (Lis
 unbeaten bytes child l = filter (λ m. not (beats bytes child m)) l
 
 -- a round with these nodes kept, and the width mark set if it was cut
-unfoldable pub roundWith : (kept : List (Node State ℕ)) (cut : Bool) → Round State ℕ → Round State ℕ
+unfoldable pub roundWith : (kept : List (Node State Cost)) (cut : Bool) → Round State Cost → Round State Cost
 roundWith kept cut r = record { kept = kept; widthMark = r .widthMark || cut; lengthMark = r .lengthMark; improved = r .improved; progress = r .progress }
 
 -- rule 5: a round whose kept nodes are those of the layer before goes on with those of the layer after
 pub record InsertedInto (bytes outline : List ℕ) (w n count : ℕ) (cut : Bool) (layer layer′ child : List ℕ) : Type 0 where
   pub held : Indexed outline w count layer′
-  pub inserts : (parentPath : ℕ → List ℕ) (r : Round State ℕ) → r .kept ≡ nodesOf w layer bytes parentPath n
+  pub inserts : (parentPath : ℕ → List ℕ) (r : Round State Cost) → r .kept ≡ nodesOf w layer bytes parentPath n
       → insert (costsIn bytes) (systemIn bytes) w (nodeOf bytes parentPath child) r ≡ roundWith (nodesOf w layer′ bytes parentPath count) cut r
 
 -- what is left of a held layer to those that only read it
@@ -102,10 +103,10 @@ pub record Layer (w n : ℕ) (layer : List ℕ) : Type 0 where
   pub parts : P.LayerParts w n (slotsOf w layer) (orderOf w layer)
 
 -- rule 6: after the layer those with f below the best are left
-pub record Below (w n count best : ℕ) (words : List ℕ) : Type 0 where
+pub record Below (w n count : ℕ) (best : Cost) (words : List ℕ) : Type 0 where
   pub fewer : count ≤ n
   pub layer : Layer w count words
-  pub left : (bytes : List ℕ) (parentPath : ℕ → List ℕ) (b : Route ℕ) → b .cost ≡ best
+  pub left : (bytes : List ℕ) (parentPath : ℕ → List ℕ) (b : Route Cost) → b .cost ≡ best
       → nodesOf w words bytes parentPath count ≡ filter (λ m. belowBest (costsIn bytes) (systemIn bytes) (m .f) (some b)) (nodesOf w words bytes parentPath n)
 
 -- an empty layer, whatever the slots hold

@@ -15,13 +15,15 @@ use crate::buckets::bucket;
 use crate::buckets::slot_bucket;
 use crate::slots::sought;
 use crate::slots::write_slot;
-use beam_order::slots::F_AT;
 use beam_order::slots::HEADER_WORDS;
 use beam_order::slots::LAYER_WORDS;
 use beam_order::slots::LINKS_AT;
 use beam_order::slots::ORDER_AT;
 use beam_order::slots::SLOT_WORDS;
+use beam_order::slots::f_in;
+use costs::less;
 use laws::copy_words;
+use model::Cost;
 use outline::layout::PREPARED_WORDS;
 use outline::layout::STATE_WORDS;
 
@@ -242,7 +244,7 @@ pub fn insert(
 }
 
 // Rule 6: how many of n nodes have an f below the best; they stand first.
-pub fn keep_below(layer: &[u64], width: usize, n: usize, best: u64) -> usize
+pub fn keep_below(layer: &[u64], width: usize, n: usize, best: Cost) -> usize
     requires { ⌜ Layer width n (now layer) ⌝ }
     ensures { λ r. ⌜ Below width n r best (now (layer .entry)) ⌝ }
 {
@@ -250,7 +252,8 @@ pub fn keep_below(layer: &[u64], width: usize, n: usize, best: u64) -> usize
     let mut left = n;
     while 0 < left {
         let s = layer[a + (left - 1)] as usize;
-        if layer[s * SLOT_WORDS + F_AT] < best {
+        let f = f_in(layer, s * SLOT_WORDS);
+        if less(f, best) {
             return left;
         }
         left -= 1;

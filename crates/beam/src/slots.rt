@@ -8,11 +8,13 @@ ghost use Rattle.steps.specs.InBytes.{Outlined};
 ghost use Rattle.beam_order.specs.Slots.{slotWords};
 ghost use Rattle.beam.specs.Nodes.{ChildWords, dominatesAt};
 ghost use Rattle.beam.specs.Parts.{written, sought as slotSought};
-use beam_order::slots::G_AT;
 use beam_order::slots::HEADER_WORDS;
 use beam_order::slots::SLOT_WORDS;
 use beam_order::slots::STATE_AT;
+use beam_order::slots::g_in;
+use costs::at_most;
 use laws::copy_words;
+use model::Cost;
 use outline::layout::PREPARED_WORDS;
 use outline::layout::STATE_WORDS;
 use steps::states::dominates;
@@ -36,15 +38,15 @@ pub fn write_slot(
 fn beats(
     model: &[u8],
     outline: &[u64; PREPARED_WORDS],
-    g: u64,
+    g: Cost,
     a: &[u64],
-    other: u64,
+    other: Cost,
     b: &[u64],
 ) -> bool
     requires { ⌜ Outlined (now model) (now outline) ⌝ }
     ensures { λ r. ⌜ r ≡ dominatesAt (now (model .entry)) g (now (a .entry)) other (now (b .entry)) ⌝ }
 {
-    if g <= other {
+    if at_most(g, other) {
         return dominates(model, outline, a, b);
     }
     false
@@ -64,8 +66,8 @@ pub fn sought(
     ensures { λ r. ⌜ r ≡ slotSought (now (model .entry)) (now (slots .entry)) (now (header .entry) ++ now (state .entry)) beaten s ⌝ }
 {
     let at = s * SLOT_WORDS;
-    let g = header[G_AT];
-    let other = slots[at + G_AT];
+    let g = g_in(header, 0);
+    let other = g_in(slots, at);
     if beaten {
         return beats(
             model,

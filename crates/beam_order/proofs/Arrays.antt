@@ -1,7 +1,7 @@
 -- One turn of each loop over the order array: filling, the shift up, the shift down, the halving, the search for a slot.
 use Prim.Native.Nat.{ℕ, zero, suc, _+_, _*_, _-_, _≤_, _<_}
 use mathlib.Core.Path.{_≡_, refl, sym, ap, _∙_}
-use mathlib.Core.Bool.{Bool, true, false, true≢false}
+use mathlib.Core.Bool.{Bool, true, false, cond, true≢false}
 use mathlib.Core.List.{List, [], _∷_, _++_, append-assoc}
 use native.Mathlib.Nat.{add-zero, zero-add}
 use native.Mathlib.Omega.{arith}
@@ -11,7 +11,7 @@ use borrow.Author.Tests.{lt-ltb, le-ltb}
 use lib.Dec.{ltb}
 use lib.ListN.{length, take, drop, getD, set, length-drop}
 use lib.Seq.{take-set-le, drop-set-add, getD-take, getD-drop, drop-cons, take-suc-set, drop-set-lt, set-split, take-suc, take-all, length-take-le, drop-at}
-use Rattle.beam_order.specs.Slots.{slotWords, fAt, hAt, wordsIn, earlier}
+use Rattle.beam_order.specs.Slots.{slotWords, fAt, fMovesAt, hAt, wordsIn, earlier}
 use Rattle.beam_order.specs.Order.{inserted, removed, upFrom, Rising}
 
 -- ---- filling
@@ -107,9 +107,21 @@ module _ (n slots : List ℕ) (s : ℕ) where
   unfolding earlier
   earlier-more l = rw (word-in slots s fAt (omega arith), le-ltb (getD n fAt 0) (other fAt) (omega arith), lt-ltb (other fAt) (getD n fAt 0) l)
 
-  pub earlier-even : other fAt ≤ getD n fAt 0 → getD n fAt 0 ≤ other fAt → ltb (getD n hAt 0) (other hAt) ≡ earlier n (wordsIn slots s)
-  unfolding earlier
-  earlier-even l m = rw (word-in slots s fAt (omega arith), word-in slots s hAt (omega arith), le-ltb (getD n fAt 0) (other fAt) l, le-ltb (other fAt) (getD n fAt 0) m)
+  -- of equal hours
+  module _ (l : other fAt ≤ getD n fAt 0) (m : getD n fAt 0 ≤ other fAt) where
+    even : earlier n (wordsIn slots s) ≡ cond (ltb (getD n fMovesAt 0) (other fMovesAt)) true (cond (ltb (other fMovesAt) (getD n fMovesAt 0)) false (ltb (getD n hAt 0) (other hAt)))
+    unfolding earlier
+    even =
+        rw (word-in slots s fAt (omega arith), word-in slots s fMovesAt (omega arith), word-in slots s hAt (omega arith), le-ltb (getD n fAt 0) (other fAt) l, le-ltb (other fAt) (getD n fAt 0) m)
+
+    pub earlier-fewer : getD n fMovesAt 0 < other fMovesAt → true ≡ earlier n (wordsIn slots s)
+    earlier-fewer k = rw (even, lt-ltb (getD n fMovesAt 0) (other fMovesAt) k)
+
+    pub earlier-dearer : other fMovesAt < getD n fMovesAt 0 → false ≡ earlier n (wordsIn slots s)
+    earlier-dearer k = rw (even, le-ltb (getD n fMovesAt 0) (other fMovesAt) (omega arith), lt-ltb (other fMovesAt) (getD n fMovesAt 0) k)
+
+    pub earlier-even : other fMovesAt ≤ getD n fMovesAt 0 → getD n fMovesAt 0 ≤ other fMovesAt → ltb (getD n hAt 0) (other hAt) ≡ earlier n (wordsIn slots s)
+    earlier-even j k = rw (even, le-ltb (getD n fMovesAt 0) (other fMovesAt) j, le-ltb (other fMovesAt) (getD n fMovesAt 0) k)
 
 -- ---- the halving
 

@@ -1,89 +1,104 @@
--- The order of nodes by f, then h: it is that of pairs of numbers, so a sorted list stays sorted where a node is placed.
-use Prim.Native.Nat.{ℕ, zero, suc, _+_, _≤_, _<_}
+-- The order of nodes by the hours of f, its moves, then h: it is that of triples of numbers, so a sorted list stays sorted where a node is placed.
+use Prim.Native.Nat.{ℕ, zero, suc, _≤_, _<_}
 use mathlib.Core.Path.{_≡_, refl, sym, ap, _∙_}
 use mathlib.Core.Logic.{_⊎_, inl, inr}
 use mathlib.Core.Bool.{Bool, true, false, cond, _||_, true≢false, false≢true}
 use mathlib.Core.List.{List, [], _∷_, _++_, map, dropLast}
 use native.Mathlib.Omega.{arith}
-use borrow.Author.Tests.{ltb-true, ltb-false}
+use borrow.Author.Tests.{ltb-true, ltb-false, le-leb}
 use lib.Dec.{ltb}
 use lib.ListN.{length, take, drop, getD, List·getD-append}
 use Rattle.laws.specs.Lists.{any, All}
 use Rattle.laws.proofs.Bools.{by-cond}
 use Rattle.laws.proofs.Lists.{all-map}
-use Rattle.beam_order.specs.Slots.{fAt, hAt, headerWords, earlier, placed, Sorted, none, more}
+use Rattle.model.specs.Costs.{atMost}
+use Rattle.model.proofs.Costs.{at-most-fewer, at-most-equal}
+use Rattle.beam_order.specs.Slots.{fAt, fMovesAt, hAt, headerWords, fOf, earlier, placed, Sorted, none, more}
 use Rattle.beam_order.specs.Order.{Cutoff, Rising, without}
 
 -- ---- the test
 
--- (f, h) is less than (f′, h′)
-abbrev Less : (f h f′ h′ : ℕ) → Type 0
-Less f h f′ h′ = (f < f′) ⊎ ((f ≡ f′) × (h < h′))
+-- by a first number, and by R where those are equal
+abbrev Then : (a b : ℕ) → Type 0 → Type 0
+Then a b R = (a < b) ⊎ ((a ≡ b) × R)
 
--- (f, h) is not less than (f′, h′)
-abbrev NotLess : (f h f′ h′ : ℕ) → Type 0
-NotLess f h f′ h′ = (f′ < f) ⊎ ((f ≡ f′) × (h′ ≤ h))
-
-less-of : (n m : List ℕ) → earlier n m ≡ true → Less (getD n fAt 0) (getD n hAt 0) (getD m fAt 0) (getD m hAt 0)
-unfolding earlier
-less-of n m e = by-tests (ltb f (getD m fAt 0)) refl (ltb (getD m fAt 0) f) refl e
+-- what the tests of a first number say, passed or failed
+passed : {R : Type 0} (a b : ℕ) (rest : Bool) → (rest ≡ true → R) → cond (ltb a b) true (cond (ltb b a) false rest) ≡ true → Then a b R
+passed {R} a b rest f = by-tests (ltb a b) (ltb b a) refl refl
   where
-    f : ℕ
-    f = getD n fAt 0
+    by-tests : (t u : Bool) → ltb a b ≡ t → ltb b a ≡ u → cond t true (cond u false rest) ≡ true → Then a b R
+    by-tests true u p q g = inl (ltb-true a b p)
+    by-tests false true p q g = absurd (false≢true g)
+    by-tests false false p q g = inr (omega (arith, ltb-false a b p, ltb-false b a q), f g)
 
-    h : ℕ
-    h = getD n hAt 0
-
-    by-tests : (t : Bool) → ltb f (getD m fAt 0) ≡ t → (u : Bool) → ltb (getD m fAt 0) f ≡ u → cond t true (cond u false (ltb h (getD m hAt 0))) ≡ true → Less f h (getD m fAt 0) (getD m hAt 0)
-    by-tests true p u q g = inl (ltb-true _ _ p)
-    by-tests false p true q g = absurd (false≢true g)
-    by-tests false p false q g = inr (omega (arith, ltb-false f (getD m fAt 0) p, ltb-false (getD m fAt 0) f q), ltb-true _ _ g)
-
-not-less-of : (n m : List ℕ) → earlier n m ≡ false → NotLess (getD n fAt 0) (getD n hAt 0) (getD m fAt 0) (getD m hAt 0)
-unfolding earlier
-not-less-of n m e = by-tests (ltb f (getD m fAt 0)) refl (ltb (getD m fAt 0) f) refl e
+failed : {R : Type 0} (a b : ℕ) (rest : Bool) → (rest ≡ false → R) → cond (ltb a b) true (cond (ltb b a) false rest) ≡ false → Then b a R
+failed {R} a b rest f = by-tests (ltb a b) (ltb b a) refl refl
   where
-    f : ℕ
-    f = getD n fAt 0
+    by-tests : (t u : Bool) → ltb a b ≡ t → ltb b a ≡ u → cond t true (cond u false rest) ≡ false → Then b a R
+    by-tests true u p q g = absurd (true≢false g)
+    by-tests false true p q g = inl (ltb-true b a q)
+    by-tests false false p q g = inr (omega (arith, ltb-false a b p, ltb-false b a q), f g)
 
-    h : ℕ
-    h = getD n hAt 0
+-- (f, m, h) is less than (f′, m′, h′)
+abbrev Less : (f m h f′ m′ h′ : ℕ) → Type 0
+Less f m h f′ m′ h′ = Then f f′ (Then m m′ (h < h′))
 
-    by-tests : (t : Bool) → ltb f (getD m fAt 0) ≡ t → (u : Bool) → ltb (getD m fAt 0) f ≡ u → cond t true (cond u false (ltb h (getD m hAt 0))) ≡ false → NotLess f h (getD m fAt 0) (getD m hAt 0)
-    by-tests true p u q g = absurd (true≢false g)
-    by-tests false p true q g = inl (ltb-true _ _ q)
-    by-tests false p false q g = inr (omega (arith, ltb-false f (getD m fAt 0) p, ltb-false (getD m fAt 0) f q), ltb-false _ _ g)
+-- (f, m, h) is no greater than (f′, m′, h′)
+abbrev NoMore : (f m h f′ m′ h′ : ℕ) → Type 0
+NoMore f m h f′ m′ h′ = Then f f′ (Then m m′ (h ≤ h′))
+
+less-of : (n m : List ℕ) → earlier n m ≡ true → Less (getD n fAt 0) (getD n fMovesAt 0) (getD n hAt 0) (getD m fAt 0) (getD m fMovesAt 0) (getD m hAt 0)
+unfolding earlier
+less-of n m e = passed (getD n fAt 0) (getD m fAt 0) _ (λ p. passed (getD n fMovesAt 0) (getD m fMovesAt 0) _ (λ q. ltb-true _ _ q) p) e
+
+no-more-of : (n m : List ℕ) → earlier m n ≡ false → NoMore (getD n fAt 0) (getD n fMovesAt 0) (getD n hAt 0) (getD m fAt 0) (getD m fMovesAt 0) (getD m hAt 0)
+unfolding earlier
+no-more-of n m e = failed (getD m fAt 0) (getD n fAt 0) _ (λ p. failed (getD m fMovesAt 0) (getD n fMovesAt 0) _ (λ q. ltb-false _ _ q) p) e
+
+-- from one to the next, and never back
+through : {a b c : ℕ} {R S T : Type 0} → (R → S → T) → Then a b R → Then b c S → Then a c T
+through f (inl x) (inl y) = inl (omega arith)
+through f (inl x) (inr y) = inl (omega arith)
+through f (inr x) (inl y) = inl (omega arith)
+through f (inr x) (inr y) = inr (omega arith, f (x .1) (y .1))
+
+never-back : {a b : ℕ} {R S : Type 0} → (R → S → ⊥) → Then a b R → Then b a S → ⊥
+never-back f (inl x) (inl y) = omega arith
+never-back f (inl x) (inr y) = omega arith
+never-back f (inr x) (inl y) = omega arith
+never-back f (inr x) (inr y) = f (x .1) (y .1)
+
+less-through : {f m h f₁ m₁ h₁ f₂ m₂ h₂ : ℕ} → Less f m h f₁ m₁ h₁ → NoMore f₁ m₁ h₁ f₂ m₂ h₂ → Less f m h f₂ m₂ h₂
+less-through {h = h} {h₁ = h₁} {h₂ = h₂} = through (through by-h)
+  where
+    by-h : h < h₁ → h₁ ≤ h₂ → h < h₂
+    by-h x y = omega arith
+
+not-back : {f m h f₁ m₁ h₁ : ℕ} → Less f m h f₁ m₁ h₁ → NoMore f₁ m₁ h₁ f m h → ⊥
+not-back {h = h} {h₁ = h₁} = never-back (never-back by-h)
+  where
+    by-h : h < h₁ → h₁ ≤ h → ⊥
+    by-h x y = omega arith
+
+no-more : {f m h f₁ m₁ h₁ : ℕ} → Less f m h f₁ m₁ h₁ → NoMore f m h f₁ m₁ h₁
+no-more (inl x) = inl x
+no-more (inr (e, inl y)) = inr (e, inl y)
+no-more (inr (e, inr (d, y))) = inr (e, inr (d, omega arith))
 
 -- it goes before a, and b does not: then it goes before b
 pub earlier-trans : (n a b : List ℕ) → earlier n a ≡ true → earlier b a ≡ false → earlier n b ≡ true
 earlier-trans n a b p q = by-test (earlier n b) refl
   where
-    no : {f h f₁ h₁ f₂ h₂ : ℕ} → Less f h f₁ h₁ → NotLess f₂ h₂ f₁ h₁ → NotLess f h f₂ h₂ → ⊥
-    no (inl x) (inl y) (inl z) = omega arith
-    no (inl x) (inl y) (inr z) = omega arith
-    no (inl x) (inr y) (inl z) = omega arith
-    no (inl x) (inr y) (inr z) = omega arith
-    no (inr x) (inl y) (inl z) = omega arith
-    no (inr x) (inl y) (inr z) = omega arith
-    no (inr x) (inr y) (inl z) = omega arith
-    no (inr x) (inr y) (inr z) = omega arith
-
     by-test : (t : Bool) → earlier n b ≡ t → t ≡ true
     by-test true e = refl
-    by-test false e = absurd (no (less-of n a p) (not-less-of b a q) (not-less-of n b e))
+    by-test false e = absurd (not-back (less-through (less-of n a p) (no-more-of a b q)) (no-more-of b n e))
 
 earlier-one-way : (a b : List ℕ) → earlier a b ≡ true → earlier b a ≡ false
 earlier-one-way a b p = by-test (earlier b a) refl
   where
-    no : {f₁ h₁ f₂ h₂ : ℕ} → Less f₁ h₁ f₂ h₂ → Less f₂ h₂ f₁ h₁ → ⊥
-    no (inl x) (inl y) = omega arith
-    no (inl x) (inr y) = omega arith
-    no (inr x) (inl y) = omega arith
-    no (inr x) (inr y) = omega arith
-
     by-test : (t : Bool) → earlier b a ≡ t → t ≡ false
     by-test false e = refl
-    by-test true e = absurd (no (less-of a b p) (less-of b a e))
+    by-test true e = absurd (not-back (less-of a b p) (no-more (less-of b a e)))
 
 pub not-before-itself : (a : List ℕ) → earlier a a ≡ false
 not-before-itself a = by-test (earlier a a) refl
@@ -93,17 +108,19 @@ not-before-itself a = by-test (earlier a a) refl
     by-test true e = absurd (true≢false (sym e ∙ earlier-one-way a a e))
 
 -- what is not before has no less f
-pub f-order : (a b : List ℕ) → earlier b a ≡ false → getD a fAt 0 ≤ getD b fAt 0
-f-order a b e = by-case (not-less-of b a e)
+pub f-order : (a b : List ℕ) → earlier b a ≡ false → atMost (fOf a) (fOf b) ≡ true
+f-order a b e = by-case (no-more-of a b e)
   where
-    by-case : {f₁ h₁ f₂ h₂ : ℕ} → NotLess f₂ h₂ f₁ h₁ → f₁ ≤ f₂
-    by-case (inl x) = omega arith
-    by-case (inr x) = omega arith
+    by-case : NoMore (getD a fAt 0) (getD a fMovesAt 0) (getD a hAt 0) (getD b fAt 0) (getD b fMovesAt 0) (getD b hAt 0) → atMost (fOf a) (fOf b) ≡ true
+    by-case (inl x) = at-most-fewer (fOf a) (fOf b) x
+    by-case (inr (e, inl x)) = at-most-equal (fOf a) (fOf b) e ∙ le-leb (getD a fMovesAt 0) (getD b fMovesAt 0) (omega arith)
+    by-case (inr (e, inr x)) = at-most-equal (fOf a) (fOf b) e ∙ le-leb (getD a fMovesAt 0) (getD b fMovesAt 0) (omega arith)
 
 -- a header goes where the words that begin with it go
 pub earlier-front : (header state m : List ℕ) → length header ≡ headerWords → earlier (header ++ state) m ≡ earlier header m
 unfolding earlier
-earlier-front header state m l = rw (List·getD-append header state 0 fAt (omega arith), List·getD-append header state 0 hAt (omega arith))
+earlier-front header state m l =
+    rw (List·getD-append header state 0 fAt (omega arith), List·getD-append header state 0 fMovesAt (omega arith), List·getD-append header state 0 hAt (omega arith))
 
 -- ---- sorted lists
 

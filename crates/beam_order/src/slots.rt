@@ -3,16 +3,23 @@
 
 ghost use mathlib.Core.Path.{_≡_};
 ghost use Prim.Native.Nat.{_+_, _*_, _≤_};
-ghost use lib.ListN.{length};
-ghost use Rattle.beam_order.specs.Slots.{headerWords, slotWords, wordsIn, earlier as Slots·earlier};
+ghost use lib.ListN.{length, drop};
+ghost use Rattle.beam_order.specs.Slots.{headerWords, slotWords, wordsIn, gOf, fOf, earlier as Slots·earlier};
+use model::Cost;
 use outline::layout::STATE_WORDS;
 
-// Which word of a header holds what: g has room for three parts, f for two.
+// Which word of a header holds what: g has three words, f has two.
 pub const G_AT: usize = 0;
+
+pub const LOW_AT: usize = 1;
+
+pub const MOVES_AT: usize = 2;
 
 pub const H_AT: usize = 3;
 
 pub const F_AT: usize = 4;
+
+pub const F_MOVES_AT: usize = 5;
 
 pub const BACK_AT: usize = 6;
 
@@ -39,7 +46,31 @@ pub const NEXT_END: usize = NEXT_AT + LAYER_WORDS;
 
 pub const BACKS_AT: usize = 64;
 
-// Whether the node with this header goes before the one in slot s: by f, then by h.
+// g of the node whose words begin there.
+pub fn g_in(words: &[u64], at: usize) -> Cost
+    requires { ⌜ at + headerWords ≤ length (now words) ⌝ }
+    ensures { λ r. ⌜ r ≡ gOf (drop at (now (words .entry))) ⌝ }
+{
+    Cost {
+        high: words[at + G_AT],
+        low: words[at + LOW_AT],
+        moves: words[at + MOVES_AT],
+    }
+}
+
+// f of the node whose words begin there.
+pub fn f_in(words: &[u64], at: usize) -> Cost
+    requires { ⌜ at + headerWords ≤ length (now words) ⌝ }
+    ensures { λ r. ⌜ r ≡ fOf (drop at (now (words .entry))) ⌝ }
+{
+    Cost {
+        high: words[at + F_AT],
+        low: words[at + LOW_AT],
+        moves: words[at + F_MOVES_AT],
+    }
+}
+
+// Whether the node with this header goes before the one in slot s: by the hours of f, then by its moves, then by h.
 pub fn earlier(header: &[u64; HEADER_WORDS], slots: &[u64], s: usize) -> bool
     requires { ⌜ (length (now header) ≡ headerWords) × (s * slotWords + slotWords ≤ length (now slots)) ⌝ }
     ensures { λ r. ⌜ r ≡ Slots·earlier (now (header .entry)) (wordsIn (now (slots .entry)) s) ⌝ }
@@ -51,6 +82,14 @@ pub fn earlier(header: &[u64; HEADER_WORDS], slots: &[u64], s: usize) -> bool
         return true;
     }
     if other < f {
+        return false;
+    }
+    let moves = header[F_MOVES_AT];
+    let others = slots[at + F_MOVES_AT];
+    if moves < others {
+        return true;
+    }
+    if others < moves {
         return false;
     }
     header[H_AT] < slots[at + H_AT]

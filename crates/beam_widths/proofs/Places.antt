@@ -33,7 +33,7 @@ module _ (ws : List ℕ) (place : ℕ) where
   stays-inside inside (at-last e d) = rw (le-ltb (place + 1) (length ws) (omega (arith, e))) inside
   stays-inside inside (before-last h d) = rw (lt-ltb (place + 1) (length ws) h) h
 
-  module _ {A : Type 0} (K : Costs ℕ) (M : System A ℕ) where
+  module _ {A C : Type 0} (K : Costs C) (M : System A C) where
     next-entry : Behind ws place → S.nextWidth K M (getD ws place 0) (drop (place + 1) ws) ≡ getD ws (placeBehind (length ws) place) 0
     unfolding S.nextWidth placeBehind
     next-entry (at-last e d) = rw (d, le-ltb (place + 1) (length ws) (omega (arith, e)))
@@ -59,7 +59,7 @@ module _ (ws : List ℕ) (place : ℕ) (inside : place < length ws) where
   pub next-inside : placeBehind (length ws) place < length ws
   next-inside = stays-inside ws place inside behind
 
-  module _ {A : Type 0} (K : Costs ℕ) (M : System A ℕ) where
+  module _ {A C : Type 0} (K : Costs C) (M : System A C) where
     -- the entry at the place of the next is the definition's next width
     pub next-is : S.nextWidth K M (getD ws place 0) (drop (place + 1) ws) ≡ getD ws (placeBehind (length ws) place) 0
     next-is = next-entry ws place K M behind

@@ -7,6 +7,7 @@ use native.Mathlib.Omega.{arith}
 use lib.Dec.{leb, ltb}
 use lib.ListN.{length}
 use borrow.Author.Tests.{eq-eqb, ne-eqb, lt-ltb, le-ltb, le-leb, lt-leb, leb-true, ltb-true}
+use Rattle.model.specs.declared.Cost.{Cost}
 use Rattle.laws.proofs.Bools.{and-both}
 use Rattle.model.specs.Numbers.{mostModelBytes}
 use Rattle.model.specs.Meaning.{State}
@@ -21,7 +22,7 @@ use Rattle.bench_parts.specs.Timed.{nextOf, childHeader, childState, emp
 -- what is still to be offered to the layer's round, `left` children from x on, comes to the whole
 pub record Offering (bytes outline : List ℕ) (w children seed : ℕ) (layer : List ℕ) (count x left : ℕ) : Type 0 where
   pub held : Indexed outline w count layer
-  pub round : Round State ℕ
+  pub round : Round State Cost
   pub kept : round .kept ≡ nodesOf w layer bytes (λ _. []) count
   pub rest : offered bytes w left x round ≡ offered bytes w children seed (emptyRound bytes)
 
@@ -46,7 +47,7 @@ module _ {bytes outline : List ℕ} {w children seed : ℕ} where
   pub ends : {layer : List ℕ} {count x left : ℕ} → Offering bytes outline w children seed layer count x left → left ≤ 0 → count ≡ keptAfter bytes w children seed
   unfolding offered keptAfter
   ends {left = suc k} o all = absurd (omega arith)
-  ends {left = zero} o all = sym (nodes-length bytes (λ _. []) (layer-of (o .held))) ∙ ap length (sym (o .kept)) ∙ ap (λ (r : Round State ℕ). length (r .kept)) (o .rest)
+  ends {left = zero} o all = sym (nodes-length bytes (λ _. []) (layer-of (o .held))) ∙ ap length (sym (o .kept)) ∙ ap (λ (r : Round State Cost). length (r .kept)) (o .rest)
 
 -- ---- the layer's room
 

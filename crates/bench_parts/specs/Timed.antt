@@ -6,6 +6,8 @@ use mathlib.Core.Option.{none}
 use lib.Dec.{leb, ltb, eqb}
 use lib.IntN.{ℤ, negsuc}
 use lib.ListN.{length, replicate}
+use Rattle.model.specs.declared.Cost.{Cost}
+use Rattle.model.specs.Costs.{free, hours}
 use Rattle.model.specs.Numbers.{mostModelBytes, mostVariables}
 use Rattle.model.specs.Meaning.{State}
 use Rattle.eval_sets.specs.declared.answers.NumberValue.{NumberValue}
@@ -38,7 +40,7 @@ childHeader x =
     let y = nextOf x in
     let g = y / 1048576 in
     let h = y / 65536 % 64 in
-    headerOf g h (g + h) 0
+    headerOf (hours g) h (hours (g + h)) 0
 
 unfoldable pub childState : ℕ → List ℕ
 childState x = (x / 65536 % 4096) ∷ (nextOf x / 256 % 64) ∷ replicate (mostVariables - 2) 0
@@ -47,11 +49,11 @@ abbrev pub childOf : ℕ → List ℕ
 childOf x = childHeader x ++ childState x
 
 -- a round with nothing kept and no plan
-unfoldable pub emptyRound : (bytes : List ℕ) → Round State ℕ
-emptyRound bytes = freshRound (costsIn bytes) (systemIn bytes) (record { best = none; low = 0; expansions = 0 })
+unfoldable pub emptyRound : (bytes : List ℕ) → Round State Cost
+emptyRound bytes = freshRound (costsIn bytes) (systemIn bytes) (record { best = none; low = free; expansions = 0 })
 
 -- the round after n children, from x on, have been offered by rule 5
-unfoldable pub offered : (bytes : List ℕ) (w n x : ℕ) → Round State ℕ → Round State ℕ
+unfoldable pub offered : (bytes : List ℕ) (w n x : ℕ) → Round State Cost → Round State Cost
 offered bytes w zero x r = r
 offered bytes w (suc n) x r = offered bytes w n (nextOf x) (insert (costsIn bytes) (systemIn bytes) w (nodeOf bytes (λ _. []) (childOf x)) r)
 

@@ -1,33 +1,12 @@
 // The line that is written for an answer: its fields, a colon and the plan; or "refused" and the number.
 
-ghost use Rattle.line.specs.Line.{InLine};
 use io::print_decimal;
 use io::write_all;
 use libc::STDOUT_FILENO;
 use search_report::answers::Answer;
 use search_report::answers::Outcome;
-use search_report::figures::flag_number;
-use search_report::figures::outcome_number;
+use search_report::figures::numbers;
 use solver::buffers::plan_part;
-
-// The numbers of the line, in their order.
-fn numbers(answer: Answer) -> [u64; 8]
-    ensures { λ r. ⌜ InLine answer r ⌝ }
-{
-    let outcome = answer.outcome;
-    let verdict = outcome_number(outcome);
-    let flag = flag_number(answer.flag);
-    [
-        verdict as u64,
-        flag,
-        answer.cost,
-        answer.bound,
-        answer.length as u64,
-        answer.tally.expansions,
-        answer.tally.rounds,
-        answer.tally.width,
-    ]
-}
 
 // Writes the numbers, with one space before each but the first.
 pub fn write_numbers(numbers: &[u64]) {

@@ -13,12 +13,14 @@ use borrow.Author.Tests.{leb-true}
 use Rattle.laws.specs.Lists.{All, isEmpty}
 use Rattle.laws.proofs.Bools.{and-both, not-true}
 use Rattle.laws.proofs.Lists.{any-none, is-empty}
-use Rattle.model.specs.Values.{value}
+use Rattle.model.specs.Values.{value, _>>=_}
 use Rattle.model.specs.System.{Costs, System, moved}
 use Rattle.model.specs.Plans.{InLayer, first, next, Plan, TrueDeclarations}
 use Rattle.model.specs.Syntax.{Preference, none, less, more, Variable, Model}
 use Rattle.model.specs.Meaning.{State, numberAt, equalZ}
-use Rattle.model.specs.Steps.{target, noWorse, noneWorse, isPreferred, prefersNothing, declaresNothing, greatest, bound, systemOf, costsOf}
+use Rattle.model.specs.Steps.{target, noWorse, noneWorse, isPreferred, prefersNothing, declaresNothing, greatest, boundHours, bound, systemOf}
+use Rattle.model.specs.Costs.{free, costsOf}
+use Rattle.model.specs.declared.Cost.{Cost}
 use Rattle.model.proofs.Costs.{cost-laws}
 use Rattle.model.proofs.Outcomes.{MoveOutcome, a-move, move-outcome}
 
@@ -52,11 +54,11 @@ same-values (x ∷ xs) v t s f e (suc i) lt =
 
 -- ---- the number of values
 
-moved-size : {end n c : ℕ} {u : State} → MoveOutcome end n (moved c u) → length u ≡ n
+moved-size : {end n : ℕ} {c : Cost} {u : State} → MoveOutcome end n (moved c u) → length u ≡ n
 moved-size (a-move h e) = e
 
 module _ (end : ℕ) (m : Model) where
-  step-size : (s : State) (t : ℕ) {c : ℕ} {u : State} → systemOf end m .move s t ≡ moved c u → length u ≡ length s
+  step-size : (s : State) (t : ℕ) {c : Cost} {u : State} → systemOf end m .move s t ≡ moved c u → length u ≡ length s
   unfolding systemOf
   step-size s t e = moved-size (subst (MoveOutcome end (length s)) e (move-outcome end m s t))
 
@@ -85,8 +87,8 @@ module _ (end : ℕ) (m : Model) where
           preferences = λ {p = p} {r = r} i j d plan. (p, r, rw (dominates-itself-only i j d) plan, cost-laws (m .rule) .reflexive r);
         }
 
-  h-is-zero : m .bounds ≡ [] → (s : State) {h : ℕ} → systemOf end m .bound s ≡ value h → h ≡ 0
-  unfolding systemOf bound greatest
+  h-is-zero : m .bounds ≡ [] → (s : State) {h : Cost} → systemOf end m .bound s ≡ value h → h ≡ free
+  unfolding systemOf bound boundHours greatest _>>=_
   h-is-zero empty s b = let z = rw empty at b in cc
 
   -- no bound and no preference is declared, so nothing that is declared is false

@@ -6,6 +6,7 @@ use lib.IntN.{pos, negsuc}
 use Rattle.laws.specs.Hex.{hex}
 use Rattle.model.specs.Numbers.{endsEarly, notDue, mismatch, offLimits, tooDeep, bytesAfterEnd, outOfRange, divisorZero, negativeCost, notAPlan}
 use Rattle.model.specs.Values.{value, trouble}
+use Rattle.model.specs.Costs.{free, fixed}
 use Rattle.model.proofs.Opened.{Asked, numberOf, checkOf, Told, valued, checked, opened, allOpened}
 
 -- n entries 0 of a table
@@ -109,23 +110,23 @@ told =
     ∷ valued (trouble outOfRange)
     ∷ valued (value (pos 9))
     ∷ valued (value (pos 2))
-    ∷ checked (value 0x7fff_ffff)
+    ∷ checked (value (fixed 0x7fff_ffff))
     ∷ checked (trouble outOfRange)
-    ∷ checked (value 0)
-    ∷ checked (value 0)
+    ∷ checked (value free)
+    ∷ checked (value free)
     ∷ checked (trouble outOfRange)
     ∷ checked (trouble negativeCost)
-    ∷ checked (value 5)
+    ∷ checked (value (fixed 5))
     ∷ checked (trouble notAPlan)
     ∷ checked (trouble notAPlan)
     ∷ checked (trouble notAPlan)
     ∷ checked (trouble notAPlan)
     ∷ checked (trouble notAPlan)
     ∷ checked (trouble notAPlan)
-    ∷ checked (value 5)
+    ∷ checked (value (fixed 5))
     ∷ checked (trouble divisorZero)
-    ∷ checked (value 5)
-    ∷ checked (value 0)
+    ∷ checked (value (fixed 5))
+    ∷ checked (value free)
     ∷ checked (trouble tooDeep)
     ∷ checked (trouble bytesAfterEnd)
     ∷ checked (trouble endsEarly)

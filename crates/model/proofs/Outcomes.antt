@@ -16,9 +16,11 @@ use Rattle.laws.proofs.Bools.{by-cond}
 use Rattle.model.specs.Numbers.{divisorZero, negativeCost}
 use Rattle.model.specs.Values.{Value, value, trouble, _>>=_, inRange, floorQuotient}
 use Rattle.model.specs.System.{Status, base, unfinished, noStatus, Move, blocked, moved, troubleBefore, troubleAfter}
-use Rattle.model.specs.Syntax.{Number, literal, numberVariable, plus, minus, times, quotient, lesser, greater, entry, size, total, choice, Condition, equal, less, atMost, same, member, isEmpty, subset, negation, both, either, Expression, ofSet, ofElement, ofNumber, Table, Effect, Transition, Model}
+use Rattle.model.specs.Syntax.{Number, literal, numberVariable, plus, minus, times, quotient, lesser, greater, entry, size, total, choice, Condition, equal, less, atMost, same, member, isEmpty, subset, negation, both, either, Expression, ofSet, ofElement, ofNumber, Table, Effect, StepCosts, Transition, Model}
+use Rattle.model.specs.declared.Cost.{Cost}
+use Rattle.model.specs.Costs.{CostUpTo, CostBelow}
 use Rattle.model.specs.Meaning.{State, two, fit, numberValue, conditionValue, expressionValue, allHold, someHolds}
-use Rattle.model.specs.Steps.{statusOf, costOf, raise, Attempt, notTaken, taken, admits, status, effects, attempt, constrained, moveOf, moveBy, move, greatest, bound}
+use Rattle.model.specs.Steps.{statusOf, costOf, raise, Attempt, notTaken, taken, admits, status, effects, stepCost, attempt, constrained, moveOf, moveBy, move, greatest, boundHours, bound}
 
 -- ---- a value with P, or a trouble whose number has Q
 
@@ -143,16 +145,16 @@ pub data StatusOutcome : Status → Type 0 where
   is-unfinished : StatusOutcome unfinished
   no-status : {t : ℕ} → StateTrouble t → StatusOutcome (noStatus t)
 
--- from a state of n values: the cost of a step is below the range's end, and the new state has n values
-pub data MoveOutcome (end n : ℕ) : Move State ℕ → Type 0 where
+-- from a state of n values: each part of a step's cost is below the range's end, and the new state has n values
+pub data MoveOutcome (end n : ℕ) : Move State Cost → Type 0 where
   no-move : MoveOutcome end n blocked
-  a-move : {c : ℕ} {u : State} → c < end → length u ≡ n → MoveOutcome end n (moved c u)
+  a-move : {c : Cost} {u : State} → CostBelow end c → length u ≡ n → MoveOutcome end n (moved c u)
   trouble-before : {t : ℕ} → StateTrouble t → MoveOutcome end n (troubleBefore t)
-  trouble-after : {c t : ℕ} → c < end → StateTrouble t → MoveOutcome end n (troubleAfter c t)
+  trouble-after : {c : Cost} {t : ℕ} → CostBelow end c → StateTrouble t → MoveOutcome end n (troubleAfter c t)
 
 data AttemptOutcome (end n : ℕ) : Attempt → Type 0 where
   not-taken : AttemptOutcome end n notTaken
-  is-taken : {c : ℕ} {new : State} → c < end → length new ≡ n → AttemptOutcome end n (taken c new)
+  is-taken : {c : Cost} {new : State} → CostBelow end c → length new ≡ n → AttemptOutcome end n (taken c new)
 
 status-of-outcome : {x : Value Bool} → Outcome Anything StateTrouble x → StatusOutcome (statusOf x)
 unfolding statusOf
@@ -185,13 +187,17 @@ module _ (end : ℕ) (m : Model) where
   effects-outcome [] s new e = a-value e
   effects-outcome (f ∷ fs) s new e = then-outcome (expression-outcome end (m .tables) (f .result) s) (λ z _. effects-outcome fs s (set new (f .target) z) (length-set new (f .target) z ∙ e))
 
+  step-cost-outcome : (k : StepCosts) (s : State) → Outcome (CostBelow end) StateTrouble (stepCost end m k s)
+  unfolding stepCost
+  step-cost-outcome k s = then-outcome (number-outcome end (m .tables) (k .cost) s) (λ z h. then-outcome (cost-outcome end z h) (λ c p. a-value (record { high-below = p; low-below = p; moves-below = omega arith })))
+
   attempt-outcome : (t : Transition) (s : State) → Outcome (AttemptOutcome end (length s)) StateTrouble (attempt end m t s)
   unfolding attempt
   attempt-outcome t s = then-outcome (all-hold-outcome end (m .tables) (t .conditions) s) (λ b _. cond-outcome b
-      (then-outcome (number-outcome end (m .tables) (t .cost) s) (λ z h. then-outcome (cost-outcome end z h) (λ c k. then-outcome (effects-outcome (t .effects) s s refl) (λ new e. a-value (is-taken k e)))))
+      (then-outcome (step-cost-outcome (t .costs) s) (λ c k. then-outcome (effects-outcome (t .effects) s s refl) (λ new e. a-value (is-taken k e))))
       (a-value not-taken))
 
-  constrained-outcome : (c : ℕ) (new : State) {n : ℕ} {x : Value Bool} → c < end → length new ≡ n → Outcome Anything StateTrouble x → MoveOutcome end n (constrained end m c new x)
+  constrained-outcome : (c : Cost) (new : State) {n : ℕ} {x : Value Bool} → CostBelow end c → length new ≡ n → Outcome Anything StateTrouble x → MoveOutcome end n (constrained end m c new x)
   unfolding constrained
   constrained-outcome c new h e (a-value {a = true} p) = a-move h e
   constrained-outcome c new h e (a-value {a = false} p) = no-move
@@ -217,6 +223,10 @@ module _ (end : ℕ) (m : Model) where
   greatest-outcome [] s h p = a-value p
   greatest-outcome (b ∷ bs) s h p = then-outcome (number-outcome end (m .tables) b s) (λ z q. greatest-outcome bs s (raise h z) (raise-below end h z p q))
 
-  pub bound-outcome : (s : State) → Outcome (λ h. h ≤ end - 1) StateTrouble (bound end m s)
+  pub bound-hours-outcome : (s : State) → Outcome (λ h. h ≤ end - 1) StateTrouble (boundHours end m s)
+  unfolding boundHours
+  bound-hours-outcome s = greatest-outcome (m .bounds) s 0 (omega arith)
+
+  pub bound-outcome : (s : State) → Outcome (CostUpTo (end - 1)) StateTrouble (bound end m s)
   unfolding bound
-  bound-outcome s = greatest-outcome (m .bounds) s 0 (omega arith)
+  bound-outcome s = then-outcome (bound-hours-outcome s) (λ h p. a-value (record { high-within = p; low-within = omega arith; moves-within = omega arith }))

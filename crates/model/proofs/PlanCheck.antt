@@ -17,7 +17,9 @@ use Rattle.model.specs.Plans.{Step, Plan, finish, step, PlanFrom}
 use Rattle.model.specs.Syntax.{Model}
 use Rattle.model.specs.Readers.{Read, read, refused}
 use Rattle.model.specs.Commands.{model}
-use Rattle.model.specs.Steps.{target, systemOf, costsOf}
+use Rattle.model.specs.Costs.{free, costsOf}
+use Rattle.model.specs.declared.Cost.{Cost}
+use Rattle.model.specs.Steps.{target, systemOf}
 use Rattle.model.specs.Check.{final, afterMove, afterStatus, follow, afterConstraints, followFrom, checkModel, check, answerNumber, CheckedPlan, IsPlan}
 use Rattle.model.proofs.Costs.{cost-laws}
 use Rattle.model.proofs.Troubles.{check-numbers, check-refusal-positive}
@@ -90,34 +92,34 @@ troubled-has-no-plan K M e h = let a = h .admitted in let z : _≡_ {A = ℕ} 0 
 
 -- ---- on bytes
 
-pub check-complete : (bytes plan : List ℕ) (c : ℕ) → CheckedPlan bytes plan c → check bytes plan ≡ value c
+pub check-complete : (bytes plan : List ℕ) (c : Cost) → CheckedPlan bytes plan c → check bytes plan ≡ value c
 unfolding check checkModel costsOf
 check-complete bytes plan c h =
     let rule = h .described .rule in
     rw (le-ltb mostModelBytes (length bytes) (h .model-fits), le-ltb mostSteps (length plan) (h .plan-fits), h .reads)
-    (plan-from-passes (costsOf rule) (cost-laws rule) (systemOf rangeEnd (h .described)) 0 (h .plans) ∙ ap value (cost-laws rule .left-unit c))
+    (plan-from-passes (costsOf rule) (cost-laws rule) (systemOf rangeEnd (h .described)) free (h .plans) ∙ ap value (cost-laws rule .left-unit c))
 
-check-model-sound : (bytes plan : List ℕ) (c : ℕ) (x : Read Model) → length bytes ≤ 65536 → length plan ≤ 256 → model bytes ≡ x → checkModel x plan ≡ value c → CheckedPlan bytes plan c
+check-model-sound : (bytes plan : List ℕ) (c : Cost) (x : Read Model) → length bytes ≤ 65536 → length plan ≤ 256 → model bytes ≡ x → checkModel x plan ≡ value c → CheckedPlan bytes plan c
 unfolding checkModel costsOf
 check-model-sound bytes plan c (refused t) a b p e = no-value e
 check-model-sound bytes plan c (read m n) a b p e =
     let K = costsOf (m .rule) in
-    let (r, q, h) = passing-from-is-plan K (cost-laws (m .rule)) (systemOf rangeEnd m) plan (target m) 0 c e in
+    let (r, q, h) = passing-from-is-plan K (cost-laws (m .rule)) (systemOf rangeEnd m) plan (target m) free c e in
     let same : r ≡ c = sym (h ∙ cost-laws (m .rule) .left-unit r) in
     record { model-fits = a; plan-fits = b; described = m; used = n; reads = p; plans = subst (PlanFrom K (systemOf rangeEnd m) (target m) plan) same q }
 
-check-within : (bytes plan : List ℕ) (c : ℕ) (longModel longPlan : Bool) → ltb mostModelBytes (length bytes) ≡ longModel → ltb mostSteps (length plan) ≡ longPlan
+check-within : (bytes plan : List ℕ) (c : Cost) (longModel longPlan : Bool) → ltb mostModelBytes (length bytes) ≡ longModel → ltb mostSteps (length plan) ≡ longPlan
     → cond longModel (trouble modelTooLong) (cond longPlan (trouble badSetting) (checkModel (model bytes) plan)) ≡ value c → CheckedPlan bytes plan c
 check-within bytes plan c true longPlan p q e = no-value e
 check-within bytes plan c false true p q e = no-value e
 check-within bytes plan c false false p q e = check-model-sound bytes plan c (model bytes) (ltb-false mostModelBytes (length bytes) p) (ltb-false mostSteps (length plan) q) refl e
 
-pub check-sound : (bytes plan : List ℕ) (c : ℕ) → check bytes plan ≡ value c → CheckedPlan bytes plan c
+pub check-sound : (bytes plan : List ℕ) (c : Cost) → check bytes plan ≡ value c → CheckedPlan bytes plan c
 unfolding check
 check-sound bytes plan c e = check-within bytes plan c (ltb mostModelBytes (length bytes)) (ltb mostSteps (length plan)) refl refl e
 
 -- the plan check gives cost c exactly where the bytes are a model and the plan is one of its plans at cost c
-pub check-exact : (bytes plan : List ℕ) (c : ℕ) → (check bytes plan ≡ value c) ↔ CheckedPlan bytes plan c
+pub check-exact : (bytes plan : List ℕ) (c : Cost) → (check bytes plan ≡ value c) ↔ CheckedPlan bytes plan c
 check-exact bytes plan c = (check-sound bytes plan c, check-complete bytes plan c)
 
 -- the target's constraints decide before anything else about states
@@ -133,12 +135,12 @@ module _ (bytes plan : List ℕ) (m : Model) (n : ℕ) (reads : model bytes ≡ 
   check-of-target-trouble e = rw (le-ltb mostModelBytes (length bytes) model-fits, le-ltb mostSteps (length plan) plan-fits, reads, e)
 
 -- no refusal has number 0, so answer 0 says that there is a cost
-answer-zero-sound : (bytes plan : List ℕ) (x : Value ℕ) → check bytes plan ≡ x → answerNumber x ≡ 0 → IsPlan bytes plan
+answer-zero-sound : (bytes plan : List ℕ) (x : Value Cost) → check bytes plan ≡ x → answerNumber x ≡ 0 → IsPlan bytes plan
 unfolding answerNumber
 answer-zero-sound bytes plan (value c) p e = (c, check-sound bytes plan c p)
 answer-zero-sound bytes plan (trouble t) p e = absurd (omega (arith, check-refusal-positive (check-numbers bytes plan p)))
 
-answer-zero-complete : (bytes plan : List ℕ) (c : ℕ) → CheckedPlan bytes plan c → answerNumber (check bytes plan) ≡ 0
+answer-zero-complete : (bytes plan : List ℕ) (c : Cost) → CheckedPlan bytes plan c → answerNumber (check bytes plan) ≡ 0
 unfolding answerNumber
 answer-zero-complete bytes plan c h = rw (check-complete bytes plan c h)
 

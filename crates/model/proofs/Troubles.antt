@@ -14,7 +14,9 @@ use Rattle.model.specs.System.{Costs, Status, noStatus, Move, troubleBef
 use Rattle.model.specs.Syntax.{Number, Condition, Table, Model}
 use Rattle.model.specs.Readers.{Read}
 use Rattle.model.specs.Meaning.{State, numberValue, conditionValue}
-use Rattle.model.specs.Steps.{target, systemOf, costsOf}
+use Rattle.model.specs.Costs.{free, costsOf}
+use Rattle.model.specs.declared.Cost.{Cost}
+use Rattle.model.specs.Steps.{target, systemOf}
 use Rattle.model.specs.Check.{final, afterMove, afterStatus, follow, afterConstraints, followFrom, checkModel, check}
 use Rattle.model.proofs.Outcomes.{Outcome, a-value, a-trouble, StateTrouble, Anything, outcome-trouble, trouble-outcome, number-outcome, condition-outcome, StatusOutcome, is-base, is-unfinished, no-status, status-outcome, admits-outcome, MoveOutcome, no-move, a-move, trouble-before, trouble-after, move-outcome, bound-outcome}
 use Rattle.model.proofs.Fair.{ReadBy, reads, refuses}
@@ -37,7 +39,7 @@ of-no-status (no-status q) = q
 of-trouble-before : {end n t : ℕ} → MoveOutcome end n (troubleBefore t) → StateTrouble t
 of-trouble-before (trouble-before q) = q
 
-of-trouble-after : {end n c t : ℕ} → MoveOutcome end n (troubleAfter c t) → StateTrouble t
+of-trouble-after : {end n t : ℕ} {c : Cost} → MoveOutcome end n (troubleAfter c t) → StateTrouble t
 of-trouble-after (trouble-after h q) = q
 
 module _ (end : ℕ) (m : Model) where
@@ -53,7 +55,7 @@ module _ (end : ℕ) (m : Model) where
   unfolding systemOf
   move-trouble-before s i e = of-trouble-before (subst (MoveOutcome end (length s)) e (move-outcome end m s i))
 
-  pub move-trouble-after : (s : State) (i : ℕ) {c t : ℕ} → systemOf end m .move s i ≡ troubleAfter c t → StateTrouble t
+  pub move-trouble-after : (s : State) (i : ℕ) {c : Cost} {t : ℕ} → systemOf end m .move s i ≡ troubleAfter c t → StateTrouble t
   unfolding systemOf
   move-trouble-after s i e = of-trouble-after (subst (MoveOutcome end (length s)) e (move-outcome end m s i))
 
@@ -67,7 +69,7 @@ module _ (end : ℕ) (m : Model) where
 abbrev pub PlanTrouble : ℕ → Type 0
 PlanTrouble t = (11 ≤ t) × (t ≤ 14)
 
-abbrev PlanOutcome : Value ℕ → Type 0
+abbrev PlanOutcome : Value Cost → Type 0
 PlanOutcome = Outcome Anything PlanTrouble
 
 not-a-plan : PlanOutcome (trouble notAPlan)
@@ -76,39 +78,39 @@ not-a-plan = a-trouble {t = notAPlan} (omega arith)
 by-state : {t : ℕ} → StateTrouble t → PlanOutcome (trouble t)
 by-state q = a-trouble (q .0, omega arith)
 
-module _ (end : ℕ) (K : Costs ℕ) (m : Model) where
-  final-outcome : {x : Status} (g : ℕ) → StatusOutcome x → PlanOutcome (final K (systemOf end m) x g)
+module _ (end : ℕ) (K : Costs Cost) (m : Model) where
+  final-outcome : {x : Status} (g : Cost) → StatusOutcome x → PlanOutcome (final K (systemOf end m) x g)
   unfolding final
   final-outcome g is-base = a-value tt
   final-outcome g is-unfinished = not-a-plan
   final-outcome g (no-status q) = by-state q
 
-  after-move-outcome : {n : ℕ} {x : Move State ℕ} {rest : ℕ → State → Value ℕ} → MoveOutcome end n x → ((c : ℕ) (u : State) → PlanOutcome (rest c u)) → PlanOutcome (afterMove K (systemOf end m) x rest)
+  after-move-outcome : {n : ℕ} {x : Move State Cost} {rest : Cost → State → Value Cost} → MoveOutcome end n x → ((c : Cost) (u : State) → PlanOutcome (rest c u)) → PlanOutcome (afterMove K (systemOf end m) x rest)
   unfolding afterMove
   after-move-outcome no-move f = not-a-plan
   after-move-outcome (a-move {c} {u} h e) f = f c u
   after-move-outcome (trouble-before q) f = by-state q
   after-move-outcome (trouble-after h q) f = by-state q
 
-  after-status-outcome : {n : ℕ} {x : Status} (declared : Bool) {y : Move State ℕ} {rest : ℕ → State → Value ℕ} → StatusOutcome x → MoveOutcome end n y → ((c : ℕ) (u : State) → PlanOutcome (rest c u)) → PlanOutcome (afterStatus K (systemOf end m) x declared y rest)
+  after-status-outcome : {n : ℕ} {x : Status} (declared : Bool) {y : Move State Cost} {rest : Cost → State → Value Cost} → StatusOutcome x → MoveOutcome end n y → ((c : Cost) (u : State) → PlanOutcome (rest c u)) → PlanOutcome (afterStatus K (systemOf end m) x declared y rest)
   unfolding afterStatus
   after-status-outcome declared is-base p f = not-a-plan
   after-status-outcome true is-unfinished p f = after-move-outcome p f
   after-status-outcome false is-unfinished p f = not-a-plan
   after-status-outcome declared (no-status q) p f = by-state q
 
-  follow-outcome : (p : List ℕ) (s : State) (g : ℕ) → PlanOutcome (follow K (systemOf end m) p s g)
+  follow-outcome : (p : List ℕ) (s : State) (g : Cost) → PlanOutcome (follow K (systemOf end m) p s g)
   unfolding follow systemOf
   follow-outcome [] s g = final-outcome g (status-outcome end m s)
   follow-outcome (t ∷ ts) s g = after-status-outcome (ltb t (length (m .transitions))) (status-outcome end m s) (move-outcome end m s t) (λ c u. follow-outcome ts u (K .combine g c))
 
-  after-constraints-outcome : {x : Value Bool} {rest : Value ℕ} → Outcome Anything StateTrouble x → PlanOutcome rest → PlanOutcome (afterConstraints K (systemOf end m) x rest)
+  after-constraints-outcome : {x : Value Bool} {rest : Value Cost} → Outcome Anything StateTrouble x → PlanOutcome rest → PlanOutcome (afterConstraints K (systemOf end m) x rest)
   unfolding afterConstraints
   after-constraints-outcome (a-value {a = true} p) r = r
   after-constraints-outcome (a-value {a = false} p) r = not-a-plan
   after-constraints-outcome (a-trouble q) r = by-state q
 
-  follow-from-outcome : (p : List ℕ) (s : State) (g : ℕ) → PlanOutcome (followFrom K (systemOf end m) p s g)
+  follow-from-outcome : (p : List ℕ) (s : State) (g : Cost) → PlanOutcome (followFrom K (systemOf end m) p s g)
   unfolding followFrom systemOf
   follow-from-outcome p s g = after-constraints-outcome (admits-outcome end m s) (follow-outcome p s g)
 
@@ -122,7 +124,7 @@ pub data CheckRefusal (t : ℕ) : Type 0 where
 
 check-model-outcome : {bytes : List ℕ} {x : Read Model} (plan : List ℕ) → ReadBy _≡_ bytes x → Outcome Anything CheckRefusal (checkModel x plan)
 unfolding checkModel
-check-model-outcome plan (reads {a} h) = trouble-outcome (λ t q. by-following q) (follow-from-outcome rangeEnd (costsOf (a .rule)) a plan (target a) 0)
+check-model-outcome plan (reads {a} h) = trouble-outcome (λ t q. by-following q) (follow-from-outcome rangeEnd (costsOf (a .rule)) a plan (target a) free)
 check-model-outcome plan (refuses h) = a-trouble (by-reading h)
 
 check-outcome : (bytes plan : List ℕ) → Outcome Anything CheckRefusal (check bytes plan)

@@ -12,7 +12,9 @@ use Rattle.model.specs.Plans.{PlanFrom}
 use Rattle.model.specs.Readers.{Read, read, refused}
 use Rattle.model.specs.Syntax.{Model}
 use Rattle.model.specs.Commands.{model}
-use Rattle.model.specs.Steps.{target, costsOf, systemOf}
+use Rattle.model.specs.Costs.{free, costsOf}
+use Rattle.model.specs.Steps.{target, systemOf}
+use Rattle.model.specs.declared.Cost.{Cost}
 
 module _ {S C : Type 0} (K : Costs C) (M : System S C) where
   -- "last the final state"
@@ -49,25 +51,28 @@ module _ {S C : Type 0} (K : Costs C) (M : System S C) where
   unfoldable pub followFrom : List ℕ → (s : S) (g : C) → Value C
   followFrom p s g = afterConstraints (M .admits s) (follow p s g)
 
-unfoldable pub checkModel : Read Model → List ℕ → Value ℕ
-checkModel (read m n) plan = followFrom (costsOf (m .rule)) (systemOf rangeEnd m) plan (target m) 0
+unfoldable pub checkModel : Read Model → List ℕ → Value Cost
+checkModel (read m n) plan = followFrom (costsOf (m .rule)) (systemOf rangeEnd m) plan (target m) free
 checkModel (refused t) plan = trouble t
 
 -- "takes a model and up to 256 plan bytes"; a trouble is the number of the refusal
-unfoldable pub check : (bytes plan : List ℕ) → Value ℕ
+unfoldable pub check : (bytes plan : List ℕ) → Value Cost
 check bytes plan = cond (ltb mostModelBytes (length bytes)) (trouble modelTooLong) (cond (ltb mostSteps (length plan)) (trouble badSetting) (checkModel (model bytes) plan))
 
--- the answer number, and the cost, which is 0 at a refusal
-unfoldable pub answerNumber : Value ℕ → ℕ
+-- the answer number; the cost, nothing at a refusal; and of that the hours
+unfoldable pub answerNumber : Value Cost → ℕ
 answerNumber (value c) = 0
 answerNumber (trouble t) = t
 
-unfoldable pub answerCost : Value ℕ → ℕ
-answerCost (value c) = c
-answerCost (trouble t) = 0
+unfoldable pub costGiven : Value Cost → Cost
+costGiven (value c) = c
+costGiven (trouble t) = free
+
+unfoldable pub answerCost : Value Cost → ℕ
+answerCost x = costGiven x .high
 
 -- the bytes are a model, and the plan, of at most 256 steps, is one of its plans from the target, which meets all constraints, at cost c
-pub record CheckedPlan (bytes plan : List ℕ) (c : ℕ) : Type 0 where
+pub record CheckedPlan (bytes plan : List ℕ) (c : Cost) : Type 0 where
   pub model-fits : length bytes ≤ mostModelBytes
   pub plan-fits : length plan ≤ mostSteps
   pub described : Model
@@ -77,4 +82,4 @@ pub record CheckedPlan (bytes plan : List ℕ) (c : ℕ) : Type 0 where
 
 -- the bytes are a model and the plan is one of its plans, at some cost
 abbrev pub IsPlan : (bytes plan : List ℕ) → Type 0
-IsPlan bytes plan = (c : ℕ) × CheckedPlan bytes plan c
+IsPlan bytes plan = (c : Cost) × CheckedPlan bytes plan c

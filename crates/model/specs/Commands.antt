@@ -9,7 +9,7 @@ use lib.IntN.{ℤ, pos}
 use Rattle.laws.specs.Lists.{any}
 use Rattle.model.specs.Numbers.{mismatch, offLimits, bytesAfterEnd, mostVariables, mostTables, mostTransitions, mostBaseCases, mostConstraints, mostBounds, mostConditions, mostNesting}
 use Rattle.model.specs.Readers.{read, refused, Reader, _>>=_, _>>_, give, require, word, integer, one, command, many, upTo}
-use Rattle.model.specs.Syntax.{Condition, elementCount, setCount, Expression, ofSet, ofElement, ofNumber, Kind, aSet, anElement, aNumber, Preference, none, less, more, Rule, sum, largest, Variable, Table, Effect, Transition, Model}
+use Rattle.model.specs.Syntax.{Condition, elementCount, setCount, Expression, ofSet, ofElement, ofNumber, Kind, aSet, anElement, aNumber, Preference, none, less, more, Rule, sum, largest, Variable, Table, Effect, StepCosts, Transition, Model}
 use Rattle.model.specs.Expressions.{among, isCount, objectsAndMembers, declared, element, set, number, condition}
 
 -- ---- 01 cost rule
@@ -108,14 +108,19 @@ module _ (vs : List Variable) (ts : List Table) where
   unfoldable pub effectOn : ℕ × Variable → Reader Effect
   effectOn p = one (expressionFor (p .1 .kind) (p .1 .objects)) (λ x. record { target = p .0; result = x })
 
+  unfoldable pub costs : Reader StepCosts
+  costs = do
+    command 0x09
+    c ← number vs ts mostNesting
+    give (record { cost = c })
+
   -- effects have no size of their own: one per variable is at most as many as there are variables
   unfoldable pub transition : Reader Transition
   transition = do
     cs ← conditions
-    command 0x09
-    c ← number vs ts mostNesting
+    k ← costs
     es ← many (λ b. eqb b 0x0a) effectTarget effectOn mostVariables []
-    give (record { conditions = cs; cost = c; effects = es })
+    give (record { conditions = cs; costs = k; effects = es })
 
 -- ---- 0B base case, 0C state constraint, 0D dual bound, 0E end
 

@@ -9,6 +9,7 @@ pub mod Readers
 pub mod Expressions
 pub mod Commands
 pub mod Meaning
+pub mod Costs
 pub mod Steps
 pub mod Check
 pub mod Profile

@@ -1,27 +1,24 @@
--- A model as a system: its start, the status of a state, a transition's move, h, dominance, its costs.
+-- A model as a system: its start, the status of a state, a transition's move, h, dominance.
 -- docs/FORMAT.md, "States and steps" and "Bounds and preferences".
-use Prim.Native.Nat.{ℕ, suc, _+_, max}
+use Prim.Native.Nat.{ℕ, suc, max}
 use mathlib.Core.Bool.{Bool, true, false, cond, not, _&&_}
 use mathlib.Core.List.{List, [], _∷_, map}
 use mathlib.Core.Option.{Option}
 use mathlib.Core.Option as O
 use lib.ListN.{length, getElem?, set}
-use lib.Dec.{leb}
 use lib.IntN.{ℤ, pos, negsuc}
 use lib.Signed.{leZ}
 use Rattle.laws.specs.Lists.{any, isEmpty}
 use Rattle.model.specs.Numbers.{negativeCost}
 use Rattle.model.specs.Values.{Value, value, trouble, _>>=_}
-use Rattle.model.specs.System.{Costs, System, Origin, Status, base, unfinished, noStatus, Move, blocked, moved, troubleBefore, troubleAfter}
-use Rattle.model.specs.Syntax.{Number, Preference, none, less, more, Rule, sum, largest, Variable, Effect, Transition, Model}
+use Rattle.model.specs.System.{System, Origin, Status, base, unfinished, noStatus, Move, blocked, moved, troubleBefore, troubleAfter}
+use Rattle.model.specs.Syntax.{Number, Preference, none, less, more, Variable, Effect, StepCosts, Transition, Model}
+use Rattle.model.specs.declared.Cost.{Cost}
+use Rattle.model.specs.Costs.{free, hours, fixed}
 use Rattle.model.specs.Meaning.{State, numberAt, equalZ, numberValue, expressionValue, allHold, someHolds}
 
 unfoldable pub target : Model → State
 target m = map (λ x. x .start) (m .variables)
-
-unfoldable pub combine : Rule → ℕ → ℕ → ℕ
-combine sum a b = a + b
-combine largest a b = max a b
 
 unfoldable pub statusOf : Value Bool → Status
 statusOf (value true) = base
@@ -64,7 +61,7 @@ raise h (negsuc a) = h
 -- blocked by a condition; or the step's cost and the new state, constraints not yet tried
 pub data Attempt : Type 0 where
   notTaken : Attempt
-  taken : ℕ → State → Attempt
+  taken : Cost → State → Attempt
 
 -- end: of the numbers' range
 module _ (end : ℕ) (m : Model) where
@@ -82,33 +79,39 @@ module _ (end : ℕ) (m : Model) where
     z ← expressionValue end (m .tables) (f .result) s
     effects fs s (set new (f .target) z)
 
+  -- the same hours at high and at low figures; a negative number is trouble
+  unfoldable pub stepCost : StepCosts → State → Value Cost
+  stepCost k s = do
+    z ← numberValue end (m .tables) (k .cost) s
+    c ← costOf z
+    value (fixed c)
+
   unfoldable pub attempt : Transition → State → Value Attempt
   attempt t s = do
     holds ← allHold end (m .tables) (t .conditions) s
     cond holds
         (do
-          z ← numberValue end (m .tables) (t .cost) s
-          c ← costOf z
+          c ← stepCost (t .costs) s
           new ← effects (t .effects) s s
           value (taken c new))
         (value notTaken)
 
   -- "the new state meets all constraints"
-  unfoldable pub constrained : ℕ → State → Value Bool → Move State ℕ
+  unfoldable pub constrained : Cost → State → Value Bool → Move State Cost
   constrained c new (value true) = moved c new
   constrained c new (value false) = blocked
   constrained c new (trouble t) = troubleAfter c t
 
-  unfoldable pub moveOf : Value Attempt → Move State ℕ
+  unfoldable pub moveOf : Value Attempt → Move State Cost
   moveOf (value notTaken) = blocked
   moveOf (value (taken c new)) = constrained c new (admits new)
   moveOf (trouble t) = troubleBefore t
 
-  unfoldable pub moveBy : Option Transition → State → Move State ℕ
+  unfoldable pub moveBy : Option Transition → State → Move State Cost
   moveBy O.none s = blocked
   moveBy (O.some t) s = moveOf (attempt t s)
 
-  unfoldable pub move : State → ℕ → Move State ℕ
+  unfoldable pub move : State → ℕ → Move State Cost
   move s t = moveBy (getElem? (m .transitions) t) s
 
   -- "h is the greatest of 0 and the bounds", all evaluated in the order written
@@ -118,14 +121,17 @@ module _ (end : ℕ) (m : Model) where
     z ← numberValue end (m .tables) b s
     greatest bs s (raise h z)
 
-  unfoldable pub bound : State → Value ℕ
-  bound s = greatest (m .bounds) s 0
+  unfoldable pub boundHours : State → Value ℕ
+  boundHours s = greatest (m .bounds) s 0
 
-  unfoldable pub systemOf : System State ℕ
+  -- h as a cost
+  unfoldable pub bound : State → Value Cost
+  bound s = do
+    h ← boundHours s
+    value (hours h)
+
+  unfoldable pub systemOf : System State Cost
   systemOf = record { admits = admits; status = status; transitions = length (m .transitions); move = move; bound = bound; dominates = noneWorse (m .variables) 0 }
 
-unfoldable pub costsOf : Rule → Costs ℕ
-costsOf rule = record { empty = 0; combine = combine rule; atMost = leb }
-
-unfoldable pub originOf : Model → Origin State ℕ
-originOf m = record { start = target m; spent = 0 }
+unfoldable pub originOf : Model → Origin State Cost
+originOf m = record { start = target m; spent = free }

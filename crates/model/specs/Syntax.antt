@@ -89,9 +89,13 @@ pub record Effect : Type 0 where
   pub target : ℕ
   pub result : Expression
 
+-- what a step costs
+pub record StepCosts : Type 0 where
+  pub cost : Number
+
 pub record Transition : Type 0 where
   pub conditions : List Condition
-  pub cost : Number
+  pub costs : StepCosts
   pub effects : List Effect
 
 pub record Model : Type 0 where

@@ -10,3 +10,10 @@ pub fn length_fits(bytes: usize) -> bool
 {
     bytes <= 65536
 }
+
+// What steps and plans cost: hours at high figures, hours at low figures, cable moves.
+pub struct Cost {
+    pub high: u64,
+    pub low: u64,
+    pub moves: u64,
+}

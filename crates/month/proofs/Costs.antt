@@ -2,7 +2,7 @@
 -- of an answer marked cheapest fits a month's sum.
 use Prim.Native.Nat.{ℕ, _-_, _*_, _^_, _≤_, _<_}
 use mathlib.Core.Path.{_≡_, refl, sym, _∙_, subst}
-use mathlib.Core.Bool.{true, false, false≢true}
+use mathlib.Core.Bool.{true, false≢true}
 use mathlib.Core.List.{List}
 use native.Mathlib.Omega.{arith}
 use native.Mathlib.Nat.{suc-mul, mul-le-mul}
@@ -14,12 +14,14 @@ use Rattle.model.specs.Numbers.{rangeEnd}
 use Rattle.model.specs.Plans.{Plan, finish, step}
 use Rattle.model.specs.Syntax.{Model}
 use Rattle.model.specs.Meaning.{State}
-use Rattle.model.specs.Steps.{costsOf, systemOf}
-use Rattle.model.proofs.Costs.{combine-at-most-sum}
-use Rattle.model.proofs.Ranges.{step-cost-below}
+use Rattle.model.specs.declared.Cost.{Cost}
+use Rattle.model.specs.Costs.{costsOf, CostUpTo}
+use Rattle.model.specs.Steps.{systemOf}
+use Rattle.model.proofs.Costs.{combine-up-to}
+use Rattle.model.proofs.Ranges.{up-to-less, below-up-to, step-cost-below}
 use Rattle.search.specs.Answer.{Verdict, cheapest, noPlan, widthStop, lengthStop, budgetSpent, contradicted, Outcome, verdict, byState, byInput, verdictNumber, outcomeNumber, isRefusal, Answer}
 use Rattle.search.specs.Demands.{Demands}
-use Rattle.search.specs.Run.{plain, Settings, Lent, refusedByInput, run}
+use Rattle.search.specs.Run.{plain, Settings, Lent, refusedByInput, run, inHours}
 use Rattle.search.proofs.Source.{Source, input-refused, searched, run-source}
 use Rattle.search.proofs.Mission.{run-meets-demands}
 use Rattle.search_report.specs.Answers.{FieldsAre}
@@ -28,24 +30,25 @@ use Rattle.month_figures.specs.Closing.{isVerdict, gives, cheapestIn, costOf, a
 use Rattle.month_figures.specs.Kept.{CheapestWithin}
 use Rattle.month.specs.Month.{answerTo}
 
--- by either rule, each step adds at most end - 1
-pub plan-cost-below : (end : ℕ) (m : Model) {s : State} {p : List ℕ} {c : ℕ} → Plan (costsOf (m .rule)) (systemOf end m) s p c → c ≤ length p * (end - 1)
+-- by either rule, each step adds at most end - 1 to each part
+pub plan-cost-below : (end : ℕ) (m : Model) {s : State} {p : List ℕ} {c : Cost} → Plan (costsOf (m .rule)) (systemOf end m) s p c → CostUpTo (length p * (end - 1)) c
 unfolding costsOf
-plan-cost-below end m (finish e) = omega arith
+plan-cost-below end m (finish e) = record { high-within = omega arith; low-within = omega arith; moves-within = omega arith }
 plan-cost-below end m (step {s} {u} {t} {ts} {c} {r} x rest) =
-    omega (arith, plan-cost-below end m rest, step-cost-below end m s t (x .allowed), combine-at-most-sum (m .rule) c r, suc-mul (length ts) (end - 1))
+    up-to-less (combine-up-to (m .rule) (below-up-to (step-cost-below end m s t (x .allowed))) (plan-cost-below end m rest)) (omega (arith, suc-mul (length ts) (end - 1)))
 
 -- with a length limit that is given
-source-cost-within : {bytes : List ℕ} {q : Settings} {l : Lent} {a : Answer ℕ} (limit : ℕ) → q .form ≡ plain limit → Source bytes q l a → Demands bytes q a → a .flag ≡ true → a .cost ≤ limit * (rangeEnd - 1)
-unfolding refusedByInput
+source-cost-within : {bytes : List ℕ} {q : Settings} {l : Lent} {a : Answer Cost} (limit : ℕ) → q .form ≡ plain limit → Source bytes q l a → Demands bytes q (inHours a) → a .flag ≡ true → a .cost .high ≤ limit * (rangeEnd - 1)
+unfolding refusedByInput inHours
 source-cost-within limit f (input-refused t r) D e = absurd (false≢true e)
 source-cost-within {a = a} limit f (searched m x) D e =
-    let below = plan-cost-below rangeEnd m (D .marked m (x .used) (x .reads) .plan-given e .plan) in
+    let given = D .marked m (x .used) (x .reads) .plan-given e in
+    let below = plan-cost-below rangeEnd m (given .plan .plan) in
     let steps : length (a .steps) * (rangeEnd - 1) ≤ limit * (rangeEnd - 1) = mul-le-mul (D .within-given limit f) (omega arith) in
-    omega arith
+    omega (arith, below .high-within, given .in-hours)
 
 -- "a run's cost": of every run with a plan, whatever its verdict
-pub run-cost-within : (most : ℕ) (bytes : List ℕ) (q : Settings) (l : Lent) (limit : ℕ) → q .form ≡ plain limit → run most bytes q l .flag ≡ true → run most bytes q l .cost ≤ limit * (rangeEnd - 1)
+pub run-cost-within : (most : ℕ) (bytes : List ℕ) (q : Settings) (l : Lent) (limit : ℕ) → q .form ≡ plain limit → run most bytes q l .flag ≡ true → run most bytes q l .cost .high ≤ limit * (rangeEnd - 1)
 run-cost-within most bytes q l limit f e = source-cost-within limit f (run-source bytes q l most) (run-meets-demands most bytes q l) e
 
 -- the most that a plan can cost at the programs' settings
@@ -65,12 +68,13 @@ number-zero budgetSpent e = absurd (omega arith)
 number-zero contradicted e = absurd (omega arith)
 
 -- an answer marked cheapest has a plan
-source-cheapest-within : {bytes : List ℕ} {q : Settings} {l : Lent} {a : Answer ℕ} (limit : ℕ) → q .form ≡ plain limit → Source bytes q l a → Demands bytes q a → a .outcome ≡ verdict cheapest → a .cost ≤ limit * (rangeEnd - 1)
-unfolding refusedByInput
+source-cheapest-within : {bytes : List ℕ} {q : Settings} {l : Lent} {a : Answer Cost} (limit : ℕ) → q .form ≡ plain limit → Source bytes q l a → Demands bytes q (inHours a) → a .outcome ≡ verdict cheapest → a .cost .high ≤ limit * (rangeEnd - 1)
+unfolding refusedByInput inHours
 source-cheapest-within limit f (input-refused t r) D e = let z : _≡_ {A = ℕ} 0 1 = cc in absurd (omega arith)
 source-cheapest-within limit f (searched m x) D e = source-cost-within limit f (searched m x) D (D .marked m (x .used) (x .reads) .cheapest-given e)
 
 pub cheapest-within : (bytes : List ℕ) → answerTo bytes .outcome ≡ verdict cheapest → answerTo bytes .cost ≤ mostCost
+unfolding inHours
 cheapest-within bytes e = source-cheapest-within 64 refl (run-source bytes _ _ 16384) (run-meets-demands 16384 bytes _ _) e
 
 -- in the list of answers, and in the numbers

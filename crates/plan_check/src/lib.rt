@@ -7,6 +7,7 @@ use outline::layout::PREPARED_WORDS;
 use prepare::read_and_prepare;
 use steps::answers::Checked;
 use steps::check::follow;
+use steps::check::refused_plan;
 
 // The steps that a plan may have.
 const MOST_STEPS: usize = 256;
@@ -17,17 +18,14 @@ pub fn check(model: &[u8], plan: &[u8]) -> Checked
 {
     if length_fits(model.len()) {
         if MOST_STEPS < plan.len() {
-            return Checked { answer: 2, cost: 0 };
+            return refused_plan(2);
         }
         let mut outline = [0u64; PREPARED_WORDS];
         let refusal = read_and_prepare(model, &mut outline);
         if refusal == 0 {
             return follow(model, &outline, plan);
         }
-        return Checked {
-            answer: refusal,
-            cost: 0,
-        };
+        return refused_plan(refusal);
     }
-    Checked { answer: 1, cost: 0 }
+    refused_plan(1)
 }

@@ -8,10 +8,10 @@ use lib.ListN.{getD, drop}
 use lib.Seq.{drop-drop}
 use lib.Dec.{eqb}
 use Rattle.model.specs.Numbers.{mostNesting, mostVariables}
-use Rattle.model.specs.Readers.{Read, read, refused, Reader, after, continue, _>>=_, _>>_, give, command, many, upTo}
+use Rattle.model.specs.Readers.{Read, read, refused, Reader, after, continue, _>>=_, give, many, upTo}
 use Rattle.model.specs.Syntax.{Condition, Variable, Table, Transition}
-use Rattle.model.specs.Expressions.{number, condition}
-use Rattle.model.specs.Commands.{conditions, effectTarget, effectOn, transition}
+use Rattle.model.specs.Expressions.{condition}
+use Rattle.model.specs.Commands.{conditions, costs, effectTarget, effectOn, transition}
 use Rattle.model.proofs.Chains.{after-read, chain, given}
 use Rattle.model.proofs.Loops.{many-more, many-end, many-full, many-early, many-body-refused}
 use Rattle.prepare.proofs.Starts.{starts-with, clash}
@@ -90,29 +90,27 @@ module _ (vs : List Variable) (ts : List Table) (bytes : List ℕ) where
   -- what stands behind a transition's conditions
   abbrev behindConditions : List Condition → Reader Transition
   behindConditions cs =
-      command 0x09 >> (number vs ts mostNesting >>= λ c. many (λ b. eqb b 0x0a) (effectTarget vs ts) (effectOn vs ts) mostVariables [] >>= λ es. give (record { conditions = cs; cost = c; effects = es }))
+      costs vs ts >>= λ k. many (λ b. eqb b 0x0a) (effectTarget vs ts) (effectOn vs ts) mostVariables [] >>= λ es. give (record { conditions = cs; costs = k; effects = es })
 
   -- it is read alike behind any conditions
   any-conditions : (cs : List Condition) (e : List ℕ) (t : Transition) (l : ℕ) → behindConditions cs e ≡ read t l
-      → (t .conditions ≡ cs) × ((ds : List Condition) → behindConditions ds e ≡ read (record { conditions = ds; cost = t .cost; effects = t .effects }) l)
-  unfolding _>>=_ _>>_ give continue after
+      → (t .conditions ≡ cs) × ((ds : List Condition) → behindConditions ds e ≡ read (record { conditions = ds; costs = t .costs; effects = t .effects }) l)
+  unfolding _>>=_ give continue after
   any-conditions cs e t l h =
-      let c1 = chain (command 0x09 e) _ e t l h in
+      let c1 = chain (costs vs ts e) _ e t l h in
       let e1 = drop (c1 .used) e in
-      let c2 = chain (number vs ts mostNesting e1) _ e1 t (c1 .left) (c1 .reads-next) in
-      let e2 = drop (c2 .used) e1 in
-      let c3 = chain (many (λ b. eqb b 0x0a) (effectTarget vs ts) (effectOn vs ts) mostVariables [] e2) _ e2 t (c2 .left) (c2 .reads-next) in
-      let g = given _ (drop (c3 .used) e2) t (c3 .left) (c3 .reads-next) in
-      let uses : c1 .used + (c2 .used + (c3 .used + 0)) ≡ l = omega (arith, c1 .uses, c2 .uses, c3 .uses, g .1) in (
+      let c2 = chain (many (λ b. eqb b 0x0a) (effectTarget vs ts) (effectOn vs ts) mostVariables [] e1) _ e1 t (c1 .left) (c1 .reads-next) in
+      let g = given _ (drop (c2 .used) e1) t (c2 .left) (c2 .reads-next) in
+      let uses : c1 .used + (c2 .used + 0) ≡ l = omega (arith, c1 .uses, c2 .uses, g .1) in (
         ap (λ (i : Transition). i .conditions) (sym (g .0)),
-        λ ds. rw (c1 .reads-first, c2 .reads-first, c3 .reads-first, uses) (ap (λ (i : Transition). read (record { conditions = ds; cost = i .cost; effects = i .effects }) l) (g .0)),
+        λ ds. rw (c1 .reads-first, c2 .reads-first, uses) (ap (λ (i : Transition). read (record { conditions = ds; costs = i .costs; effects = i .effects }) l) (g .0)),
       )
 
   -- the transition that is left
   pub record TransitionBehind (at : ℕ) (x : Condition) (t : Transition) : Type 0 where
     pub rest : List Condition
     pub used : ℕ
-    pub reads : transition vs ts (drop at bytes) ≡ read (record { conditions = rest; cost = t .cost; effects = t .effects }) used
+    pub reads : transition vs ts (drop at bytes) ≡ read (record { conditions = rest; costs = t .costs; effects = t .effects }) used
     pub whole : t .conditions ≡ x ∷ rest
 
   pub transition-behind : (at : ℕ) (x : Condition) (n : ℕ) (t : Transition) (u : ℕ) → getD bytes at 0 ≡ 0x08 → condition vs ts mostNesting (drop (at + 1) bytes) ≡ read x n

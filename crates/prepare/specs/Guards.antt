@@ -26,12 +26,12 @@ guardIn words at = record { variable = getD words at 0; mask = getD words (at + 
 
 module _ (bytes : List ℕ) (m : Model) (g : Guard) where
   -- transition x: where the guard fails, so does one of its conditions, and none before it has trouble; where it passes, those that stand
-  -- behind it decide. The transition that is read there has x's cost and effects
+  -- behind it decide. The transition that is read there has x's costs and effects
   pub record GuardedTransition (x : Transition) : Type 0 where
     pub rest : List Condition
     pub used : ℕ
     pub inside : g .behind ≤ length bytes
-    pub reads : transition (m .variables) (m .tables) (drop (g .behind) bytes) ≡ read (record { conditions = rest; cost = x .cost; effects = x .effects }) used
+    pub reads : transition (m .variables) (m .tables) (drop (g .behind) bytes) ≡ read (record { conditions = rest; costs = x .costs; effects = x .effects }) used
     pub decides : (state : List ℕ) → allHold rangeEnd (m .tables) (x .conditions) (stateOf (m .variables) state)
         ≡ cond (passes g state) (allHold rangeEnd (m .tables) rest (stateOf (m .variables) state)) (value false)
 

@@ -22,7 +22,7 @@ use Rattle.eval_sets.specs.Forms.{span}
 use Rattle.eval_sets.proofs.Reading.{of-read}
 use Rattle.eval_sets.proofs.Spans.{Ends, element-ends, set-ends, number-ends, ends-span}
 use Rattle.steps.specs.Says.{effectList, TransitionRead}
-use Rattle.steps.proofs.Readings.{Listed, EffectAt, effects-listed, first-of, none-of, PartsAt, parts-at, set-for, element-for, number-for}
+use Rattle.steps.proofs.Readings.{Listed, EffectAt, effects-listed, first-of, none-of, costs-at, PartsAt, parts-at, set-for, element-for, number-for}
 use Rattle.profile.specs.Forms.{told, objectIn, removedFrom}
 use Rattle.profile.specs.Says.{BeginsWithSet, BehindConditions, BehindCosts, RequiresSays, RemovedSays, LoadsSays}
 use Rattle.profile.proofs.Trees.{set-in}
@@ -217,13 +217,13 @@ module _ (bytes : List ℕ) (at costs : ℕ) (behind : BehindConditions bytes at
   costs-inside t =
       let p = parts-at (modelOf bytes .variables) (modelOf bytes .tables) bytes at (t .item) (t .used) (t .reads) in
       let stands : costs ≡ at + p .conditions-used = behind (t .item .conditions) (p .conditions-used) (p .reads-conditions) in
-      byte-inside bytes costs 0x09 (omega arith) (rw stands (p .cost-there))
+      byte-inside bytes costs 0x09 (omega arith) (costs-at (modelOf bytes .variables) (modelOf bytes .tables) bytes costs (t .item .costs) (p .costs-used) (rw stands (p .reads-costs)) .there)
 
   module _ (effects object : ℕ) (costed : BehindCosts bytes costs effects) (removed : RemovedSays bytes effects object) where
     object-is : {t : Transition} → Parts t → object ≡ told (removedObject (t .effects))
     object-is {t} p =
         let stands : costs ≡ at + p .conditions-used = behind (t .conditions) (p .conditions-used) (p .reads-conditions) in
-        let on : effects ≡ at + p .conditions-used + 1 + p .cost-used = rw (← stands) (costed (t .cost) (p .cost-used) (rw stands (p .reads-cost))) in
+        let on : effects ≡ at + p .conditions-used + p .costs-used = rw (← stands) (costed (t .costs) (p .costs-used) (rw stands (p .reads-costs))) in
         removed (t .effects) (p .effects-used) (rw on (p .reads-effects))
 
     pub loads-none : object ≡ 0 → LoadsSays bytes at false

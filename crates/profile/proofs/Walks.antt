@@ -17,7 +17,7 @@ use Rattle.outline.specs.Outline.{modelOf}
 use Rattle.eval_sets.specs.Forms.{span}
 use Rattle.eval_sets.proofs.Reading.{of-read}
 use Rattle.eval_sets.proofs.Spans.{span-within, number-ends, condition-ends, ends-span}
-use Rattle.steps.proofs.Readings.{Listed, stop, item, ConditionAt, conditions-listed, first-of, none-of}
+use Rattle.steps.proofs.Readings.{Listed, stop, item, ConditionAt, conditions-listed, costs-at, first-of, none-of}
 use Rattle.profile.specs.Forms.{told, objectIn, emptyIn}
 use Rattle.profile.specs.Says.{BehindConditions, BehindCosts, RequiresSays, OnlyEmptySays}
 use Rattle.profile.proofs.Trees.{ConditionIn, condition-in}
@@ -43,8 +43,10 @@ module _ (bytes : List ℕ) where
   condition-form : {at next : ℕ} {x : Condition} → PartAt at x next → ConditionIn variablesIn tablesIn (drop at bytes) x
   condition-form {at} p = of-read (p .reads) (condition-in variablesIn tablesIn mostNesting (drop at bytes))
 
-  pub cost-end : (at : ℕ) → BehindCosts bytes at (at + 1 + span (drop (at + 1) bytes) 0 1)
-  cost-end at x n h = omega (arith, ends-span (drop (at + 1) bytes) n (of-read h (number-ends variablesIn tablesIn mostNesting (drop (at + 1) bytes))))
+  pub costs-end : (at : ℕ) → BehindCosts bytes at (at + 1 + span (drop (at + 1) bytes) 0 1)
+  costs-end at k n h =
+      let p = costs-at variablesIn tablesIn bytes at k n h in
+      omega (arith, p .ends, ends-span (drop (at + 1) bytes) (p .used) (of-read (p .reads) (number-ends variablesIn tablesIn mostNesting (drop (at + 1) bytes))))
 
   -- the conditions from `at` on, those before `next` passed: v is the same of those that are left
   module _ {A : Type 0} (v : List Condition → A) where

@@ -6,11 +6,9 @@ use mathlib.Core.List.{List}
 use lib.ListN.{drop}
 use lib.Dec.{eqb}
 use Rattle.laws.specs.Lists.{any}
-use Rattle.model.specs.Numbers.{mostNesting}
 use Rattle.model.specs.Readers.{read}
-use Rattle.model.specs.Syntax.{Condition, Number, Effect, Transition, Variable, Table}
-use Rattle.model.specs.Expressions.{number}
-use Rattle.model.specs.Commands.{conditions, transition}
+use Rattle.model.specs.Syntax.{Condition, Effect, StepCosts, Transition, Variable, Table}
+use Rattle.model.specs.Commands.{conditions, costs, transition}
 use Rattle.model.specs.Profile.{ofOnly, requiredObject, removedObject, loads, beginsWithSet, asksForEmpty}
 use Rattle.outline.specs.Outline.{modelOf, Outlines}
 use Rattle.steps.specs.Says.{effectList, TransitionRead}
@@ -42,9 +40,9 @@ module _ (bytes : List ℕ) where
     abbrev pub BehindConditions : ℕ → Type 0
     BehindConditions r = (l : List Condition) (n : ℕ) → conditions variablesIn tablesIn (drop at bytes) ≡ read l n → r ≡ at + n
 
-    -- the place behind the cost whose command stands there
+    -- the place behind the costs that are read there
     abbrev pub BehindCosts : ℕ → Type 0
-    BehindCosts r = (x : Number) (n : ℕ) → number variablesIn tablesIn mostNesting (drop (at + 1) bytes) ≡ read x n → r ≡ at + 1 + n
+    BehindCosts r = (k : StepCosts) (n : ℕ) → costs variablesIn tablesIn (drop at bytes) ≡ read k n → r ≡ at + n
 
     -- whether one of the conditions that are read there requires the object
     abbrev pub RequiresSays : (object : ℕ) → Bool → Type 0

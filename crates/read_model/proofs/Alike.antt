@@ -10,7 +10,7 @@ use Rattle.laws.specs.Lists.{any}
 use Rattle.model.specs.Numbers.{mostVariables, mostNesting}
 use Rattle.model.specs.Readers.{Read, read, refused, Reader, after, many}
 use Rattle.model.specs.Syntax.{Kind, aSet, anElement, aNumber, Variable, Table, Effect}
-use Rattle.model.specs.Commands.{conditions, effectTarget, expressionFor, effectOn, transition}
+use Rattle.model.specs.Commands.{conditions, costs, effectTarget, expressionFor, effectOn, transition}
 use Rattle.model.proofs.Loops.{many-more, many-end, many-full, many-early, many-head-refused, many-body-refused}
 use Rattle.words.specs.Signature.{variablesOf, tablesOf}
 use Rattle.read_expressions.proofs.Alike.{SameVariable, neither, both, same-variable, ReadsAlike, reads-alike}
@@ -84,6 +84,10 @@ module _ (vs : List Variable) (ts : List Table) (us : List Variable) (ss : List 
   unfolding conditions
   conditions-alike = rw (alike .conditions)
 
+  costs-alike : costs vs ts ≡ costs us ss
+  unfolding costs
+  costs-alike = rw (alike .numbers)
+
   module _ (same : (v : ℕ) → SameVariable (getElem? vs v) (getElem? us v)) where
     same-target : (b : ℕ) (done : List Effect) (e : List ℕ)
         → SameHead (λ b. eqb b 0x0a) (effectTarget vs ts) (effectOn vs ts) (effectTarget us ss) (effectOn us ss) (effectTarget vs ts b done e) (effectTarget us ss b done e)
@@ -101,7 +105,7 @@ module _ (vs : List Variable) (ts : List Table) (us : List Variable) (ss : List 
 
     transition-alike : transition vs ts ≡ transition us ss
     unfolding transition
-    transition-alike = rw (conditions-alike, alike .numbers, effects-alike)
+    transition-alike = rw (conditions-alike, costs-alike, effects-alike)
 
     item-alike : (g : Group) → itemOf vs ts g ≡ itemOf us ss g
     unfolding itemOf

@@ -13,10 +13,10 @@ use Rattle.laws.proofs.Lists.{byte-inside}
 use Rattle.laws.specs.Lists.{any}
 use Rattle.model.specs.Numbers.{endsEarly, mismatch, offLimits, mostVariables, mostNesting}
 use Rattle.model.specs.Readers.{Read, read, refused, Reader, after, continue, _>>=_, _>>_, give, refuse, require, one, word, byte, command}
-use Rattle.model.specs.Syntax.{Number, Condition, Element, Set, elementCount, setCount, Kind, aSet, anElement, aNumber, ofSet, ofElement, Variable, Table, Effect, Transition}
+use Rattle.model.specs.Syntax.{Number, Condition, Element, Set, elementCount, setCount, Kind, aSet, anElement, aNumber, ofSet, ofElement, Variable, Table, Effect, StepCosts, Transition}
 use Rattle.model.specs.Expressions as X
 use Rattle.model.specs.Expressions.{declared, element, number, condition}
-use Rattle.model.specs.Commands.{conditions, effectTarget, expressionFor, effectOn, transition}
+use Rattle.model.specs.Commands.{conditions, effectTarget, expressionFor, effectOn, costs, transition}
 use Rattle.words.specs.Signature.{variableOf, variablesOf, tablesOf}
 use Rattle.read_forms.specs.Parts.{noCount, partOf, partAt}
 use Rattle.read_forms.specs.Forms.{TakesAtMost}
@@ -25,11 +25,11 @@ use Rattle.read_forms.specs.declared.Due.the-variants as D
 use Rattle.read_forms.specs.declared.Part.{Part}
 use Rattle.read_forms.specs.declared.Part.the-variants as R
 use Rattle.read_declarations.specs.Positions.{readAt, positionOf}
-use Rattle.read_transitions.specs.Transitions.{placeOfPart, movedBy, dueFor, countFits, partFrom, costNumber, effectsBehind, Marked, Changed}
+use Rattle.read_transitions.specs.Transitions.{placeOfPart, movedBy, dueFor, countFits, partFrom, effectsBehind, Marked, Changed}
 use Rattle.read_declarations.specs.declared.Position.the-variants.{At, Refused}
 use Rattle.words.proofs.Literal.{word-one}
 use Rattle.read_expressions.proofs.Forms.{part-takes}
-use Rattle.read_declarations.proofs.Positions.{front, reads-at, refuses-at, give-at, given-at, position-read, position-refused, then-read, then-refused, next-read, next-refused, next-split, reverse-more, turn, turn-full, turn-head-refused, turn-body-refused, turn-end, turn-early}
+use Rattle.read_declarations.proofs.Positions.{front, reads-at, refuses-at, give-at, given-at, position-read, position-refused, then-read, then-refused, next-read, next-refused, reverse-more, turn, turn-full, turn-head-refused, turn-body-refused, turn-end, turn-early}
 
 -- ---- an expression at a position
 
@@ -292,17 +292,21 @@ module _ {vs : List Variable} {ts : List Table} {bytes : List ℕ} {start at n :
 
 module _ (vs : List Variable) (ts : List Table) where
   module _ (at : ℕ) (bytes : List ℕ) where
-    pub cost-read : {p : ℕ} → At p ≡ positionOf (readAt (command 0x09) at bytes) → positionOf (readAt (number vs ts mostNesting) p bytes) ≡ positionOf (readAt (costNumber vs ts) at bytes)
-    cost-read q = let c = position-read (readAt (command 0x09) at bytes) q in sym (ap positionOf (next-read (command 0x09) at bytes (number vs ts mostNesting) (c .1)))
+    pub costs-read : {p : ℕ} → At p ≡ positionOf (readAt (command 0x09) at bytes) → positionOf (readAt (number vs ts mostNesting) p bytes) ≡ positionOf (readAt (costs vs ts) at bytes)
+    unfolding costs
+    costs-read {p} q =
+        let c = position-read (readAt (command 0x09) at bytes) q in
+        sym (ap positionOf (next-read (command 0x09) at bytes (number vs ts mostNesting >>= λ x. give (record { cost = x })) (c .1)) ∙ given-at (number vs ts mostNesting) p bytes _)
 
-    pub cost-refused : {t : ℕ} → Refused t ≡ positionOf (readAt (command 0x09) at bytes) → Refused t ≡ positionOf (readAt (costNumber vs ts) at bytes)
-    cost-refused q = sym (ap positionOf (next-refused (command 0x09) at bytes (number vs ts mostNesting) (position-refused (readAt (command 0x09) at bytes) q)))
+    pub costs-refused : {t : ℕ} → Refused t ≡ positionOf (readAt (command 0x09) at bytes) → Refused t ≡ positionOf (readAt (costs vs ts) at bytes)
+    unfolding costs
+    costs-refused q = sym (ap positionOf (next-refused (command 0x09) at bytes (number vs ts mostNesting >>= λ x. give (record { cost = x })) (position-refused (readAt (command 0x09) at bytes) q)))
 
-    abbrev behindCost : List Condition → Number → Reader Transition
-    behindCost cs c = effectsBehind vs ts mostVariables [] >>= λ es. give (record { conditions = cs; cost = c; effects = es })
+    abbrev behindCosts : List Condition → StepCosts → Reader Transition
+    behindCosts cs k = effectsBehind vs ts mostVariables [] >>= λ es. give (record { conditions = cs; costs = k; effects = es })
 
     abbrev behindConditions : List Condition → Reader Transition
-    behindConditions cs = command 0x09 >> (number vs ts mostNesting >>= λ c. behindCost cs c)
+    behindConditions cs = costs vs ts >>= λ k. behindCosts cs k
 
     pub transition-conditions-refused : {t : ℕ} → Refused t ≡ positionOf (readAt (conditions vs ts) at bytes) → Refused t ≡ positionOf (readAt (transition vs ts) at bytes)
     unfolding transition
@@ -313,23 +317,10 @@ module _ (vs : List Variable) (ts : List Table) where
       unfolding transition
       after-conditions = let c = position-read (readAt (conditions vs ts) at bytes) first in (c .0, then-read (conditions vs ts) at bytes behindConditions (c .1))
 
-      pub transition-cost-refused : {t : ℕ} → Refused t ≡ positionOf (readAt (costNumber vs ts) p bytes) → Refused t ≡ positionOf (readAt (transition vs ts) at bytes)
-      transition-cost-refused {t} q = go (readAt (command 0x09) p bytes) refl
-        where
-          cs : List Condition
-          cs = after-conditions .0
+      pub transition-costs-refused : {t : ℕ} → Refused t ≡ positionOf (readAt (costs vs ts) p bytes) → Refused t ≡ positionOf (readAt (transition vs ts) at bytes)
+      transition-costs-refused q = sym (ap positionOf (after-conditions .1 ∙ then-refused (costs vs ts) p bytes (behindCosts (after-conditions .0)) (position-refused (readAt (costs vs ts) p bytes) q)))
 
-          go : (x : Read (Unit {0})) → readAt (command 0x09) p bytes ≡ x → Refused t ≡ positionOf (readAt (transition vs ts) at bytes)
-          go (read u m) e =
-              let i : readAt (number vs ts mostNesting) m bytes ≡ refused t = sym (next-read (command 0x09) p bytes (number vs ts mostNesting) e) ∙ position-refused (readAt (costNumber vs ts) p bytes) q in
-              sym (ap positionOf (after-conditions .1 ∙ (next-read (command 0x09) p bytes (number vs ts mostNesting >>= λ c. behindCost (after-conditions .0) c) e ∙ then-refused (number vs ts mostNesting) m bytes (λ c. behindCost (after-conditions .0) c) i)))
-          go (refused u) e =
-              q ∙ (ap positionOf (next-refused (command 0x09) p bytes (number vs ts mostNesting) e) ∙ sym (ap positionOf (after-conditions .1 ∙ next-refused (command 0x09) p bytes (number vs ts mostNesting >>= λ c. behindCost (after-conditions .0) c) e)))
-
-      pub transition-effects : {q : ℕ} → At q ≡ positionOf (readAt (costNumber vs ts) p bytes) → positionOf (readAt (effectsBehind vs ts mostVariables []) q bytes) ≡ positionOf (readAt (transition vs ts) at bytes)
+      pub transition-effects : {q : ℕ} → At q ≡ positionOf (readAt (costs vs ts) p bytes) → positionOf (readAt (effectsBehind vs ts mostVariables []) q bytes) ≡ positionOf (readAt (transition vs ts) at bytes)
       transition-effects {q} second =
-          let n = position-read (readAt (costNumber vs ts) p bytes) second in
-          let s = next-split (command 0x09) (number vs ts mostNesting) p bytes (n .1) in
-          sym (ap positionOf (after-conditions .1 ∙ (next-read (command 0x09) p bytes (number vs ts mostNesting >>= λ c. behindCost (after-conditions .0) c) (s .2)
-          ∙ then-read (number vs ts mostNesting) (s .1) bytes (λ c. behindCost (after-conditions .0) c) (s .3)))
-          ∙ given-at (effectsBehind vs ts mostVariables []) q bytes _)
+          let n = position-read (readAt (costs vs ts) p bytes) second in
+          sym (ap positionOf (after-conditions .1 ∙ then-read (costs vs ts) p bytes (behindCosts (after-conditions .0)) (n .1)) ∙ given-at (effectsBehind vs ts mostVariables []) q bytes _)

@@ -7,8 +7,8 @@ use lib.ListN.{getD}
 use lib.Dec.{leb, eqb}
 use Rattle.laws.specs.Lists.{any}
 use Rattle.model.specs.Numbers.{mostVariables, mostNesting}
-use Rattle.model.specs.Readers.{refused, Reader, _>>_, command, many}
-use Rattle.model.specs.Syntax.{Number, elementCount, setCount, Kind, aSet, anElement, aNumber, Variable, Table, Effect}
+use Rattle.model.specs.Readers.{refused, Reader, many}
+use Rattle.model.specs.Syntax.{elementCount, setCount, Kind, aSet, anElement, aNumber, Variable, Table, Effect}
 use Rattle.model.specs.Expressions.{element, set, number, condition}
 use Rattle.model.specs.Commands.{effectTarget, effectOn}
 use Rattle.read_forms.specs.Parts.{noCount, partOf}
@@ -53,10 +53,6 @@ module _ (vs : List Variable) (ts : List Table) where
   partFrom D.Condition at bytes = partOf noCount (readAt (condition vs ts mostNesting) at bytes)
   partFrom D.Element at bytes = partOf elementCount (readAt (element vs ts mostNesting) at bytes)
   partFrom D.Set at bytes = partOf setCount (readAt (set vs ts mostNesting) at bytes)
-
-  -- 09 and a number
-  abbrev pub costNumber : Reader Number
-  costNumber = command 0x09 >> number vs ts mostNesting
 
   -- ---- effects
 

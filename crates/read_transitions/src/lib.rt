@@ -1,4 +1,4 @@
-// Reads transitions: conditions, 08, the cost, 09, and effects, 0A; and conditions and numbers at a position.
+// Reads transitions: conditions, 08, costs, 09, and effects, 0A; and conditions and numbers at a position.
 
 ghost use mathlib.Core.Path.{_≡_};
 ghost use mathlib.Core.List.{[]};
@@ -10,7 +10,7 @@ ghost use Rattle.model.specs.Commands as commands;
 ghost use Rattle.words.specs.Signature.{variableOf, variablesOf, tablesOf};
 ghost use Rattle.read_forms.specs.Forms.{TakesAtMost};
 ghost use Rattle.read_declarations.specs.Positions.{readAt, positionOf};
-ghost use Rattle.read_transitions.specs.Transitions.{placeOfPart, movedBy, dueFor, countFits, partFrom, costNumber, effectsBehind, ChangedAs};
+ghost use Rattle.read_transitions.specs.Transitions.{placeOfPart, movedBy, dueFor, countFits, partFrom, effectsBehind, ChangedAs};
 use laws::byte_at;
 use read_declarations::MOST_VARIABLES;
 use read_declarations::Position;
@@ -240,9 +240,9 @@ fn effects(model: &[u8], start: usize, kinds: &[u8], rows: &[u8], columns: &[u8]
     }
 }
 
-// 09 and the cost.
-fn cost(model: &[u8], at: usize, kinds: &[u8], rows: &[u8], columns: &[u8]) -> Position
-    ensures { λ r. ⌜ r ≡ positionOf (readAt (costNumber (variablesOf (now (kinds .entry))) (tablesOf (now (rows .entry)) (now (columns .entry)))) at (now (model .entry))) ⌝ }
+// What a step costs: 09 and a number.
+fn costs(model: &[u8], at: usize, kinds: &[u8], rows: &[u8], columns: &[u8]) -> Position
+    ensures { λ r. ⌜ r ≡ positionOf (readAt (commands.costs (variablesOf (now (kinds .entry))) (tablesOf (now (rows .entry)) (now (columns .entry)))) at (now (model .entry))) ⌝ }
 {
     match command_at(model, at, 0x09) {
         Position::At(p) => number_at(model, p, kinds, rows, columns),
@@ -250,13 +250,13 @@ fn cost(model: &[u8], at: usize, kinds: &[u8], rows: &[u8], columns: &[u8]) -> P
     }
 }
 
-// Any conditions, the cost, any effects.
+// Any conditions, the costs, any effects.
 pub fn transition(model: &[u8], at: usize, kinds: &[u8], rows: &[u8], columns: &[u8]) -> Position
     requires { ⌜ length (now kinds) ≤ mostVariables ⌝ }
     ensures { λ r. ⌜ r ≡ positionOf (readAt (commands.transition (variablesOf (now (kinds .entry))) (tablesOf (now (rows .entry)) (now (columns .entry)))) at (now (model .entry))) ⌝ }
 {
     match conditions(model, at, kinds, rows, columns) {
-        Position::At(p) => match cost(model, p, kinds, rows, columns) {
+        Position::At(p) => match costs(model, p, kinds, rows, columns) {
             Position::At(q) => effects(model, q, kinds, rows, columns),
             Position::Refused(t) => Position::Refused(t),
         },

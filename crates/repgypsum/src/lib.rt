@@ -92,5 +92,7 @@ pub extern "C" fn repgypsum_check_answer(model: &[u8], plan: &[u8]) -> u8
 pub extern "C" fn repgypsum_check_cost(model: &[u8], plan: &[u8]) -> u64
     ensures { λ r. ⌜ r ≡ answerCost (plans.check (now (model .entry)) (now (plan .entry))) ⌝ }
 {
-    check(model, plan).cost
+    let checked = check(model, plan);
+    let cost = checked.cost;
+    cost.high
 }

@@ -10,11 +10,13 @@ use native.Mathlib.Omega.{arith}
 use lib.ListN.{length}
 use Rattle.laws.specs.Lists.{isEmpty}
 use Rattle.laws.proofs.Bools.{not-both}
+use Rattle.model.specs.declared.Cost.{Cost}
 use Rattle.model.specs.Numbers.{rangeEnd}
 use Rattle.model.specs.Values.{Value, value, trouble}
 use Rattle.model.specs.System.{Costs, CostLaws, System, Origin, base, unfinished}
 use Rattle.model.specs.Syntax.{Model}
-use Rattle.model.specs.Steps.{costsOf, systemOf, originOf}
+use Rattle.model.specs.Costs.{costsOf}
+use Rattle.model.specs.Steps.{systemOf, originOf}
 use Rattle.model.proofs.Costs.{cost-laws}
 use Rattle.search.specs.Answer.{cheapest, noPlan, contradicted, budgetSpent, verdict, Answer}
 use Rattle.search.specs.Search.{Node, Route, Progress, Round, Ending, decided, refused, Stop, belowBest, counted, atLimit, improvedBy, layerEnd, nextLayer, root, freshRound, round, After, again, ended, exhausted, afterRound, tallyOf, answerOf, answer, nextWidth, laterWidths, unlessOver, rounds, refusedAtStart, begin, enter, searchWithin, search}
@@ -233,7 +235,7 @@ any-bound-of-run most bytes q l {m} few x most-rounds lt =
     run-accepted most bytes q l few x
     ∙ sym (any-bound-of-search (costsOf (m .rule)) (cost-laws (m .rule)) (systemOf rangeEnd m) (originOf m) (q .budget) (firstWidth (q .beam)) (widerThan (q .beam)) most-rounds (limitOf (q .form) m) (some-limit (q .form) m (form-fits q (x .fit))) lt)
 
-source-used : {bytes : List ℕ} {q : Settings} {l : Lent} {a : Answer ℕ} → Source bytes q l a → UsedIfSpent (q .budget) a
+source-used : {bytes : List ℕ} {q : Settings} {l : Lent} {a : Answer Cost} → Source bytes q l a → UsedIfSpent (q .budget) a
 unfolding refusedByInput searchModel
 source-used (input-refused t r) = λ e. let z : _≡_ {A = ℕ} 0 1 = cc in absurd (omega arith)
 source-used {q = q} (searched m x) =

@@ -1,18 +1,19 @@
 -- Low lies strictly below the best, in every round and behind a stop; and from any point of a run the best only becomes cheaper
 -- and low only rises. Both are kept by every single change, whatever the budget; so a stopped run's bound is below its plan's cost.
-use Prim.Native.Nat.{ℕ, _<_}
+use Prim.Native.Nat.{ℕ, _≤_}
 use mathlib.Core.Path.{_≡_, refl}
 use mathlib.Core.Bool.{Bool, true, false, false≢true}
 use mathlib.Core.List.{List, [], _∷_}
 use mathlib.Core.Option.{Option, none, some}
-use borrow.Author.Tests.{leb-false}
 use Rattle.laws.specs.Lists.{All, filter, isEmpty}
 use Rattle.laws.proofs.Bools.{by-cond, not-true}
 use Rattle.laws.proofs.Lists.{all-map, all-passed}
+use Rattle.model.specs.declared.Cost.{Cost}
 use Rattle.model.specs.System.{Costs, CostLaws, System, Origin}
 use Rattle.model.specs.Numbers.{rangeEnd}
-use Rattle.model.specs.Steps.{costsOf, systemOf, originOf}
-use Rattle.model.proofs.Costs.{cost-laws}
+use Rattle.model.specs.Costs.{atMost, costsOf}
+use Rattle.model.specs.Steps.{systemOf, originOf}
+use Rattle.model.proofs.Costs.{cost-laws, not-at-most-hours}
 use Rattle.search.specs.Answer.{Verdict, cheapest, noPlan, widthStop, lengthStop, budgetSpent, contradicted, verdict, Answer}
 use Rattle.search.specs.Search.{Node, Route, Progress, Round, Ending, decided, refused, Stop, Result, on, over, less, belowBest, routeTo, counted, atLimit, improvedBy, leastF, raisedLow, layerEnd, nextLayer, root, freshRound, round, exhausted, afterRound, hasPlan, bestCost, boundAt, answerOf, answer, untouched, refusedAtStart, search}
 use Rattle.search.specs.Guarantee.{Stopped, by-width, by-length, by-budget, widest}
@@ -214,13 +215,16 @@ module _ {S C : Type 0} (K : Costs C) (L : CostLaws K) (M : System S C) (o : Ori
 
 -- ---- from bytes
 
-source-gap : {bytes : List ℕ} {q : Settings} {l : Lent} {a : Answer ℕ} → Source bytes q l a → Stopped (a .outcome) → a .flag ≡ true → a .bound < a .cost
+source-gap : {bytes : List ℕ} {q : Settings} {l : Lent} {a : Answer Cost} → Source bytes q l a → Stopped (a .outcome) → a .flag ≡ true → atMost (a .cost) (a .bound) ≡ false
 unfolding refusedByInput searchModel costsOf
 source-gap (input-refused t r) s e = absurd (false≢true e)
 source-gap {q = q} (searched m x) s e =
-    leb-false _ _
-    (stopped-bound-below-cost (costsOf (m .rule)) (cost-laws (m .rule)) (systemOf rangeEnd m) (originOf m) (q .budget) (limitOf (q .form) m) (firstWidth (q .beam)) (widerThan (q .beam)) s e)
+    stopped-bound-below-cost (costsOf (m .rule)) (cost-laws (m .rule)) (systemOf rangeEnd m) (originOf m) (q .budget) (limitOf (q .form) m) (firstWidth (q .beam)) (widerThan (q .beam)) s e
 
 -- document 02, §7: "gap between cost and bound": in a stopped run the bound lies strictly below the cost of its plan
-pub stopped-bound-below-plan : (most : ℕ) (bytes : List ℕ) (q : Settings) (l : Lent) → Stopped (run most bytes q l .outcome) → run most bytes q l .flag ≡ true → run most bytes q l .bound < run most bytes q l .cost
+pub stopped-bound-below-plan : (most : ℕ) (bytes : List ℕ) (q : Settings) (l : Lent) → Stopped (run most bytes q l .outcome) → run most bytes q l .flag ≡ true → atMost (run most bytes q l .cost) (run most bytes q l .bound) ≡ false
 stopped-bound-below-plan most bytes q l = source-gap (run-source bytes q l most)
+
+-- so its hours are no more than the plan's
+pub stopped-hours-below-plan : (most : ℕ) (bytes : List ℕ) (q : Settings) (l : Lent) → Stopped (run most bytes q l .outcome) → run most bytes q l .flag ≡ true → run most bytes q l .bound .high ≤ run most bytes q l .cost .high
+stopped-hours-below-plan most bytes q l s e = not-at-most-hours (run most bytes q l .cost) (run most bytes q l .bound) (stopped-bound-below-plan most bytes q l s e)

@@ -11,13 +11,15 @@ use lib.Dec.{ltb}
 use lib.Seq.{take-at}
 use borrow.Author.Tests.{leb-true, le-leb}
 use Rattle.laws.proofs.Bools.{and-both}
+use Rattle.model.specs.declared.Cost.{Cost}
 use Rattle.model.specs.Numbers.{rangeEnd, mostModelBytes, mostSteps, modelTooLong, badSetting, badWidths, tooLittleLent, notAPlan}
 use Rattle.model.specs.Values.{Value, value, trouble}
 use Rattle.model.specs.Readers.{Read, read, refused}
 use Rattle.model.specs.Syntax.{Model}
 use Rattle.model.specs.Commands.{model}
-use Rattle.model.specs.Steps.{target, costsOf, systemOf, originOf}
-use Rattle.model.proofs.Costs.{cost-laws}
+use Rattle.model.specs.Costs.{free, atMost, costsOf}
+use Rattle.model.specs.Steps.{target, systemOf, originOf}
+use Rattle.model.proofs.Costs.{cost-laws, at-most-hours}
 use Rattle.model.specs.Check.{check, CheckedPlan}
 use Rattle.model.proofs.Dominance.{dominates-self}
 use Rattle.model.proofs.Outcomes.{StateTrouble}
@@ -27,9 +29,9 @@ use Rattle.model.proofs.Troubles.{admits-trouble, status-trouble, move-trouble-
 use Rattle.model.proofs.PlanCheck.{check-exact, broken-has-no-plan, check-of-broken-target, check-of-target-trouble}
 use Rattle.search.specs.Answer.{Verdict, cheapest, noPlan, widthStop, lengthStop, contradicted, Outcome, verdict, byState, byInput, Answer, bufferAfter, handedBack}
 use Rattle.search.specs.Guarantee.{Stopped, Guarantee}
-use Rattle.search.specs.Demands.{Ends, with-verdict, by-state, PlanOf, DeclarationsTrue, LayersFit, Marked, Demands}
+use Rattle.search.specs.Demands.{Ends, with-verdict, by-state, PlanAt, DeclarationsTrue, LayersFit, Marked, Demands}
 use Rattle.search.specs.Search.{searchWithin}
-use Rattle.search.specs.Run.{Beam, upTo, listed, Form, plain, loading, Settings, Lent, widerUpTo, isWidth, rising, firstWidth, widerThan, widestOf, limitOf, beamFits, listFits, formFits, settingsFit, lentFits, refusedByInput, searchModel, runRead, runSet, run}
+use Rattle.search.specs.Run.{Beam, upTo, listed, Form, plain, loading, Settings, Lent, widerUpTo, isWidth, rising, firstWidth, widerThan, widestOf, limitOf, beamFits, listFits, formFits, settingsFit, lentFits, refusedByInput, searchModel, runRead, runSet, run, inHours}
 use Rattle.search.proofs.Settings.{beam-fits, widest-is-last, built-in-last, built-in-rises}
 use Rattle.search.proofs.Source.{Accepted, Source, input-refused, searched, run-source, run-holds, run-bad-widths, run-accepted}
 use Rattle.search.proofs.Targets.{broken-start, troubled-start}
@@ -56,7 +58,7 @@ search-ends m q (byState t) e =
     by-state (range .0) (range .1)
 search-ends m q (byInput t) e = absurd (never-by-input (costsOf (m .rule)) (systemOf rangeEnd m) (originOf m) (q .budget) (limitOf (q .form) m) (firstWidth (q .beam)) (widerThan (q .beam)) t e)
 
-source-ends : {bytes : List ℕ} {q : Settings} {l : Lent} {a : Answer ℕ} → Source bytes q l a → Ends q (a .outcome)
+source-ends : {bytes : List ℕ} {q : Settings} {l : Lent} {a : Answer Cost} → Source bytes q l a → Ends q (a .outcome)
 unfolding refusedByInput
 source-ends (input-refused t r) = r
 source-ends {q = q} (searched m x) = search-ends m q (searchModel m q .outcome) refl
@@ -70,7 +72,7 @@ pub every-plan-check-ends : (bytes plan : List ℕ) {t : ℕ} → check bytes pl
 every-plan-check-ends bytes plan e = check-numbers bytes plan e
 
 -- "Refusing a model or a setting changes no lent buffer"
-source-keeps-buffer : {bytes : List ℕ} {q : Settings} {l : Lent} {a : Answer ℕ} (buffer : List ℕ) {t : ℕ} → Source bytes q l a → a .outcome ≡ byInput t → bufferAfter a buffer ≡ buffer
+source-keeps-buffer : {bytes : List ℕ} {q : Settings} {l : Lent} {a : Answer Cost} (buffer : List ℕ) {t : ℕ} → Source bytes q l a → a .outcome ≡ byInput t → bufferAfter a buffer ≡ buffer
 unfolding refusedByInput bufferAfter searchModel
 source-keeps-buffer buffer (input-refused t r) e = refl
 source-keeps-buffer {q = q} buffer {t} (searched m x) e =
@@ -82,11 +84,11 @@ refusal-changes-no-buffer most bytes q l buffer e = source-keeps-buffer buffer (
 -- ---- demand 2
 
 -- "A sequence of at most 256 steps passes the plan check exactly if it is a plan by that definition, and with its cost"
-pub plan-check-exact : (bytes plan : List ℕ) (c : ℕ) → (check bytes plan ≡ value c) ↔ CheckedPlan bytes plan c
+pub plan-check-exact : (bytes plan : List ℕ) (c : Cost) → (check bytes plan ≡ value c) ↔ CheckedPlan bytes plan c
 plan-check-exact bytes plan c = check-exact bytes plan c
 
 -- the definition's count of expansions never passes the budget; that the code counts as the definition does is a field of its contract, `Searched`
-source-within-budget : {bytes : List ℕ} {q : Settings} {l : Lent} {a : Answer ℕ} → Source bytes q l a → a .tally .expansions ≤ q .budget
+source-within-budget : {bytes : List ℕ} {q : Settings} {l : Lent} {a : Answer Cost} → Source bytes q l a → a .tally .expansions ≤ q .budget
 unfolding refusedByInput searchModel
 source-within-budget {q = q} (input-refused t r) = omega arith
 source-within-budget {q = q} (searched m x) = expansions-within-budget (costsOf (m .rule)) (systemOf rangeEnd m) (originOf m) (q .budget) (limitOf (q .form) m) (firstWidth (q .beam)) (widerThan (q .beam))
@@ -113,16 +115,16 @@ search-steps-within m q =
 pub steps-never-pass-limit : (most : ℕ) (bytes : List ℕ) (q : Settings) (l : Lent) (m : Model) (n : ℕ) → model bytes ≡ read m n → length (run most bytes q l .steps) ≤ limitOf (q .form) m
 unfolding refusedByInput
 steps-never-pass-limit most bytes q l m n reads =
-    run-holds bytes q l m n reads (λ (a : Answer ℕ). length (a .steps) ≤ limitOf (q .form) m) (λ t. omega arith) (λ _. search-steps-within m q) most
+    run-holds bytes q l m n reads (λ (a : Answer Cost). length (a .steps) ≤ limitOf (q .form) m) (λ t. omega arith) (λ _. search-steps-within m q) most
 
 -- a length that is given bounds them whatever the bytes are
-source-within-given : {bytes : List ℕ} {q : Settings} {l : Lent} {a : Answer ℕ} (limit : ℕ) → q .form ≡ plain limit → Source bytes q l a → length (a .steps) ≤ limit
+source-within-given : {bytes : List ℕ} {q : Settings} {l : Lent} {a : Answer Cost} (limit : ℕ) → q .form ≡ plain limit → Source bytes q l a → length (a .steps) ≤ limit
 unfolding refusedByInput
 source-within-given limit f (input-refused t r) = omega arith
 source-within-given {q = q} limit f (searched m x) = subst (λ k. length (searchModel m q .steps) ≤ k) (ap (λ (g : Form). limitOf g m) f) (search-steps-within m q)
 
 -- nor do they outnumber the plan bytes lent
-source-fits-buffer : {bytes : List ℕ} {q : Settings} {l : Lent} {a : Answer ℕ} → Source bytes q l a → length (a .steps) ≤ l .planBytes
+source-fits-buffer : {bytes : List ℕ} {q : Settings} {l : Lent} {a : Answer Cost} → Source bytes q l a → length (a .steps) ≤ l .planBytes
 unfolding refusedByInput
 source-fits-buffer {l = l} (input-refused t r) = omega arith
 source-fits-buffer {q = q} {l = l} (searched m x) = omega (arith, plan-lent (widestOf (q .beam)) (limitOf (q .form) m) l (x .enough), search-steps-within m q)
@@ -131,7 +133,7 @@ pub steps-fit-buffer : (most : ℕ) (bytes : List ℕ) (q : Settings) (l : Lent)
 steps-fit-buffer most bytes q l = source-fits-buffer (run-source bytes q l most)
 
 -- what is handed back of the buffer afterwards is the plan
-pub plan-handed-back : (a : Answer ℕ) (buffer : List ℕ) → length (a .steps) ≤ length buffer → handedBack (length (a .steps)) (bufferAfter a buffer) ≡ a .steps
+pub plan-handed-back : (a : Answer Cost) (buffer : List ℕ) → length (a .steps) ≤ length buffer → handedBack (length (a .steps)) (bufferAfter a buffer) ≡ a .steps
 unfolding handedBack bufferAfter
 plan-handed-back a buffer h =
     let fits : length (a .steps) ≤ length (a .steps ++ drop (length (a .steps)) buffer) = omega (arith, length-append (a .steps) (drop (length (a .steps)) buffer)) in
@@ -139,7 +141,7 @@ plan-handed-back a buffer h =
 
 -- ---- the guarantee, from bytes
 
-abbrev GuaranteeOf : Model → Settings → Answer ℕ → Type 0
+abbrev GuaranteeOf : Model → Settings → Answer Cost → Type 0
 GuaranteeOf m q a = Guarantee (costsOf (m .rule)) (systemOf rangeEnd m) (originOf m) (widestOf (q .beam)) (limitOf (q .form) m) a
 
 no-verdict : {t : ℕ} {v : Verdict} {X : Type 0} → byInput t ≡ verdict v → X
@@ -173,36 +175,36 @@ module _ (most : ℕ) (bytes : List ℕ) (q : Settings) (l : Lent) (m : Model) (
   run-guarantee = run-holds bytes q l m n reads (GuaranteeOf m q) (refusal-guarantee m q) (λ x. search-model-guarantee m q (x .fit)) most
 
   -- nothing is spent before the target
-  nothing-spent : (c : ℕ) → costsOf (m .rule) .combine (originOf m .spent) c ≡ c
+  nothing-spent : (c : Cost) → costsOf (m .rule) .combine (originOf m .spent) c ≡ c
   unfolding costsOf originOf
   nothing-spent c = cost-laws (m .rule) .left-unit c
 
-  at-most : (a c : ℕ) → costsOf (m .rule) .atMost a (costsOf (m .rule) .combine (originOf m .spent) c) ≡ true → a ≤ c
+  at-most : (a c : Cost) → costsOf (m .rule) .atMost a (costsOf (m .rule) .combine (originOf m .spent) c) ≡ true → atMost a c ≡ true
   unfolding costsOf
-  at-most a c e = leb-true a c (rw (nothing-spent c) at e)
+  at-most a c e = rw (nothing-spent c) at e
 
   -- ---- demand 3
 
   -- "under every verdict a plan given is a plan of the model, at the cost stated"
-  pub a-plan-given-is-a-plan : run most bytes q l .flag ≡ true → PlanOf m (run most bytes q l .steps) (run most bytes q l .cost)
+  pub a-plan-given-is-a-plan : run most bytes q l .flag ≡ true → PlanAt m (run most bytes q l .steps) (run most bytes q l .cost)
   unfolding originOf
   a-plan-given-is-a-plan e =
       let (c, plan, same) = run-guarantee .plan-given e in
-      subst (λ x. PlanOf m (run most bytes q l .steps) x) (sym (same ∙ nothing-spent c)) plan
+      subst (λ x. PlanAt m (run most bytes q l .steps) x) (sym (same ∙ nothing-spent c)) plan
 
   -- "If the model's declared bounds and preferences are true, a plan marked cheapest costs no more than every other plan of the model, of every length"
   pub cheapest-costs-no-more : run most bytes q l .outcome ≡ verdict cheapest
-      → (run most bytes q l .flag ≡ true) × (DeclarationsTrue m → (p : List ℕ) (c : ℕ) → PlanOf m p c → run most bytes q l .cost ≤ c)
+      → (run most bytes q l .flag ≡ true) × (DeclarationsTrue m → (p : List ℕ) (c : Cost) → PlanAt m p c → atMost (run most bytes q l .cost) c ≡ true)
   unfolding originOf
   cheapest-costs-no-more e = (run-guarantee .cheapest-given e, λ t p c plan. at-most (run most bytes q l .cost) c (run-guarantee .cheapest-least e t p c plan))
 
   -- "'no plan' then means that none exists, of whatever length"
-  pub no-plan-means-none : run most bytes q l .outcome ≡ verdict noPlan → DeclarationsTrue m → (p : List ℕ) (c : ℕ) → PlanOf m p c → ⊥
+  pub no-plan-means-none : run most bytes q l .outcome ≡ verdict noPlan → DeclarationsTrue m → (p : List ℕ) (c : Cost) → PlanAt m p c → ⊥
   unfolding originOf
   no-plan-means-none e t p c plan = run-guarantee .no-plan e t p c plan
 
   -- "a stopped run's bound is then at most the cost of every plan"
-  pub stopped-bound-below-every-plan : Stopped (run most bytes q l .outcome) → DeclarationsTrue m → (p : List ℕ) (c : ℕ) → PlanOf m p c → run most bytes q l .bound ≤ c
+  pub stopped-bound-below-every-plan : Stopped (run most bytes q l .outcome) → DeclarationsTrue m → (p : List ℕ) (c : Cost) → PlanAt m p c → atMost (run most bytes q l .bound) c ≡ true
   unfolding originOf
   stopped-bound-below-every-plan s t p c plan = at-most (run most bytes q l .bound) c (run-guarantee .bound-below s t p c plan)
 
@@ -216,20 +218,22 @@ module _ (most : ℕ) (bytes : List ℕ) (q : Settings) (l : Lent) (m : Model) (
   pub no-stop-where-layers-fit : LayersFit m q → (run most bytes q l .outcome ≡ verdict widthStop → ⊥) × (run most bytes q l .outcome ≡ verdict lengthStop → ⊥)
   no-stop-where-layers-fit f = no-stop-where-fits (costsOf (m .rule)) (systemOf rangeEnd m) (originOf m) (widestOf (q .beam)) (limitOf (q .form) m) (run most bytes q l) run-guarantee f
 
-  -- all that is said of the model
-  run-marked : Marked m q (run most bytes q l)
+  -- all that is said of the model, in hours
+  run-marked : Marked m q (inHours (run most bytes q l))
+  unfolding inHours
   run-marked =
+      let answer = run most bytes q l in
       record {
         within-limit = steps-never-pass-limit most bytes q l m n reads;
-        plan-given = a-plan-given-is-a-plan;
+        plan-given = λ e. record { cost = answer .cost; plan = a-plan-given-is-a-plan e; in-hours = refl };
         cheapest-given = λ e. cheapest-costs-no-more e .0;
-        cheapest-least = λ e. cheapest-costs-no-more e .1;
-        no-plan = no-plan-means-none;
-        bound-below = stopped-bound-below-every-plan;
+        cheapest-least = λ e d p h x. omega (arith, at-most-hours (answer .cost) (x .cost) (cheapest-costs-no-more e .1 d p (x .cost) (x .plan)), x .in-hours);
+        no-plan = λ e d p h x. no-plan-means-none e d p (x .cost) (x .plan);
+        bound-below = λ s d p h x. omega (arith, at-most-hours (answer .bound) (x .cost) (stopped-bound-below-every-plan s d p (x .cost) (x .plan)), x .in-hours);
         declaration-false = contradicted-only-if-false;
         no-width-stop = λ f. no-stop-where-layers-fit f .0;
         no-length-stop = λ f. no-stop-where-layers-fit f .1;
-        trouble-there = λ t e. run-refusal-path most bytes q l m n reads e;
+        trouble-there = λ t e. record { cost = answer .cost; trouble = run-refusal-path most bytes q l m n reads e; in-hours = refl };
       }
 
 -- ---- document 02, §1: the target must meet the constraints too
@@ -239,20 +243,20 @@ abbrev pub targetAdmitted : Model → Value Bool
 targetAdmitted m = systemOf rangeEnd m .admits (target m)
 
 -- "Plans … henceforth need such a target": a model whose target breaks a constraint has none, whatever it declares
-pub no-plan-from-broken-target : (m : Model) → targetAdmitted m ≡ value false → (p : List ℕ) (c : ℕ) → PlanOf m p c → ⊥
+pub no-plan-from-broken-target : (m : Model) → targetAdmitted m ≡ value false → (p : List ℕ) (c : Cost) → PlanAt m p c → ⊥
 no-plan-from-broken-target m e p c plan = broken-has-no-plan (costsOf (m .rule)) (systemOf rangeEnd m) e plan
 
 -- of bytes, settings and lent buffers that pass every test before the search
 module _ (most : ℕ) (bytes : List ℕ) (q : Settings) (l : Lent) (m : Model) (few : length bytes ≤ most) (x : Accepted bytes q l m) where
   -- "If one fails, the verdict is 1 with no expansion, one round begun, width 1 and bound 0": the width of round 1
   pub broken-target-has-no-plan : targetAdmitted m ≡ value false
-      → run most bytes q l ≡ record { outcome = verdict noPlan; flag = false; cost = 0; bound = 0; steps = []; tally = record { expansions = 0; rounds = 1; width = firstWidth (q .beam) } }
+      → run most bytes q l ≡ record { outcome = verdict noPlan; flag = false; cost = free; bound = free; steps = []; tally = record { expansions = 0; rounds = 1; width = firstWidth (q .beam) } }
   unfolding searchModel originOf costsOf
   broken-target-has-no-plan e = run-accepted most bytes q l few x ∙ broken-start (costsOf (m .rule)) (systemOf rangeEnd m) (originOf m) (q .budget) (limitOf (q .form) m) (firstWidth (q .beam)) (widerThan (q .beam)) e
 
   -- trouble in one: a refusal by the state at the target, its fields the same but for the number
   pub target-trouble-refused : {t : ℕ} → targetAdmitted m ≡ trouble t
-      → run most bytes q l ≡ record { outcome = byState t; flag = false; cost = 0; bound = 0; steps = []; tally = record { expansions = 0; rounds = 1; width = firstWidth (q .beam) } }
+      → run most bytes q l ≡ record { outcome = byState t; flag = false; cost = free; bound = free; steps = []; tally = record { expansions = 0; rounds = 1; width = firstWidth (q .beam) } }
   unfolding searchModel originOf costsOf
   target-trouble-refused e = run-accepted most bytes q l few x ∙ troubled-start (costsOf (m .rule)) (systemOf rangeEnd m) (originOf m) (q .budget) (limitOf (q .form) m) (firstWidth (q .beam)) (widerThan (q .beam)) e
 
@@ -275,7 +279,7 @@ module _ (bytes plan : List ℕ) (m : Model) (n : ℕ) (reads : model bytes ≡ 
 
 -- ---- document 02, §2: a profile for pure loading orders
 
-source-loading-ends : {bytes : List ℕ} {q : Settings} {l : Lent} {a : Answer ℕ} → q .form ≡ loading → Source bytes q l a → a .outcome ≡ verdict lengthStop → ⊥
+source-loading-ends : {bytes : List ℕ} {q : Settings} {l : Lent} {a : Answer Cost} → q .form ≡ loading → Source bytes q l a → a .outcome ≡ verdict lengthStop → ⊥
 unfolding refusedByInput
 source-loading-ends f (input-refused t r) e = no-verdict e
 source-loading-ends {q = q} f (searched m x) e =
@@ -299,7 +303,7 @@ unfolding run runSet runRead settingsFit searchModel
 loading-is-plain most bytes q l m n reads p =
     let short : loadingLength m ≤ mostSteps = omega (arith, loading-length-within bytes reads p) in
     rw (le-leb 1 (loadingLength m) (loading-length-some m), le-leb (loadingLength m) mostSteps short, reads, p)
-    (ap (λ (a : Answer ℕ). cond (ltb most (length bytes)) (refusedByInput modelTooLong) (cond (not (beamFits (q .beam) && true)) (refusedByInput badSetting) (cond (not (listFits (q .beam))) (refusedByInput badWidths) a)))
+    (ap (λ (a : Answer Cost). cond (ltb most (length bytes)) (refusedByInput modelTooLong) (cond (not (beamFits (q .beam) && true)) (refusedByInput badSetting) (cond (not (listFits (q .beam))) (refusedByInput badWidths) a)))
     (asked-twice (not (lentFits (widestOf (q .beam)) (loadingLength m) l)) (refusedByInput tooLittleLent) (searchModel m (withForm q loading))))
 
 -- ---- document 02, §4: our own list of beam widths
@@ -343,7 +347,8 @@ module _ (bytes : List ℕ) (q : Settings) (l : Lent) (w : ℕ) (width : isWidth
 -- ---- all of them
 
 -- every demand, of every run
-pub run-meets-demands : (most : ℕ) (bytes : List ℕ) (q : Settings) (l : Lent) → Demands bytes q (run most bytes q l)
+pub run-meets-demands : (most : ℕ) (bytes : List ℕ) (q : Settings) (l : Lent) → Demands bytes q (inHours (run most bytes q l))
+unfolding inHours
 run-meets-demands most bytes q l =
     record {
       ends = every-run-ends most bytes q l;

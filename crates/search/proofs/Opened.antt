@@ -4,6 +4,7 @@ use mathlib.Core.List.{List, [], _∷_}
 use mathlib.Core.Bool.{Bool}
 use lib.ListN.{length}
 use lib.IntN.{ℤ}
+use Rattle.model.specs.declared.Cost.{Cost}
 use Rattle.model.specs.Numbers.{mostNesting, mostModelBytes}
 use Rattle.model.specs.Values.{Value}
 use Rattle.model.specs.Meaning.{numberValue}
@@ -23,6 +24,7 @@ use Rattle.model.specs.Readers.{_>>_ as _thenReaders_}
 use Rattle.model.specs.Expressions as ofExpressions
 use Rattle.model.specs.Commands as ofCommands
 use Rattle.model.specs.Meaning as ofMeaning
+use Rattle.model.specs.Costs as ofCosts
 use Rattle.model.specs.Steps as ofSteps
 use Rattle.model.specs.Check as ofCheck
 use Rattle.model.specs.Profile as ofProfile
@@ -50,10 +52,10 @@ pub data Told : Type 0 where
   checked : ℕ → ℕ → Told
   valued : Value ℤ → Told
 
-unfoldable pub told : Answer ℕ → List ℕ → Told
+unfoldable pub told : Answer Cost → List ℕ → Told
 told a buffer = answer (isRefusal (a .outcome)) (fields a) (bufferAfter a buffer)
 
-unfoldable pub toldCheck : Value ℕ → Told
+unfoldable pub toldCheck : Value Cost → Told
 toldCheck v = checked (answerNumber v) (answerCost v)
 
 unfoldable pub opened : Asked → Told
@@ -67,12 +69,12 @@ unfolding ofLists.any ofLists.filter ofLists.isEmpty ofHex.hex ofHex.zeros _bind
     ofExpressions.inTable ofExpressions.element ofExpressions.set ofExpressions.number ofCommands.ruleOf ofCommands.costRule ofCommands.preferenceOf
     ofCommands.setVariable ofCommands.elementVariable ofCommands.numberVariable ofCommands.variableOf ofCommands.variables ofCommands.entries
     ofCommands.sides ofCommands.tableOf ofCommands.tables ofCommands.conditions ofCommands.effectTarget ofCommands.expressionFor ofCommands.effectOn
-    ofCommands.transition ofCommands.nothingMore ofCommands.model ofMeaning.numberAt ofMeaning.naturalAt ofMeaning.elementValue ofMeaning.setValue
+    ofCommands.costs ofCommands.transition ofCommands.nothingMore ofCommands.model ofMeaning.numberAt ofMeaning.naturalAt ofMeaning.elementValue ofMeaning.setValue
     ofMeaning.equalZ ofMeaning.entryAt ofMeaning.sumOver ofMeaning.two ofMeaning.fit ofMeaning.expressionValue ofMeaning.allHold ofMeaning.someHolds
-    ofMeaning.numberValue ofSteps.target ofSteps.combine ofSteps.statusOf ofSteps.costOf ofSteps.noWorse ofSteps.noneWorse ofSteps.raise
-    ofSteps.admits ofSteps.status ofSteps.effects ofSteps.attempt ofSteps.constrained ofSteps.moveOf ofSteps.moveBy ofSteps.move ofSteps.greatest ofSteps.bound
-    ofSteps.systemOf ofSteps.costsOf ofSteps.originOf ofCheck.final ofCheck.afterMove ofCheck.afterStatus ofCheck.follow ofCheck.afterConstraints ofCheck.followFrom ofCheck.checkModel
-    ofCheck.check ofCheck.answerNumber ofCheck.answerCost ofProfile.ofOnly ofProfile.isVariableZero ofProfile.objectBeside ofProfile.requiredObject ofProfile.removedBy
+    ofMeaning.numberValue ofCosts.atMost ofCosts.join ofCosts.joinMoves ofCosts.combine ofCosts.costsOf ofSteps.target ofSteps.statusOf ofSteps.costOf ofSteps.noWorse ofSteps.noneWorse ofSteps.raise
+    ofSteps.admits ofSteps.status ofSteps.effects ofSteps.stepCost ofSteps.attempt ofSteps.constrained ofSteps.moveOf ofSteps.moveBy ofSteps.move ofSteps.greatest ofSteps.boundHours ofSteps.bound
+    ofSteps.systemOf ofSteps.originOf ofCheck.final ofCheck.afterMove ofCheck.afterStatus ofCheck.follow ofCheck.afterConstraints ofCheck.followFrom ofCheck.checkModel
+    ofCheck.check ofCheck.answerNumber ofCheck.costGiven ofCheck.answerCost ofProfile.ofOnly ofProfile.isVariableZero ofProfile.objectBeside ofProfile.requiredObject ofProfile.removedBy
     ofProfile.removedObject ofProfile.sameObject ofProfile.loads ofProfile.beginsWithSet ofProfile.asksForEmpty ofProfile.endsEmpty ofProfile.inProfile ofProfile.loadingLength ofAnswer.verdictNumber ofAnswer.outcomeNumber ofAnswer.isRefusal ofAnswer.bufferAfter
     ofAnswer.handedBack ofSearch.andThen ofSearch.less ofSearch.belowBest ofSearch.before ofSearch.place ofSearch.beats ofSearch.cut ofSearch.insert
     ofSearch.offer ofSearch.refuse ofSearch.routeTo ofSearch.routeOver ofSearch.child ofSearch.bounded ofSearch.tried ofSearch.expand ofSearch.counted

@@ -5,12 +5,14 @@ use mathlib.Core.Path.{_≡_, refl}
 use mathlib.Core.Bool.{true}
 use mathlib.Core.List.{List}
 use native.Mathlib.Omega.{arith}
+use Rattle.model.specs.declared.Cost.{Cost}
 use Rattle.model.specs.Numbers.{rangeEnd}
 use Rattle.model.specs.System.{Costs, CostLaws, System, Origin}
 use Rattle.model.specs.Readers.{read}
 use Rattle.model.specs.Syntax.{Model}
 use Rattle.model.specs.Commands.{model}
-use Rattle.model.specs.Steps.{costsOf, systemOf, originOf}
+use Rattle.model.specs.Costs.{costsOf}
+use Rattle.model.specs.Steps.{systemOf, originOf}
 use Rattle.model.proofs.Costs.{cost-laws}
 use Rattle.model.proofs.Dominance.{dominates-self}
 use Rattle.search.specs.Answer.{byState, Answer}
@@ -43,7 +45,7 @@ refusal-path K L M self o budget limit width wider {t} =
 
 -- ---- from bytes
 
-input-path : {S : Type 0} (K : Costs ℕ) (M : System S ℕ) (o : Origin S ℕ) (t : ℕ) → PathToTrouble K M o (refusedByInput t)
+input-path : {S : Type 0} (K : Costs Cost) (M : System S Cost) (o : Origin S Cost) (t : ℕ) → PathToTrouble K M o (refusedByInput t)
 unfolding refusedByInput
 input-path K M o t u e = let z : _≡_ {A = ℕ} 0 1 = cc in absurd (omega arith)
 

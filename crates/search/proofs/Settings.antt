@@ -2,7 +2,7 @@
 -- of them and at most 4,096, and the length limit, given or chosen, is 1 to 256. The built-in widths are a rising list.
 use Prim.Native.Nat.{ℕ, zero, suc, _≤_, _<_}
 use mathlib.Core.Path.{_≡_, refl, subst}
-use mathlib.Core.Bool.{Bool, true, false, _&&_, false≢true}
+use mathlib.Core.Bool.{true, _&&_, false≢true}
 use mathlib.Core.List.{List, [], _∷_}
 use native.Mathlib.Omega.{arith}
 use lib.ListN.{length, getD}
@@ -137,12 +137,3 @@ module _ (q : Settings) (fit : settingsFit q ≡ true) where
   pub form-fits : formFits (q .form) ≡ true
   unfolding settingsFit
   form-fits = and-both (beamFits (q .beam)) (formFits (q .form)) fit .1
-
--- no length is given in the loading profile, so the beam alone decides
-pub loading-fits : (b : Beam) (budget : ℕ) → settingsFit (record { beam = b; form = loading; budget = budget }) ≡ beamFits b
-unfolding settingsFit
-loading-fits b budget = and-true (beamFits b)
-  where
-    and-true : (t : Bool) → (t && true) ≡ t
-    and-true true = refl
-    and-true false = refl

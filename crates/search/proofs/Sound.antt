@@ -13,7 +13,10 @@ use Rattle.laws.proofs.Bools.{not-both, or-either}
 use Rattle.laws.proofs.Lists.{Some, here, some-none, is-empty}
 use Rattle.model.specs.Values.{value}
 use Rattle.model.specs.System.{Costs, CostLaws, System, Origin}
+use Rattle.model.specs.Syntax.{Rule}
+use Rattle.model.specs.Costs.{hoursOf}
 use Rattle.model.specs.Plans.{first, PlanFrom, arrived}
+use Rattle.model.proofs.Costs.{hours-laws}
 use Rattle.model.proofs.Reach.{here as reach-here}
 use Rattle.model.proofs.PlanCheck.{broken-has-no-plan}
 use Rattle.search.specs.Answer.{Verdict, cheapest, noPlan, widthStop, lengthStop, contradicted, verdict, byState, Answer}
@@ -215,6 +218,11 @@ module _ {S C : Type 0} (K : Costs C) (L : CostLaws K) (M : System S C) (self : 
       let W : ℕ = widest width wider in
       search-holds K M (Supported K M o limit) (Justified K M o limit W) o budget limit W (run-kept K L M self o budget limit W) (λ a. length (a .steps) ≤ limit)
       (λ k w s one j. answer-within K M o limit W k w (s .ending) (s .progress) (j .supported) (j .claim)) width wider refl
+
+-- hours alone are an instance
+pub hours-guarantee : {S : Type 0} (rule : Rule) (M : System S ℕ) → ((s : S) → M .dominates s s ≡ true) → (o : Origin S ℕ) (budget limit width : ℕ) (wider : List ℕ)
+    → Guarantee (hoursOf rule) M o (widest width wider) limit (search (hoursOf rule) M budget limit width wider o)
+hours-guarantee rule M self o budget limit width wider = search-guarantee (hoursOf rule) (hours-laws rule) M self o budget limit width wider
 
 -- neither stop where every layer fits and nothing unfinished lies at the limit
 pub no-stop-where-fits : {S C : Type 0} (K : Costs C) (M : System S C) (o : Origin S C) (W limit : ℕ) (a : Answer C) → Guarantee K M o W limit a → Fits K M o W limit → (a .outcome ≡ verdict widthStop → ⊥) × (a .outcome ≡ verdict lengthStop → ⊥)

@@ -9,6 +9,7 @@ use lib.ListN.{length}
 use lib.Dec.{ltb}
 use borrow.Author.Tests.{lt-ltb, le-ltb}
 use Rattle.laws.proofs.Bools.{by-cond, not-false, not-true}
+use Rattle.model.specs.declared.Cost.{Cost}
 use Rattle.model.specs.Numbers.{modelTooLong, badSetting, tooLittleLent, outsideProfile, badWidths}
 use Rattle.model.specs.Readers.{Read, read, refused}
 use Rattle.model.specs.Syntax.{Model}
@@ -29,7 +30,7 @@ pub record Accepted (bytes : List ℕ) (q : Settings) (l : Lent) (m : Model) : T
   pub enough : lentFits (widestOf (q .beam)) (limitOf (q .form) m) l ≡ true
 
 -- a run is refused by the input, with no other field, or it is the search of the model
-pub data Source (bytes : List ℕ) (q : Settings) (l : Lent) : Answer ℕ → Type 0 where
+pub data Source (bytes : List ℕ) (q : Settings) (l : Lent) : Answer Cost → Type 0 where
   input-refused : (t : ℕ) → Ends q (byInput t) → Source bytes q l (refusedByInput t)
   searched : (m : Model) → Accepted bytes q l m → Source bytes q l (searchModel m q)
 
@@ -63,8 +64,8 @@ module _ (bytes : List ℕ) (q : Settings) (l : Lent) where
 
 -- of bytes that are read as m: what holds of every refusal and, where it is accepted, of the search of m, holds of the run
 module _ (bytes : List ℕ) (q : Settings) (l : Lent) (m : Model) (n : ℕ) (reads : model bytes ≡ read m n)
-    (P : Answer ℕ → Type 0) (of-refusal : (t : ℕ) → P (refusedByInput t)) (of-search : Accepted bytes q l m → P (searchModel m q)) where
-  by-source : {a : Answer ℕ} → Source bytes q l a → P a
+    (P : Answer Cost → Type 0) (of-refusal : (t : ℕ) → P (refusedByInput t)) (of-search : Accepted bytes q l m → P (searchModel m q)) where
+  by-source : {a : Answer Cost} → Source bytes q l a → P a
   by-source (input-refused t r) = of-refusal t
   by-source (searched d x) =
       let same : m ≡ d = cc (x .reads) in

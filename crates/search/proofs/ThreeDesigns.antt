@@ -11,7 +11,8 @@ use Rattle.model.specs.Readers.{Read, read, refused}
 use Rattle.model.specs.Syntax.{Model, sum}
 use Rattle.model.specs.Commands.{model}
 use Rattle.model.specs.Plans.{Overfull, TrueDeclarations}
-use Rattle.model.specs.Steps.{target, prefersNothing, declaresNothing, isPreferred, costsOf, systemOf, originOf}
+use Rattle.model.specs.Costs.{free, costsOf}
+use Rattle.model.specs.Steps.{target, prefersNothing, declaresNothing, isPreferred, systemOf, originOf}
 use Rattle.model.proofs.Costs.{cost-laws}
 use Rattle.model.proofs.Dominance.{dominates-self}
 use Rattle.model.proofs.Declared.{bounds-alone, nothing-declared-is-true}
@@ -73,7 +74,7 @@ read-twice = refl
 -- of the widths 8 is the first that fits: layer 2 has six different states
 pub three-designs-fit : Describe threeDesigns (λ m. Fits (costsOf (m .rule)) (systemOf rangeEnd m) (originOf m) 8 3)
 unfolding originOf
-three-designs-fit = let m : Model = modelIn threeDesigns in (m, 180, read-three, listed-fit (systemOf rangeEnd m) (target m) (costsOf (m .rule)) 0 8 3 fits-eight)
+three-designs-fit = let m : Model = modelIn threeDesigns in (m, 180, read-three, listed-fit (systemOf rangeEnd m) (target m) (costsOf (m .rule)) free 8 3 fits-eight)
 
 pub three-designs-overfull : Describe threeDesigns (λ m. Overfull (systemOf rangeEnd m) (target m) 4 3)
 three-designs-overfull = let m : Model = modelIn threeDesigns in (m, 180, read-three, listed-overfull (systemOf rangeEnd m) (target m) (dominates-self rangeEnd m) 4 3 2 (omega arith) over-four)

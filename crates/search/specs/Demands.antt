@@ -9,7 +9,9 @@ use Rattle.model.specs.Plans.{PlanFrom, TrueDeclarations}
 use Rattle.model.specs.Readers.{read}
 use Rattle.model.specs.Syntax.{Model}
 use Rattle.model.specs.Commands.{model}
-use Rattle.model.specs.Steps.{target, costsOf, systemOf, originOf}
+use Rattle.model.specs.Costs.{costsOf}
+use Rattle.model.specs.Steps.{target, systemOf, originOf}
+use Rattle.model.specs.declared.Cost.{Cost}
 use Rattle.search.specs.Answer.{Verdict, cheapest, noPlan, widthStop, lengthStop, budgetSpent, contradicted, Outcome, verdict, byState, byInput, Answer}
 use Rattle.search.specs.Guarantee.{Stopped, TroubleAt, Fits}
 use Rattle.search.specs.Run.{listed, plain, loading, Settings, rising, widestOf, limitOf}
@@ -24,8 +26,20 @@ pub data Ends (q : Settings) : Outcome → Type 0 where
   bad-widths : (ws : List ℕ) → q .beam ≡ listed ws → rising ws ≡ false → Ends q (byInput badWidths)
 
 -- a plan of the model, from its target, which meets the constraints, at this cost
-abbrev pub PlanOf : Model → List ℕ → (cost : ℕ) → Type 0
-PlanOf m p c = PlanFrom (costsOf (m .rule)) (systemOf rangeEnd m) (target m) p c
+abbrev pub PlanAt : Model → List ℕ → Cost → Type 0
+PlanAt m p c = PlanFrom (costsOf (m .rule)) (systemOf rangeEnd m) (target m) p c
+
+-- a plan of the model that takes this many hours
+pub record PlanOf (m : Model) (p : List ℕ) (hours : ℕ) : Type 0 where
+  pub cost : Cost
+  pub plan : PlanAt m p cost
+  pub in-hours : cost .high ≡ hours
+
+-- trouble t at the state that the steps lead to, in this many hours
+pub record TroubleOf (m : Model) (t : ℕ) (steps : List ℕ) (hours : ℕ) : Type 0 where
+  pub cost : Cost
+  pub trouble : TroubleAt (costsOf (m .rule)) (systemOf rangeEnd m) (originOf m) t steps cost
+  pub in-hours : cost .high ≡ hours
 
 -- "the model's declared bounds and preferences are true"
 abbrev pub DeclarationsTrue : Model → Type 0
@@ -36,7 +50,8 @@ DeclarationsTrue m = TrueDeclarations (costsOf (m .rule)) (systemOf rangeEnd m) 
 abbrev pub LayersFit : Model → Settings → Type 0
 LayersFit m q = Fits (costsOf (m .rule)) (systemOf rangeEnd m) (originOf m) (widestOf (q .beam)) (limitOf (q .form) m)
 
--- what the answer to a run of the model m says of that model: demand 3, the length limit, and the path at a refusal by the state
+-- what the answer to a run of the model m, its costs in hours, says of that model: demand 3, the length limit, and the path at a refusal
+-- by the state
 pub record Marked (m : Model) (q : Settings) (a : Answer ℕ) : Type 0 where
   -- the steps never outnumber the length limit, given or chosen
   pub within-limit : length (a .steps) ≤ limitOf (q .form) m
@@ -55,7 +70,7 @@ pub record Marked (m : Model) (q : Settings) (a : Answer ℕ) : Type 0 where
   pub no-width-stop : LayersFit m q → a .outcome ≡ verdict widthStop → ⊥
   pub no-length-stop : LayersFit m q → a .outcome ≡ verdict lengthStop → ⊥
   -- "the plan buffer, length and cost give the path to the state evaluated"
-  pub trouble-there : (t : ℕ) → a .outcome ≡ byState t → TroubleAt (costsOf (m .rule)) (systemOf rangeEnd m) (originOf m) t (a .steps) (a .cost)
+  pub trouble-there : (t : ℕ) → a .outcome ≡ byState t → TroubleOf m t (a .steps) (a .cost)
 
 -- the demands on the answer to a run of these bytes with these settings
 pub record Demands (bytes : List ℕ) (q : Settings) (a : Answer ℕ) : Type 0 where

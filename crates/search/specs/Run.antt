@@ -10,7 +10,9 @@ use Rattle.model.specs.Numbers.{modelTooLong, badSetting, tooLittleLent, outsid
 use Rattle.model.specs.Readers.{Read, read, refused}
 use Rattle.model.specs.Syntax.{Model}
 use Rattle.model.specs.Commands.{model}
-use Rattle.model.specs.Steps.{costsOf, systemOf, originOf}
+use Rattle.model.specs.Costs.{free, costsOf}
+use Rattle.model.specs.Steps.{systemOf, originOf}
+use Rattle.model.specs.declared.Cost.{Cost}
 use Rattle.model.specs.Profile.{inProfile, loadingLength}
 use Rattle.search.specs.Answer.{byInput, Answer, outcomeNumber}
 use Rattle.search.specs.Search.{search}
@@ -113,15 +115,15 @@ accepts (plain limit) m = true
 accepts loading m = inProfile m
 
 -- "All other answer fields 0"
-unfoldable pub refusedByInput : ℕ → Answer ℕ
-refusedByInput t = record { outcome = byInput t; flag = false; cost = 0; bound = 0; steps = []; tally = record { expansions = 0; rounds = 0; width = 0 } }
+unfoldable pub refusedByInput : ℕ → Answer Cost
+refusedByInput t = record { outcome = byInput t; flag = false; cost = free; bound = free; steps = []; tally = record { expansions = 0; rounds = 0; width = 0 } }
 
-unfoldable pub searchModel : Model → Settings → Answer ℕ
+unfoldable pub searchModel : Model → Settings → Answer Cost
 searchModel m q = search (costsOf (m .rule)) (systemOf rangeEnd m) (q .budget) (limitOf (q .form) m) (firstWidth (q .beam)) (widerThan (q .beam)) (originOf m)
 
 -- "15, model outside the profile, … comes after a complete reading and before the search; 3 is tested right after it here"; where the
 -- length is given, 3 has been passed already
-unfoldable pub runRead : Read Model → Settings → Lent → Answer ℕ
+unfoldable pub runRead : Read Model → Settings → Lent → Answer Cost
 runRead (read m n) q l =
     cond (not (accepts (q .form) m)) (refusedByInput outsideProfile)
     (cond (not (lentFits (widestOf (q .beam)) (limitOf (q .form) m) l)) (refusedByInput tooLittleLent)
@@ -129,19 +131,23 @@ runRead (read m n) q l =
 runRead (refused t) q l = refusedByInput t
 
 -- behind the settings: what is lent, then the reading
-unfoldable pub runSet : (bytes : List ℕ) → Settings → Lent → Answer ℕ
+unfoldable pub runSet : (bytes : List ℕ) → Settings → Lent → Answer Cost
 runSet bytes q l = cond (not (lentBefore (q .form) (widestOf (q .beam)) l)) (refusedByInput tooLittleLent) (runRead (model bytes) q l)
 
 -- most: the bytes that a model may have, 65,536, or 16,384 for the program. 16 "comes right after 2"
-unfoldable pub run : (most : ℕ) (bytes : List ℕ) → Settings → Lent → Answer ℕ
+unfoldable pub run : (most : ℕ) (bytes : List ℕ) → Settings → Lent → Answer Cost
 run most bytes q l =
     cond (ltb most (length bytes)) (refusedByInput modelTooLong)
     (cond (not (settingsFit q)) (refusedByInput badSetting)
     (cond (not (listFits (q .beam))) (refusedByInput badWidths)
     (runSet bytes q l)))
 
--- the answer's fields in document 01's order, as the program's line has them in front of the colon
-unfoldable pub fields : Answer ℕ → List ℕ
+-- the answer as its reader has it: costs by their hours
+unfoldable pub inHours : Answer Cost → Answer ℕ
+inHours a = record { outcome = a .outcome; flag = a .flag; cost = a .cost .high; bound = a .bound .high; steps = a .steps; tally = a .tally }
+
+-- its fields in document 01's order, as the program's line has them in front of the colon
+unfoldable pub fields : Answer Cost → List ℕ
 fields a =
-    outcomeNumber (a .outcome) ∷ cond (a .flag) 1 0 ∷ a .cost ∷ a .bound ∷ length (a .steps)
+    outcomeNumber (a .outcome) ∷ cond (a .flag) 1 0 ∷ a .cost .high ∷ a .bound .high ∷ length (a .steps)
     ∷ a .tally .expansions ∷ a .tally .rounds ∷ a .tally .width ∷ []

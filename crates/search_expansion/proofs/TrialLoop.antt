@@ -8,6 +8,7 @@ use native.Mathlib.Numerals.{add-one}
 use lib.ListN.{length}
 use Rattle.model.specs.System.{blocked}
 use Rattle.model.specs.Meaning.{State}
+use Rattle.model.specs.declared.Cost.{Cost}
 use Rattle.search.specs.Search as definition
 use Rattle.search.specs.Search.{Node, Round, Result, andThen}
 use Rattle.steps.specs.InBytes.{stateIn, systemIn}
@@ -21,17 +22,17 @@ use Rattle.search_expansion.specs.Expansion.{BestIs, Numbered, trialResu
 use Rattle.search_expansion.proofs.TrialSteps.{triedBy, left-alone}
 
 -- a round with other nodes twice, and marked if one of the two was cut
-round-twice : (a b : List (Node State ℕ)) (c d : Bool) (r : Round State ℕ) → roundWith b d (roundWith a c r) ≡ roundWith b (c || d) r
+round-twice : (a b : List (Node State Cost)) (c d : Bool) (r : Round State Cost) → roundWith b d (roundWith a c r) ≡ roundWith b (c || d) r
 unfolding roundWith
 round-twice a b c d r = rw (or-assoc (r .widthMark) c d)
 
 module _ (bytes outline : List ℕ) (n : ℕ) (p : Parent) (state layer : List ℕ) where
   -- the definition from transition t on
-  abbrev from : (t : ℕ) → Node State ℕ → Round State ℕ → Result (Round State ℕ) ℕ
+  abbrev from : (t : ℕ) → Node State Cost → Round State Cost → Result (Round State Cost) Cost
   from t m q = definition.expand (costsIn bytes) (systemIn bytes) (p .width) (systemIn bytes .transitions - t) t m q
 
   -- the definition's rule for all of them
-  abbrev pub expandBy : Node State ℕ → Round State ℕ → Result (Round State ℕ) ℕ
+  abbrev pub expandBy : Node State Cost → Round State Cost → Result (Round State Cost) Cost
   expandBy m q = definition.expand (costsIn bytes) (systemIn bytes) (p .width) (systemIn bytes .transitions) 0 m q
 
   -- the first t are tried
@@ -39,7 +40,7 @@ module _ (bytes outline : List ℕ) (n : ℕ) (p : Parent) (state layer : List �
     pub long : length layer′ ≡ length layer
     pub within : t ≤ systemIn bytes .transitions
     pub held : Indexed outline (p .width) count layer′
-    pub left : (path : ℕ → List ℕ) (h₀ f₀ : ℕ) (r : Round State ℕ) → r .kept ≡ nodesOf (p .width) layer bytes path n → BestIs (p .best) (r .progress .best)
+    pub left : (path : ℕ → List ℕ) (h₀ f₀ : Cost) (r : Round State Cost) → r .kept ≡ nodesOf (p .width) layer bytes path n → BestIs (p .best) (r .progress .best)
         → expandBy (parentOf bytes path state p h₀ f₀) r
         ≡ from t (parentOf bytes path state p h₀ f₀) (roundWith (nodesOf (p .width) layer′ bytes path count) cut r)
 
@@ -65,17 +66,17 @@ module _ (bytes outline : List ℕ) (n : ℕ) (p : Parent) (state layer : List �
     }
 
     module _ {layer″ : List ℕ} {x : Expanded} {marked : Bool} (h : t < systemIn bytes .transitions) (grown : Grows bytes outline count p state layer′ layer″ x (triedBy bytes (p .width) t)) (joined : marked ≡ (cut || x .cut)) where
-      abbrev nodes′ : (ℕ → List ℕ) → List (Node State ℕ)
+      abbrev nodes′ : (ℕ → List ℕ) → List (Node State Cost)
       nodes′ path = nodesOf (p .width) layer′ bytes path count
 
-      tried : (path : ℕ → List ℕ) (h₀ f₀ : ℕ) (r : Round State ℕ) → BestIs (p .best) (r .progress .best)
+      tried : (path : ℕ → List ℕ) (h₀ f₀ : Cost) (r : Round State Cost) → BestIs (p .best) (r .progress .best)
           → triedBy bytes (p .width) t (parentOf bytes path state p h₀ f₀) (roundWith (nodes′ path) cut r)
           ≡ trialResult (x .trial) (parentOf bytes path state p h₀ f₀) (roundWith (nodesOf (p .width) layer″ bytes path (x .count)) (x .cut) (roundWith (nodes′ path) cut r))
       unfolding roundWith
       tried path h₀ f₀ r b = grown .same path h₀ f₀ (roundWith (nodes′ path) cut r) refl b
 
       -- transition t, then those behind it
-      next : (path : ℕ → List ℕ) (h₀ f₀ : ℕ) (r : Round State ℕ) → r .kept ≡ nodesOf (p .width) layer bytes path n → BestIs (p .best) (r .progress .best)
+      next : (path : ℕ → List ℕ) (h₀ f₀ : Cost) (r : Round State Cost) → r .kept ≡ nodesOf (p .width) layer bytes path n → BestIs (p .best) (r .progress .best)
           → expandBy (parentOf bytes path state p h₀ f₀) r
           ≡ andThen (trialResult (x .trial) (parentOf bytes path state p h₀ f₀) (roundWith (nodesOf (p .width) layer″ bytes path (x .count)) marked r)) (λ q. from (t + 1) (parentOf bytes path state p h₀ f₀) q)
       unfolding definition.expand
@@ -92,7 +93,7 @@ module _ (bytes outline : List ℕ) (n : ℕ) (p : Parent) (state layer : List �
       unfolding trialResult andThen
       expanded-before e = record { held = grown .held; numbered = tt; same = λ path h₀ f₀ r k b. rw e at (next path h₀ f₀ r k b) }
 
-      pub expanded-at : {e c u : ℕ} → x .trial ≡ T.At e c u → Grows bytes outline n p state layer layer″ (record { count = x .count; cut = marked; trial = T.At e c u }) expandBy
+      pub expanded-at : {e u : ℕ} {c : Cost} → x .trial ≡ T.At e c u → Grows bytes outline n p state layer layer″ (record { count = x .count; cut = marked; trial = T.At e c u }) expandBy
       unfolding trialResult andThen
       expanded-at e = record { held = grown .held; numbered = subst Numbered e (grown .numbered); same = λ path h₀ f₀ r k b. rw e at (next path h₀ f₀ r k b) }
 

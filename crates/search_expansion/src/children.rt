@@ -17,11 +17,11 @@ use crate::trials::Parent;
 use crate::trials::Trial;
 use beam::layer::Inserted;
 use beam::layer::insert;
-use beam_order::slots::BACK_AT;
-use beam_order::slots::F_AT;
-use beam_order::slots::G_AT;
-use beam_order::slots::H_AT;
 use beam_order::slots::HEADER_WORDS;
+use beam_order::slots::f_in;
+use costs::hours;
+use costs::less;
+use model::Cost;
 use outline::layout::PREPARED_WORDS;
 use outline::layout::STATE_WORDS;
 use quick::sums::SUM_WORDS;
@@ -35,10 +35,13 @@ use steps::moves::step;
 use steps::moves::transitions;
 
 // Whether f is below the best cost.
-pub fn below_best(best: Best, f: u64) -> bool
+pub fn below_best(best: Best, f: Cost) -> bool
     ensures { λ r. ⌜ r ≡ belowCost best f ⌝ }
 {
-    if best.found { f < best.cost } else { true }
+    if best.found {
+        return less(f, best.cost);
+    }
+    true
 }
 
 // Rule 4: offers a child to the layer in the making, if its f is below the best.
@@ -55,7 +58,8 @@ fn offer(
     ensures { λ r. ⌜ Offered (now (model .entry)) (now (outline .entry)) n parent (now (header .entry) ++ now (state .entry)) (now (layer .entry)) (now (layer .exit)) r ⌝ }
 {
     let best = parent.best;
-    if below_best(best, header[F_AT]) {
+    let f = f_in(header, 0);
+    if below_best(best, f) {
         return insert(layer, model, outline, parent.width, n, header, state);
     }
     Inserted {
@@ -82,11 +86,9 @@ fn bounded(
     let g = combine(model, outline, parent.g, arrival.cost);
     match bound(model, outline, state, sums) {
         BoundAnswer::Value(h) => {
-            let mut header = [0u64; HEADER_WORDS];
-            header[G_AT] = g;
-            header[H_AT] = h;
-            header[F_AT] = combine(model, outline, g, h);
-            header[BACK_AT] = (parent.slot * 256 + t) as u64;
+            let f = combine(model, outline, g, hours(h));
+            let back = (parent.slot * 256 + t) as u64;
+            let header = [g.high, g.low, g.moves, h, f.high, f.moves, back];
             let x = offer(layer, model, outline, n, parent, &header, state);
             Expanded {
                 count: x.count,

@@ -7,9 +7,11 @@ use lib.ListN.{length, getD}
 use Rattle.model.specs.Numbers.{rangeEnd, mostSteps}
 use Rattle.model.specs.System.{Origin}
 use Rattle.model.specs.Meaning.{State}
+use Rattle.model.specs.declared.Cost.{Cost}
+use Rattle.model.specs.Costs.{CostUpTo}
 use Rattle.search.specs.Search.{Node}
 use Rattle.search.specs.Search as S
-use Rattle.beam_order.specs.Slots.{gAt, backAt, slotWords, nextAt, nextOrderAt, nextEnd, backsAt, wordsIn}
+use Rattle.beam_order.specs.Slots.{gOf, backAt, slotWords, nextAt, nextOrderAt, nextEnd, backsAt, wordsIn}
 use Rattle.steps.specs.InBytes.{systemIn}
 use Rattle.steps.specs.Follow.{costsIn}
 use Rattle.beam.specs.Nodes.{nodeAt}
@@ -36,28 +38,29 @@ abbrev pub nextOf : (w : ℕ) (words : List ℕ) → List ℕ
 nextOf w words = part (nextAt * w) (nextEnd * w) words
 
 -- n nodes from slot i on
-unfoldable pub nodesFrom : (bytes : List ℕ) (path : ℕ → List ℕ) (words : List ℕ) (n i : ℕ) → List (Node State ℕ)
+unfoldable pub nodesFrom : (bytes : List ℕ) (path : ℕ → List ℕ) (words : List ℕ) (n i : ℕ) → List (Node State Cost)
 nodesFrom bytes path words zero i = []
 nodesFrom bytes path words (suc n) i = nodeAt bytes path i (wordsIn words i) ∷ nodesFrom bytes path words n (suc i)
 
 -- the n nodes of the current layer, which is layer k
-abbrev pub currentOf : (bytes words : List ℕ) (w k n : ℕ) → List (Node State ℕ)
+abbrev pub currentOf : (bytes words : List ℕ) (w k n : ℕ) → List (Node State Cost)
 currentOf bytes words w k n = nodesFrom bytes (pathBy words w k) words n 0
 
 -- the node that a round starts with, by its words: its path is empty
-abbrev pub rootOf : (bytes root : List ℕ) → Node State ℕ
+abbrev pub rootOf : (bytes root : List ℕ) → Node State Cost
 rootOf bytes root = nodeAt bytes (λ i. []) 0 root
 
 -- it is the definition's root of this origin, h being its bound
-pub record RootIs (bytes root : List ℕ) (o : Origin State ℕ) (h : ℕ) : Type 0 where
+pub record RootIs (bytes root : List ℕ) (o : Origin State Cost) (h : Cost) : Type 0 where
   pub node : rootOf bytes root ≡ S.root (costsIn bytes) (systemIn bytes) o h
 
--- the steps made before it and the steps to the limit are no more than a plan may have, and its g is what the steps before may have cost
+-- the steps made before it and the steps to the limit are no more than a plan may have, and each part of its g is what the steps before may
+-- have cost
 pub record RootFits (root : List ℕ) (limit : ℕ) : Type 0 where
   pub long : length root ≡ slotWords
   pub before : ℕ
   pub few-steps : before + limit ≤ mostSteps
-  pub cost : getD root gAt 0 ≤ before * rangeEnd
+  pub cost : CostUpTo (before * rangeEnd) (gOf root)
 
 -- what a round of width w needs to start: the root's words, and room
 pub record Startable (root words : List ℕ) (w : ℕ) : Type 0 where

@@ -6,6 +6,8 @@ use mathlib.Core.List.{List, [], _∷_, _++_, reverse, reverse-cons, reverse-rev
 use native.Mathlib.Omega.{arith}
 use lib.ListN.{length, take, drop, getD, set, length-reverse}
 use lib.Seq.{drop-cons, set-at, length-take-le, append-snoc}
+use Rattle.model.specs.declared.Cost.{Cost}
+use Rattle.model.specs.Costs.{free}
 use Rattle.search.specs.Answer as A
 use Rattle.search.specs.Answer.{verdict, bufferAfter}
 use Rattle.search.specs.Search.{boundAt, bestCost, bestSteps, hasPlan, tallyOf, answerOf}
@@ -50,20 +52,20 @@ module _ (v : Verdict) (p : Progress) where
   unfolding verdictOf boundAt progressOf bestOf bestCost
   bound-cost e f = record { same = λ bytes best. rw (e, f) }
 
-  pub bound-without : v ≡ W.Cheapest → p .best .found ≡ false → BoundIs v p 0
-  unfolding verdictOf boundAt progressOf bestOf bestCost Rattle.model.specs.Steps.costsOf
+  pub bound-without : v ≡ W.Cheapest → p .best .found ≡ false → BoundIs v p free
+  unfolding verdictOf boundAt progressOf bestOf bestCost Rattle.model.specs.Costs.costsOf
   bound-without e f = record { same = λ bytes best. rw (e, f) }
 
 -- ---- the answer
 
-pub answer-same : {a b : A.Answer ℕ} (x : Answer) → a ≡ b → AnswerIs b x → AnswerIs a x
-answer-same x e h = subst (λ (a : A.Answer ℕ). AnswerIs a x) (sym e) h
+pub answer-same : {a b : A.Answer Cost} (x : Answer) → a ≡ b → AnswerIs b x → AnswerIs a x
+answer-same x e h = subst (λ (a : A.Answer Cost). AnswerIs a x) (sym e) h
 
-module _ (best plan plan′ : List ℕ) (v : Verdict) (stop : Stop) (h : ℕ) (b : BoundIs v (stop .progress) h) where
+module _ (best plan plan′ : List ℕ) (v : Verdict) (stop : Stop) (h : Cost) (b : BoundIs v (stop .progress) h) where
   abbrev n : ℕ
   n = stop .progress .best .length
 
-  abbrev fieldsWith : (bytes : List ℕ) (flag : Bool) (cost : ℕ) (steps : List ℕ) → A.Answer ℕ
+  abbrev fieldsWith : (bytes : List ℕ) (flag : Bool) (cost : Cost) (steps : List ℕ) → A.Answer Cost
   fieldsWith bytes flag cost steps =
       record {
         outcome = verdict (verdictOf v);
@@ -78,8 +80,8 @@ module _ (best plan plan′ : List ℕ) (v : Verdict) (stop : Stop) (h : ℕ) (b
   unfolding answerOf hasPlan bestCost bestSteps tallyOf progressOf bestOf
   with-plan bytes f = rw (f, reverse-reverse)
 
-  without-plan : (bytes : List ℕ) → stop .progress .best .found ≡ false → decidedAnswer bytes best v stop ≡ fieldsWith bytes false 0 []
-  unfolding answerOf hasPlan bestCost bestSteps tallyOf progressOf bestOf Rattle.model.specs.Steps.costsOf
+  without-plan : (bytes : List ℕ) → stop .progress .best .found ≡ false → decidedAnswer bytes best v stop ≡ fieldsWith bytes false free []
+  unfolding answerOf hasPlan bestCost bestSteps tallyOf progressOf bestOf Rattle.model.specs.Costs.costsOf
   without-plan bytes f = rw f
 
   pub decides-found : stop .progress .best .found ≡ true → n ≤ length best → plan′ ≡ take n best ++ drop n plan
@@ -94,7 +96,7 @@ module _ (best plan plan′ : List ℕ) (v : Verdict) (stop : Stop) (h : ℕ) (b
       }
 
   pub decides-none : stop .progress .best .found ≡ false → plan′ ≡ plan
-      → Decides best plan plan′ v stop (record { outcome = O.Verdict v; flag = false; cost = 0; bound = h; length = 0; tally = stop .progress .tally })
+      → Decides best plan plan′ v stop (record { outcome = O.Verdict v; flag = false; cost = free; bound = h; length = 0; tally = stop .progress .tally })
   unfolding outcomeOf bufferAfter
   decides-none f e =
       record {
@@ -103,7 +105,7 @@ module _ (best plan plan′ : List ℕ) (v : Verdict) (stop : Stop) (h : ℕ) (b
         plan-after = λ bytes. rw (without-plan bytes f) e;
       }
 
-pub refuses : (number cost n : ℕ) (stop : Stop)
+pub refuses : (number : ℕ) (cost : Cost) (n : ℕ) (stop : Stop)
     → Refuses number cost n stop (record { outcome = O.ByState number; flag = false; cost = cost; bound = stop .progress .low; length = n; tally = stop .progress .tally })
 unfolding answerOf outcomeOf tallyOf progressOf
 refuses number cost n stop =
@@ -114,10 +116,10 @@ refuses number cost n stop =
 
 -- ---- by the ending
 
-pub inside-at : {w limit k e c i : ℕ} (x : Ending) → x ≡ E.At e c i → EndsInside w limit k x → (i < w) × (k ≤ limit)
+pub inside-at : {w limit k e i : ℕ} {c : Cost} (x : Ending) → x ≡ E.At e c i → EndsInside w limit k x → (i < w) × (k ≤ limit)
 inside-at {w} {limit} {k} x eq h = subst (λ (y : Ending). EndsInside w limit k y) eq h
 
-pub inside-beyond : {w limit k e c i t : ℕ} (x : Ending) → x ≡ E.Beyond e c i t → EndsInside w limit k x → (i < w) × (t < 256) × (k < limit)
+pub inside-beyond : {w limit k e i t : ℕ} {c : Cost} (x : Ending) → x ≡ E.Beyond e c i t → EndsInside w limit k x → (i < w) × (t < 256) × (k < limit)
 inside-beyond {w} {limit} {k} x eq h = subst (λ (y : Ending). EndsInside w limit k y) eq h
 
 module _ (words best plan : List ℕ) (stop : Stop) (x : Answer) where
@@ -125,7 +127,7 @@ module _ (words best plan : List ℕ) (stop : Stop) (x : Answer) where
   unfolding endingOf
   reports-decided plan′ v e d = record { answer = λ bytes. rw e (d .answer bytes); plan-after = λ bytes. rw e (d .plan-after bytes) }
 
-  pub reports-at : (plan′ : List ℕ) (e c i : ℕ) → stop .ending ≡ E.At e c i → Refuses e c (stop .layer) stop x
+  pub reports-at : (plan′ : List ℕ) (e : ℕ) (c : Cost) (i : ℕ) → stop .ending ≡ E.At e c i → Refuses e c (stop .layer) stop x
       → plan′ ≡ reverse (pathBy words (stop .progress .tally .width) (stop .layer) i) ++ drop (stop .layer) plan → Reports words best plan plan′ stop x
   unfolding endingOf bufferAfter answerOf
   reports-at plan′ e c i eq d p =
@@ -135,7 +137,7 @@ module _ (words best plan : List ℕ) (stop : Stop) (x : Answer) where
         plan-after = λ bytes. rw eq (p ∙ path-front plan (pathBy words (stop .progress .tally .width) (stop .layer) i) (stop .layer) long);
       }
 
-  pub reports-beyond : (plan₁ : List ℕ) (e c i t : ℕ) → stop .ending ≡ E.Beyond e c i t → stop .layer < length plan → Refuses e c (stop .layer + 1) stop x
+  pub reports-beyond : (plan₁ : List ℕ) (e : ℕ) (c : Cost) (i t : ℕ) → stop .ending ≡ E.Beyond e c i t → stop .layer < length plan → Refuses e c (stop .layer + 1) stop x
       → plan₁ ≡ reverse (pathBy words (stop .progress .tally .width) (stop .layer) i) ++ drop (stop .layer) plan → Reports words best plan (set plan₁ (stop .layer) t) stop x
   unfolding endingOf bufferAfter answerOf
   reports-beyond plan₁ e c i t eq room d p =

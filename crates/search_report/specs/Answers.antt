@@ -2,9 +2,10 @@
 use Prim.Native.Nat.{ℕ, _≤_, _<_}
 use mathlib.Core.Path.{_≡_}
 use mathlib.Core.Bool.{cond}
-use mathlib.Core.List.{List}
-use lib.ListN.{length}
+use mathlib.Core.List.{List, [], _∷_}
+use lib.ListN.{length, getD}
 use lib.Dec.{eqb}
+use Rattle.model.specs.declared.Cost.{Cost}
 use Rattle.model.specs.Numbers.{mostSteps}
 use Rattle.search.specs.Answer as A
 use Rattle.search.specs.Answer.{verdict, byState, byInput, outcomeNumber, isRefusal, outcomeNumbered, bufferAfter, handedBack}
@@ -25,7 +26,7 @@ outcomeOf (O.ByState t) = byState t
 outcomeOf (O.ByInput t) = byInput t
 
 -- the answer's every field is the definition's
-pub record AnswerIs (a : A.Answer ℕ) (x : Answer) : Type 0 where
+pub record AnswerIs (a : A.Answer Cost) (x : Answer) : Type 0 where
   pub outcome : outcomeOf (x .outcome) ≡ a .outcome
   pub flag : x .flag ≡ a .flag
   pub cost : x .cost ≡ a .cost
@@ -35,7 +36,7 @@ pub record AnswerIs (a : A.Answer ℕ) (x : Answer) : Type 0 where
   pub rounds : x .tally .rounds ≡ a .tally .rounds
   pub width : x .tally .width ≡ a .tally .width
 
--- the same in numbers
+-- the same in numbers, a's costs being in hours
 pub record FieldsAre (a : A.Answer ℕ) (x : Fields) : Type 0 where
   pub refused : x .refused ≡ cond (isRefusal (a .outcome)) 1 0
   pub verdict-number : x .verdict ≡ outcomeNumber (a .outcome)
@@ -47,19 +48,33 @@ pub record FieldsAre (a : A.Answer ℕ) (x : Fields) : Type 0 where
   pub rounds : x .rounds ≡ a .tally .rounds
   pub width : x .width ≡ a .tally .width
 
--- the answer's fields as numbers
+-- the answer's numbers in their order: the one list that the line and the C struct are made from
+abbrev pub inLine : Answer → List ℕ
+inLine x =
+    outcomeNumber (outcomeOf (x .outcome))
+    ∷ cond (x .flag) 1 0
+    ∷ x .cost .high
+    ∷ x .bound .high
+    ∷ x .length
+    ∷ x .tally .expansions
+    ∷ x .tally .rounds
+    ∷ x .tally .width
+    ∷ []
+
+-- the C struct: whether it is a refusal, then the list
 abbrev pub numbersOf : Answer → Fields
 numbersOf x =
+    let n = inLine x in
     record {
       refused = cond (isRefusal (outcomeOf (x .outcome))) 1 0;
-      verdict = outcomeNumber (outcomeOf (x .outcome));
-      flag = cond (x .flag) 1 0;
-      cost = x .cost;
-      bound = x .bound;
-      length = x .length;
-      expansions = x .tally .expansions;
-      rounds = x .tally .rounds;
-      width = x .tally .width;
+      verdict = getD n 0 0;
+      flag = getD n 1 0;
+      cost = getD n 2 0;
+      bound = getD n 3 0;
+      length = getD n 4 0;
+      expansions = getD n 5 0;
+      rounds = getD n 6 0;
+      width = getD n 7 0;
     }
 
 -- the answer that stands in the numbers and in the plan buffer
@@ -75,7 +90,7 @@ answerIn x plan =
     }
 
 -- the answer of a run that is over
-abbrev pub stopAnswer : (bytes words best : List ℕ) → Stop → A.Answer ℕ
+abbrev pub stopAnswer : (bytes words best : List ℕ) → Stop → A.Answer Cost
 stopAnswer bytes words best x =
     answerOf (costsIn bytes) (systemIn bytes) (endingOf (pathBy words (x .progress .tally .width) (x .layer)) (x .ending)) (x .progress .tally .rounds) (x .progress .tally .width) (progressOf best (x .progress))
 

@@ -3,6 +3,7 @@ use Prim.Native.Nat.{ℕ}
 use mathlib.Core.Path.{_≡_}
 use mathlib.Core.List.{List}
 use lib.ListN.{length}
+use Rattle.model.specs.declared.Cost.{Cost}
 use Rattle.search.specs.Answer as A
 use Rattle.search.specs.Answer.{bufferAfter}
 use Rattle.search.specs.Search.{decided, refused, boundAt, answerOf}
@@ -16,11 +17,11 @@ use Rattle.search_report.specs.declared.answers.Answer.{Answer}
 use Rattle.search_runs.specs.declared.Stop.{Stop}
 
 -- "bound (low; the cost at 0; zero at 1)"
-pub record BoundIs (v : Verdict) (p : Progress) (x : ℕ) : Type 0 where
+pub record BoundIs (v : Verdict) (p : Progress) (x : Cost) : Type 0 where
   pub same : (bytes best : List ℕ) → x ≡ boundAt (costsIn bytes) (systemIn bytes) (verdictOf v) (progressOf best p)
 
 -- the run ended with this verdict
-abbrev pub decidedAnswer : (bytes best : List ℕ) → Verdict → Stop → A.Answer ℕ
+abbrev pub decidedAnswer : (bytes best : List ℕ) → Verdict → Stop → A.Answer Cost
 decidedAnswer bytes best v x = answerOf (costsIn bytes) (systemIn bytes) (decided (verdictOf v)) (x .progress .tally .rounds) (x .progress .tally .width) (progressOf best (x .progress))
 
 -- the report at a verdict
@@ -29,10 +30,10 @@ pub record Decides (best plan plan′ : List ℕ) (v : Verdict) (stop : Stop) (x
   pub plan-after : (bytes : List ℕ) → plan′ ≡ bufferAfter (decidedAnswer bytes best v stop) plan
 
 -- the run was refused, with this number, where a path of this cost and of n steps ends
-abbrev pub refusedAnswer : (bytes best : List ℕ) (number cost : ℕ) (path : List ℕ) → Stop → A.Answer ℕ
+abbrev pub refusedAnswer : (bytes best : List ℕ) (number : ℕ) (cost : Cost) (path : List ℕ) → Stop → A.Answer Cost
 refusedAnswer bytes best number cost path x =
     answerOf (costsIn bytes) (systemIn bytes) (refused number (record { cost = cost; path = path })) (x .progress .tally .rounds) (x .progress .tally .width) (progressOf best (x .progress))
 
 -- the report at a refusal by the state, whatever the path's steps are: the answer has their number alone
-pub record Refuses (number cost n : ℕ) (stop : Stop) (x : Answer) : Type 0 where
+pub record Refuses (number : ℕ) (cost : Cost) (n : ℕ) (stop : Stop) (x : Answer) : Type 0 where
   pub answer : (bytes best path : List ℕ) → length path ≡ n → AnswerIs (refusedAnswer bytes best number cost path stop) x

@@ -1,5 +1,6 @@
 // The answer of a search.
 
+use model::Cost;
 use search_tally::Tally;
 use search_visits::work::Verdict;
 
@@ -14,8 +15,8 @@ pub enum Outcome {
 pub struct Answer {
     pub outcome: Outcome,
     pub flag: bool,
-    pub cost: u64,
-    pub bound: u64,
+    pub cost: Cost,
+    pub bound: Cost,
     pub length: usize,
     pub tally: Tally,
 }

@@ -4,7 +4,7 @@ ghost use mathlib.Core.Path.{_≡_};
 ghost use mathlib.Core.Bool.{cond};
 ghost use Rattle.search.specs.Answer.{verdictNumber, outcomeNumber, isRefusal};
 ghost use Rattle.search_visits.specs.Work.{verdictOf};
-ghost use Rattle.search_report.specs.Answers.{outcomeOf, numbersOf};
+ghost use Rattle.search_report.specs.Answers.{outcomeOf, inLine, numbersOf};
 use crate::answers::Answer;
 use crate::answers::Fields;
 use crate::answers::Outcome;
@@ -53,23 +53,44 @@ pub fn flag_number(flag: bool) -> u64
     if flag { 1 } else { 0 }
 }
 
-// The answer in numbers.
+// How many numbers there are in an answer's line.
+pub const NUMBERS: usize = 8;
+
+// The answer's numbers, in their order: the one list that the line and the C struct are made from.
+pub fn numbers(answer: Answer) -> [u64; NUMBERS]
+    ensures { λ r. ⌜ r ≡ inLine answer ⌝ }
+{
+    let outcome = answer.outcome;
+    let verdict = outcome_number(outcome);
+    let flag = flag_number(answer.flag);
+    [
+        verdict as u64,
+        flag,
+        answer.cost.high,
+        answer.bound.high,
+        answer.length as u64,
+        answer.tally.expansions,
+        answer.tally.rounds,
+        answer.tally.width,
+    ]
+}
+
+// The answer as a C struct.
 pub fn fields(answer: Answer) -> Fields
     ensures { λ r. ⌜ r ≡ numbersOf answer ⌝ }
 {
     let outcome = answer.outcome;
     let refused = refused_number(outcome);
-    let verdict = outcome_number(outcome);
-    let flag = flag_number(answer.flag);
+    let n = numbers(answer);
     Fields {
         refused: refused,
-        verdict: verdict,
-        flag: flag,
-        cost: answer.cost,
-        bound: answer.bound,
-        length: answer.length as u64,
-        expansions: answer.tally.expansions,
-        rounds: answer.tally.rounds,
-        width: answer.tally.width,
+        verdict: outcome_number(outcome),
+        flag: n[1],
+        cost: n[2],
+        bound: n[3],
+        length: n[4],
+        expansions: n[5],
+        rounds: n[6],
+        width: n[7],
     }
 }

@@ -8,6 +8,8 @@ ghost use Rattle.search_report.specs.Answers.{Reportable, Reports};
 ghost use Rattle.search_report.specs.Reported.{BoundIs, Decides, Refuses};
 use crate::answers::Answer;
 use crate::answers::Outcome;
+use costs::hours;
+use model::Cost;
 use search_paths::trace::trace;
 use search_runs::Stop;
 use search_visits::work::Ending;
@@ -27,22 +29,22 @@ fn copy_bytes(from: &[u8], n: usize, to: &mut [u8])
 }
 
 // The bound at a verdict: low; the best plan's cost where it is the cheapest; 0 where there is no plan.
-fn bound_at(verdict: Verdict, progress: Progress) -> u64
+fn bound_at(verdict: Verdict, progress: Progress) -> Cost
     ensures { λ r. ⌜ BoundIs verdict progress r ⌝ }
 {
+    let best = progress.best;
+    let low = progress.low;
+    let nothing = hours(0);
     match verdict {
         Verdict::Cheapest => {
-            if progress.best.found {
-                progress.best.cost
-            } else {
-                0
-            }
+            let cost = best.cost;
+            if best.found { cost } else { nothing }
         }
-        Verdict::NoPlan => 0,
-        Verdict::WidthStop => progress.low,
-        Verdict::LengthStop => progress.low,
-        Verdict::BudgetSpent => progress.low,
-        Verdict::Contradicted => progress.low,
+        Verdict::NoPlan => nothing,
+        Verdict::WidthStop => low,
+        Verdict::LengthStop => low,
+        Verdict::BudgetSpent => low,
+        Verdict::Contradicted => low,
     }
 }
 
@@ -57,11 +59,12 @@ fn decided(plan: &mut [u8], best: &[u8], verdict: Verdict, stop: Stop) -> Answer
     let tally = progress.tally;
     if found.found {
         let n = found.length;
+        let cost = found.cost;
         copy_bytes(best, n, plan);
         Answer {
             outcome: Outcome::Verdict(verdict),
             flag: true,
-            cost: found.cost,
+            cost: cost,
             bound: bound,
             length: n,
             tally: tally,
@@ -70,7 +73,7 @@ fn decided(plan: &mut [u8], best: &[u8], verdict: Verdict, stop: Stop) -> Answer
         Answer {
             outcome: Outcome::Verdict(verdict),
             flag: false,
-            cost: 0,
+            cost: hours(0),
             bound: bound,
             length: 0,
             tally: tally,
@@ -79,15 +82,16 @@ fn decided(plan: &mut [u8], best: &[u8], verdict: Verdict, stop: Stop) -> Answer
 }
 
 // The answer at a refusal by the state, where a path of this cost and of n steps ends.
-fn refused(number: u8, cost: u64, n: usize, stop: Stop) -> Answer
+fn refused(number: u8, cost: Cost, n: usize, stop: Stop) -> Answer
     ensures { λ r. ⌜ Refuses number cost n stop r ⌝ }
 {
     let tally = stop.progress.tally;
+    let low = stop.progress.low;
     Answer {
         outcome: Outcome::ByState(number),
         flag: false,
         cost: cost,
-        bound: stop.progress.low,
+        bound: low,
         length: n,
         tally: tally,
     }

@@ -1,4 +1,4 @@
--- Costs of a layer: where each node costs at most k times the end of the numbers' range, so do the children, k + 1 times. In layer k of
+-- Costs of a layer: where each part of a node's cost is at most k times the end of the numbers' range, so it is of the children, k + 1 times. In layer k of
 -- a round the steps before its root count too.
 use Prim.Native.Nat.{ℕ, suc, _+_}
 use mathlib.Core.Path.{_≡_, sym, subst}
@@ -14,11 +14,13 @@ use Rattle.laws.proofs.Lists.{all-filter, all-dropLast}
 use Rattle.model.specs.Numbers.{rangeEnd}
 use Rattle.model.specs.System.{Costs, System, moved}
 use Rattle.model.specs.Meaning.{State}
+use Rattle.model.specs.declared.Cost.{Cost}
+use Rattle.model.proofs.Ranges.{up-to-less, below-up-to}
 use Rattle.search.specs.Search.{Node, Round, on, belowBest, before, place, beats, cut, insert, offer, child, counted, atLimit, improvedBy, layer, layerEnd, nextLayer}
 use Rattle.search.proofs.Induction.{Holds, Point, taking, expanding, Changes, layer-holds}
 use Rattle.steps.specs.InBytes.{systemIn}
 use Rattle.steps.specs.Follow.{costsIn}
-use Rattle.steps.proofs.Promises.{combined-at-most, step-cost-below}
+use Rattle.steps.proofs.Promises.{combined-up-to, step-cost-below}
 use Rattle.search_visits.specs.Work.{Within}
 
 -- ---- what holds of each kept node and of a child, holds of each after the child was offered
@@ -46,16 +48,16 @@ module _ {S C : Type 0} (K : Costs C) (M : System S C) (P : Node S C → Type 0)
 -- ---- the layer
 
 -- the nodes ahead
-abbrev Ahead : (k : ℕ) → Point State ℕ → Type 0
+abbrev Ahead : (k : ℕ) → Point State Cost → Type 0
 Ahead k (taking ns) = All (Within k) ns
 Ahead k (expanding n t ns) = Within k n × All (Within k) ns
 
-abbrev Costing : (k left : ℕ) → Point State ℕ → Round State ℕ → Type 0
+abbrev Costing : (k left : ℕ) → Point State Cost → Round State Cost → Type 0
 Costing k left point r = All (Within (suc k)) (r .kept) × Ahead k point
 
-child-within : (bytes : List ℕ) (k : ℕ) (n : Node State ℕ) (t : ℕ) {c : ℕ} (h : ℕ) {u : State} → Within k n → systemIn bytes .move (n .state) t ≡ moved c u → Within (suc k) (child (costsIn bytes) (systemIn bytes) n t c u h)
+child-within : (bytes : List ℕ) (k : ℕ) (n : Node State Cost) (t : ℕ) {c : Cost} (h : Cost) {u : State} → Within k n → systemIn bytes .move (n .state) t ≡ moved c u → Within (suc k) (child (costsIn bytes) (systemIn bytes) n t c u h)
 unfolding child
-child-within bytes k n t {c} h a e = omega (arith, a, step-cost-below bytes (n .state) t e, combined-at-most bytes (n .g) c, suc-mul k rangeEnd)
+child-within bytes k n t h a e = up-to-less (combined-up-to bytes a (below-up-to (step-cost-below bytes (n .state) t e))) (omega (arith, suc-mul k rangeEnd))
 
 costing : (bytes : List ℕ) (budget width : ℕ) → Changes (costsIn bytes) (systemIn bytes) budget width Costing (λ s. Unit {0})
 unfolding improvedBy atLimit counted layerEnd nextLayer
@@ -79,16 +81,16 @@ costing bytes budget width =
     }
 
 -- the nodes that a layer from none leaves at its end
-left-within : (bytes : List ℕ) (budget width k left : ℕ) (ns : List (Node State ℕ)) (r r′ x : Round State ℕ) → All (Within k) ns → r .kept ≡ [] → layer (costsIn bytes) (systemIn bytes) budget width left ns r ≡ on r′
+left-within : (bytes : List ℕ) (budget width k left : ℕ) (ns : List (Node State Cost)) (r r′ x : Round State Cost) → All (Within k) ns → r .kept ≡ [] → layer (costsIn bytes) (systemIn bytes) budget width left ns r ≡ on r′
     → layerEnd (costsIn bytes) (systemIn bytes) r′ ≡ x → All (Within (suc k)) (x .kept)
 left-within bytes budget width k left ns r r′ x a none same end =
-    subst (λ (y : Round State ℕ). All (Within (suc k)) (y .kept)) end
+    subst (λ (y : Round State Cost). All (Within (suc k)) (y .kept)) end
     (costing bytes budget width .layer-ends {k = k} {left = left} {r = r′}
     (subst (Holds (Costing k left (taking [])) (λ s. Unit {0})) same
     (layer-holds (costsIn bytes) (systemIn bytes) budget width Costing (λ s. Unit {0}) (costing bytes budget width) {k = k} {left = left} {r = r} ns (subst (All (Within (suc k))) (sym none) tt, a))) .0)
 
 -- in layer k, behind `before` steps
-pub end-within : (bytes : List ℕ) (budget width before k left : ℕ) (ns : List (Node State ℕ)) (r r′ x : Round State ℕ) → All (Within (before + k)) ns → r .kept ≡ []
+pub end-within : (bytes : List ℕ) (budget width before k left : ℕ) (ns : List (Node State Cost)) (r r′ x : Round State Cost) → All (Within (before + k)) ns → r .kept ≡ []
     → layer (costsIn bytes) (systemIn bytes) budget width left ns r ≡ on r′ → layerEnd (costsIn bytes) (systemIn bytes) r′ ≡ x → All (Within (before + suc k)) (x .kept)
 end-within bytes budget width before k left ns r r′ x a none same end =
     let one-more : suc (before + k) ≡ before + suc k = omega arith in

@@ -9,6 +9,7 @@ use lib.ListN.{length}
 use Rattle.laws.specs.Lists.{isEmpty, All}
 use Rattle.laws.proofs.Bools.{not-both, or-first, or-second}
 use Rattle.model.specs.Meaning.{State}
+use Rattle.model.specs.declared.Cost.{Cost}
 use Rattle.search.specs.Search.{Node, Result, on, andThen, layerEnd, nextLayer, unlessEnded, layers}
 use Rattle.search.specs.Search as S
 use Rattle.steps.specs.InBytes.{systemIn}
@@ -32,28 +33,28 @@ use Rattle.beam_order.specs.Slots.{backsAt}
 
 -- ---- the definition, by its parts
 
-layers-by : (bytes : List ℕ) (w budget left : ℕ) (ns : List (Node State ℕ)) (r : S.Round State ℕ)
+layers-by : (bytes : List ℕ) (w budget left : ℕ) (ns : List (Node State Cost)) (r : S.Round State Cost)
     → layers (costsIn bytes) (systemIn bytes) budget w left ns r ≡ andThen (S.layer (costsIn bytes) (systemIn bytes) budget w left ns r) (λ r′. behindEnd bytes w budget left (layerEnd (costsIn bytes) (systemIn bytes) r′))
 unfolding layers behindEnd
 layers-by bytes w budget zero ns r = refl
 layers-by bytes w budget (suc left) ns r = refl
 
-at-end : (bytes : List ℕ) (w budget left : ℕ) (r : S.Round State ℕ) → (isEmpty (r .kept) || r .improved) ≡ true → behindEnd bytes w budget left r ≡ on r
+at-end : (bytes : List ℕ) (w budget left : ℕ) (r : S.Round State Cost) → (isEmpty (r .kept) || r .improved) ≡ true → behindEnd bytes w budget left r ≡ on r
 unfolding behindEnd unlessEnded
 at-end bytes w budget zero r e = refl
 at-end bytes w budget (suc left) r e = picks (isEmpty (r .kept) || r .improved) e
   where
-    picks : (b : Bool) → b ≡ true → _≡_ {A = Result (S.Round State ℕ) ℕ} (elim b [ true ↦ on r | false ↦ layers (costsIn bytes) (systemIn bytes) budget w left (r .kept) (nextLayer (costsIn bytes) (systemIn bytes) r) ]) (on r)
+    picks : (b : Bool) → b ≡ true → _≡_ {A = Result (S.Round State Cost) Cost} (elim b [ true ↦ on r | false ↦ layers (costsIn bytes) (systemIn bytes) budget w left (r .kept) (nextLayer (costsIn bytes) (systemIn bytes) r) ]) (on r)
     picks true q = refl
     picks false q = absurd (false≢true q)
 
-not-at-end : (bytes : List ℕ) (w budget left : ℕ) (r : S.Round State ℕ) → (isEmpty (r .kept) || r .improved) ≡ false
+not-at-end : (bytes : List ℕ) (w budget left : ℕ) (r : S.Round State Cost) → (isEmpty (r .kept) || r .improved) ≡ false
     → behindEnd bytes w budget (suc left) r ≡ layers (costsIn bytes) (systemIn bytes) budget w left (r .kept) (nextLayer (costsIn bytes) (systemIn bytes) r)
 unfolding behindEnd unlessEnded
 not-at-end bytes w budget left r e = picks (isEmpty (r .kept) || r .improved) e
   where
     picks : (b : Bool) → b ≡ false
-        → _≡_ {A = Result (S.Round State ℕ) ℕ} (elim b [ true ↦ on r | false ↦ layers (costsIn bytes) (systemIn bytes) budget w left (r .kept) (nextLayer (costsIn bytes) (systemIn bytes) r) ]) (layers (costsIn bytes) (systemIn bytes) budget w left (r .kept) (nextLayer (costsIn bytes) (systemIn bytes) r))
+        → _≡_ {A = Result (S.Round State Cost) Cost} (elim b [ true ↦ on r | false ↦ layers (costsIn bytes) (systemIn bytes) budget w left (r .kept) (nextLayer (costsIn bytes) (systemIn bytes) r) ]) (layers (costsIn bytes) (systemIn bytes) budget w left (r .kept) (nextLayer (costsIn bytes) (systemIn bytes) r))
     picks true q = absurd (true≢false q)
     picks false q = refl
 
@@ -108,7 +109,7 @@ module _ (words : List ℕ) (w limit k : ℕ) (x : Round) where
       onward : (bytes plan : List ℕ) (budget : ℕ) → behindEnd bytes w budget (limit - k) (roundIn bytes words plan w k x)
           ≡ layersFrom bytes words′ plan w budget limit (suc k) (x .count) (record { count = 0; marks = x .marks; improved = x .improved; progress = x .progress })
       onward bytes plan budget =
-          let nodes : List (Node State ℕ) = nodesOf w (nextOf w words) bytes (pathBy words w k) (x .count) in
+          let nodes : List (Node State Cost) = nodesOf w (nextOf w words) bytes (pathBy words w k) (x .count) in
           let z : limit - k ≡ suc (limit - suc k) = omega arith in
           ap (λ (left : ℕ). behindEnd bytes w budget left (roundIn bytes words plan w k x)) z
           ∙ not-at-end bytes w budget (limit - suc k) (roundIn bytes words plan w k x)
@@ -135,12 +136,12 @@ module _ (budget : ℕ) {bytes outline words words₁ plan plan₁ : List ℕ} {
       over-still : layersFrom bytes words plan w budget limit k n x ≡ resultOf (pathBy words₁ w k) (N.Over e) (roundIn bytes words₁ plan₁ w k (v .round))
       over-still =
           layers-by bytes w budget (limit - k) (currentOf bytes words w k n) (roundIn bytes words plan w k x)
-          ∙ ap (λ (q : Result (S.Round State ℕ) ℕ). andThen q (λ r′. behindEnd bytes w budget (limit - k) (layerEnd (costsIn bytes) (systemIn bytes) r′)))
+          ∙ ap (λ (q : Result (S.Round State Cost) Cost). andThen q (λ r′. behindEnd bytes w budget (limit - k) (layerEnd (costsIn bytes) (systemIn bytes) r′)))
           (leaves .same ∙ ap (λ (q : Next). resultOf (pathBy words w k) q (roundIn bytes words₁ plan₁ w k (v .round))) is-over)
           ∙ over-after (roundIn bytes words₁ plan₁ w k (v .round))
           ∙ ap (λ (p : ℕ → List ℕ). resultOf p (N.Over e) (roundIn bytes words₁ plan₁ w k (v .round))) (sym (paths-kept words words₁ w (width-positive (leaves .held)) (leaves .current) (leaves .rows) k))
         where
-          over-after : (r : S.Round State ℕ) → andThen (resultOf (pathBy words w k) (N.Over e) r) (λ r′. behindEnd bytes w budget (limit - k) (layerEnd (costsIn bytes) (systemIn bytes) r′)) ≡ resultOf (pathBy words w k) (N.Over e) r
+          over-after : (r : S.Round State Cost) → andThen (resultOf (pathBy words w k) (N.Over e) r) (λ r′. behindEnd bytes w budget (limit - k) (layerEnd (costsIn bytes) (systemIn bytes) r′)) ≡ resultOf (pathBy words w k) (N.Over e) r
           over-after r = unfold resultOf andThen in refl
 
   -- it goes on
@@ -153,7 +154,7 @@ module _ (budget : ℕ) {bytes outline words words₁ plan plan₁ : List ℕ} {
     unfolding andThen
     layers-same =
         layers-by bytes w budget (limit - k) (currentOf bytes words w k n) (roundIn bytes words plan w k x)
-        ∙ ap (λ (q : Result (S.Round State ℕ) ℕ). andThen q (λ r′. behindEnd bytes w budget (limit - k) (layerEnd (costsIn bytes) (systemIn bytes) r′))) layer-same
+        ∙ ap (λ (q : Result (S.Round State Cost) Cost). andThen q (λ r′. behindEnd bytes w budget (limit - k) (layerEnd (costsIn bytes) (systemIn bytes) r′))) layer-same
         ∙ ap (behindEnd bytes w budget (limit - k)) (end .same bytes plan₁ k)
 
     kept-within : x .count ≡ 0 → All (Within (ready .before + suc k)) (roundIn bytes words₁ plan₁ w k z .kept)

@@ -9,6 +9,8 @@ use lib.ListN.{length}
 use Rattle.laws.specs.Lists.{All}
 use Rattle.model.specs.System.{Origin}
 use Rattle.model.specs.Meaning.{State}
+use Rattle.model.specs.declared.Cost.{Cost}
+use Rattle.model.proofs.Ranges.{up-to-less}
 use Rattle.search.specs.Search.{Result, freshRound}
 use Rattle.search.specs.Search as S
 use Rattle.steps.specs.InBytes.{systemIn}
@@ -23,7 +25,7 @@ use Rattle.search_visits.specs.declared.work.Round.{Round}
 use Rattle.search_rounds.specs.declared.ends.Passed.{Passed}
 
 -- what is left of a round behind a turn in layer k: the layers from k + 1 on, or its end
-unfoldable pub rest : (bytes words plan : List ℕ) (w budget limit k : ℕ) (more : Bool) → Passed → Result (S.Round State ℕ) ℕ
+unfoldable pub rest : (bytes words plan : List ℕ) (w budget limit k : ℕ) (more : Bool) → Passed → Result (S.Round State Cost) Cost
 rest bytes words plan w budget limit k true y = layersFrom bytes words plan w budget limit (suc k) (y .nodes) (y .round)
 rest bytes words plan w budget limit k false y = resultOf (pathBy words w k) (y .next) (roundIn bytes words plan w k (y .round))
 
@@ -81,7 +83,7 @@ fresh p = record { count = 0; marks = record { width = false; length = false }; 
 -- the root's g is what the steps before it may have cost
 root-within : (bytes : List ℕ) {root : List ℕ} {limit : ℕ} (fits : RootFits root limit) → Within (fits .before + 0) (rootOf bytes root)
 unfolding nodeAt
-root-within bytes fits = omega (arith, fits .cost)
+root-within bytes fits = up-to-less (fits .cost) (omega arith)
 
 module _ {bytes outline root words₀ words plan : List ℕ} {w limit : ℕ} {p : Progress} (able : Roundable bytes outline root words₀ plan w limit p) (started : Started root words w) where
   pub ready-first : Ready bytes outline words plan w limit 0 1 (fresh p)
@@ -99,7 +101,7 @@ module _ {bytes outline root words₀ words plan : List ℕ} {w limit : ℕ} {p 
         costs = subst (All (Within (able .root-fits .before + 0))) (sym (started .root-alone bytes)) (root-within bytes (able .root-fits), tt);
       }
 
-  round-same : (budget : ℕ) (o : Origin State ℕ) (h : ℕ) → RootIs bytes root o h
+  round-same : (budget : ℕ) (o : Origin State Cost) (h : Cost) → RootIs bytes root o h
       → S.round (costsIn bytes) (systemIn bytes) budget limit w (S.root (costsIn bytes) (systemIn bytes) o h) (progressOf plan p) ≡ layersFrom bytes words plan w budget limit 0 1 (fresh p)
   unfolding S.round freshRound roundOf
   round-same budget o h is =

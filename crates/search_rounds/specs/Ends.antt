@@ -6,6 +6,7 @@ use mathlib.Core.List.{List}
 use mathlib.Core.Option.{Option}
 use Rattle.laws.specs.Lists.{filter}
 use Rattle.model.specs.Meaning.{State}
+use Rattle.model.specs.declared.Cost.{Cost}
 use Rattle.search.specs.Search as S
 use Rattle.steps.specs.InBytes.{systemIn}
 use Rattle.steps.specs.Follow.{costsIn}
@@ -23,15 +24,15 @@ use Rattle.search_rounds.specs.declared.ends.Passed.{Passed}
 pub record Remains (layer : List ℕ) (w : ℕ) (best : Best) (n count : ℕ) : Type 0 where
   pub fewer : count ≤ n
   pub still : Layer w count layer
-  pub left : (bytes : List ℕ) (path : ℕ → List ℕ) (b : Option (S.Route ℕ)) → BestIs best b
+  pub left : (bytes : List ℕ) (path : ℕ → List ℕ) (b : Option (S.Route Cost)) → BestIs best b
       → nodesOf w layer bytes path count ≡ filter (λ m. S.belowBest (costsIn bytes) (systemIn bytes) (m .f) b) (nodesOf w layer bytes path n)
 
 -- rule 6: low rises
-pub record Raises (layer : List ℕ) (w : ℕ) (marked : Bool) (n low r : ℕ) : Type 0 where
+pub record Raises (layer : List ℕ) (w : ℕ) (marked : Bool) (n : ℕ) (low r : Cost) : Type 0 where
   pub same : (bytes : List ℕ) (path : ℕ → List ℕ) → S.raisedLow (costsIn bytes) (systemIn bytes) marked (nodesOf w layer bytes path n) low ≡ r
 
 -- behind a layer's end, `left` layers before the limit: the layers after it, unless the round is at its end
-unfoldable pub behindEnd : (bytes : List ℕ) (w budget left : ℕ) → S.Round State ℕ → S.Result (S.Round State ℕ) ℕ
+unfoldable pub behindEnd : (bytes : List ℕ) (w budget left : ℕ) → S.Round State Cost → S.Result (S.Round State Cost) Cost
 behindEnd bytes w budget zero r = S.on r
 behindEnd bytes w budget (suc left) r = S.unlessEnded (costsIn bytes) (systemIn bytes) r (λ x. S.layers (costsIn bytes) (systemIn bytes) budget w left (x .kept) (S.nextLayer (costsIn bytes) (systemIn bytes) x))
 

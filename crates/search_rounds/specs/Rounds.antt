@@ -7,6 +7,7 @@ use lib.ListN.{length}
 use Rattle.model.specs.Numbers.{mostSteps}
 use Rattle.model.specs.System.{Origin}
 use Rattle.model.specs.Meaning.{State}
+use Rattle.model.specs.declared.Cost.{Cost}
 use Rattle.search.specs.Search as S
 use Rattle.steps.specs.InBytes.{Outlined, systemIn}
 use Rattle.steps.specs.Follow.{costsIn}
@@ -52,7 +53,7 @@ pub record LayerEnds (words : List ℕ) (w : ℕ) (x y : Round) : Type 0 where
   pub same : (bytes plan : List ℕ) (k : ℕ) → S.layerEnd (costsIn bytes) (systemIn bytes) (roundIn bytes words plan w k x) ≡ roundIn bytes words plan w k y
 
 -- the layers from k on, in a round
-abbrev pub layersFrom : (bytes words plan : List ℕ) (w budget limit k n : ℕ) → Round → S.Result (S.Round State ℕ) ℕ
+abbrev pub layersFrom : (bytes words plan : List ℕ) (w budget limit k n : ℕ) → Round → S.Result (S.Round State Cost) Cost
 layersFrom bytes words plan w budget limit k n x =
     S.layers (costsIn bytes) (systemIn bytes) budget w (limit - k) (currentOf bytes words w k n) (roundIn bytes words plan w k x)
 
@@ -73,5 +74,5 @@ pub record RoundEnds (bytes root words′ plan plan′ : List ℕ) (w budget lim
   pub round-same : roundBegun (y .round .progress) ≡ roundBegun p
   pub inside : Inside w limit (y .layer) (y .next)
   pub counted : length (roundIn bytes words′ plan′ w (y .layer) (y .round) .kept) ≡ y .round .count
-  pub same : (o : Origin State ℕ) (h : ℕ) → RootIs bytes root o h → S.round (costsIn bytes) (systemIn bytes) budget limit w (S.root (costsIn bytes) (systemIn bytes) o h) (progressOf plan p)
+  pub same : (o : Origin State Cost) (h : Cost) → RootIs bytes root o h → S.round (costsIn bytes) (systemIn bytes) budget limit w (S.root (costsIn bytes) (systemIn bytes) o h) (progressOf plan p)
       ≡ resultOf (pathBy words′ w (y .layer)) (y .next) (roundIn bytes words′ plan′ w (y .layer) (y .round))

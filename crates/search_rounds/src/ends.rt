@@ -10,11 +10,13 @@ ghost use Rattle.search_rounds.specs.Rounds.{Enterable, LayerEnds, Passe
 ghost use Rattle.search_rounds.specs.Ends.{Remains, Raises, EntersNext};
 ghost use Rattle.beam_order.specs.Slots.{backsAt};
 use beam::layer::keep_below;
-use beam_order::slots::F_AT;
 use beam_order::slots::NEXT_AT;
 use beam_order::slots::NEXT_END;
 use beam_order::slots::ORDER_AT;
 use beam_order::slots::SLOT_WORDS;
+use beam_order::slots::f_in;
+use costs::at_most;
+use model::Cost;
 use outline::layout::PREPARED_WORDS;
 use search_expansion::trials::Best;
 use search_paths::current::next_layer;
@@ -46,7 +48,7 @@ fn remaining(layer: &[u64], w: usize, best: Best, count: usize) -> usize
 }
 
 // low, raised to the least f of the layer if that is greater, no width mark stands, and some nodes are left.
-fn raised(layer: &[u64], w: usize, marked: bool, count: usize, low: u64) -> u64
+fn raised(layer: &[u64], w: usize, marked: bool, count: usize, low: Cost) -> Cost
     requires { ⌜ Layer w count (now layer) × (w ≤ 4096) ⌝ }
     ensures { λ r. ⌜ Raises (now (layer .entry)) w marked count low r ⌝ }
 {
@@ -57,8 +59,8 @@ fn raised(layer: &[u64], w: usize, marked: bool, count: usize, low: u64) -> u64
         return low;
     }
     let slot = layer[ORDER_AT * w] as usize;
-    let f = layer[slot * SLOT_WORDS + F_AT];
-    if low < f { f } else { low }
+    let f = f_in(layer, slot * SLOT_WORDS);
+    if at_most(f, low) { low } else { f }
 }
 
 // Rule 6: nodes with f not below the best go, and low rises.

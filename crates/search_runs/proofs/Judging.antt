@@ -9,6 +9,7 @@ use borrow.Author.Tests.{eq-eqb, ne-eqb}
 use native.Mathlib.Omega.{arith}
 use Rattle.laws.specs.Lists.{isEmpty}
 use Rattle.model.specs.Meaning.{State}
+use Rattle.model.specs.declared.Cost.{Cost}
 use Rattle.search.specs.Search.{Node}
 use Rattle.search.specs.Search as S
 use Rattle.search_visits.specs.declared.work.Verdict.the-variants as W
@@ -25,7 +26,7 @@ none-left [] n e = sym (eq-eqb n 0 (sym e))
 none-left (x ∷ kept) n e = sym (ne-eqb n 0 (λ z. omega arith))
 
 -- "No mark and none remaining", of the definition's round
-same-test : (kept : List (Node State ℕ)) (plan : List ℕ) (x : Round) → length kept ≡ x .count
+same-test : (kept : List (Node State Cost)) (plan : List ℕ) (x : Round) → length kept ≡ x .count
     → (not (roundOf kept plan x .widthMark) && not (roundOf kept plan x .lengthMark) && isEmpty (roundOf kept plan x .kept)) ≡ nothingLeft x
 unfolding roundOf nothingLeft
 same-test kept plan x e = ap (λ b. not (x .marks .width) && not (x .marks .length) && b) (none-left kept (x .count) e)

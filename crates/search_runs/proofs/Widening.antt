@@ -1,23 +1,27 @@
 -- The rounds of a run: a round that is judged, and what the loop over the rounds keeps.
 use Prim.Native.Nat.{ℕ, suc, _+_, _-_, _*_, _≤_, _<_}
 use mathlib.Core.Path.{_≡_, refl, sym, ap, subst, _∙_}
-use mathlib.Core.Bool.{Bool, true, false}
+use mathlib.Core.Bool.{Bool, true, false, _&&_}
 use mathlib.Core.List.{List}
 use mathlib.Core.Option.{none}
-use lib.Dec.{eqb}
+use lib.Dec.{leb, eqb}
 use lib.ListN.{length, getD, drop}
 use native.Mathlib.Omega.{arith}
+use borrow.Author.Tests.{leb-true}
+use Rattle.laws.proofs.Bools.{and-both}
+use Rattle.model.specs.Numbers.{mostWidths}
 use native.Mathlib.Nat.{mul-le-mul-right}
 use native.Mathlib.Numerals.{add-one}
 use Rattle.model.specs.System.{Origin}
 use Rattle.model.specs.Meaning.{State}
+use Rattle.model.specs.declared.Cost.{Cost}
 use Rattle.search.specs.Answer as A
 use Rattle.search.specs.Search as S
-use Rattle.search.specs.Run.{listed, rising, widestOf}
+use Rattle.search.specs.Run.{listed, risingFrom, rising, widestOf}
 use Rattle.search.proofs.Settings.{entry-fits, some-entries}
 use Rattle.steps.specs.InBytes.{systemIn}
 use Rattle.steps.specs.Follow.{costsIn}
-use Rattle.beam_order.specs.Slots.{fAt}
+use Rattle.beam_order.specs.Slots.{fOf}
 use Rattle.beam.specs.Nodes.{nodeAt}
 use Rattle.beam.specs.Layers.{nodesOf}
 use Rattle.search_visits.specs.declared.work.Verdict.{Verdict}
@@ -95,8 +99,13 @@ room-for {widest = widest} {limit = limit} {w = w} r a b pos le =
       words-room = omega (arith, r .words-room);
     }
 
+-- a list that rises is short
+pub few-entries : (ws : List ℕ) → rising ws ≡ true → length ws ≤ mostWidths
+unfolding rising
+few-entries ws e = leb-true (length ws) mostWidths (and-both (leb 1 (length ws)) (leb (length ws) mostWidths) (and-both (leb 1 (length ws) && leb (length ws) mostWidths) (risingFrom 0 ws) e .0) .1)
+
 -- the rounds from round k on, the widths behind this one being `wider`
-abbrev roundsFrom : (bytes plan : List ℕ) (budget limit : ℕ) (o : Origin State ℕ) (h most width : ℕ) (wider : List ℕ) (k : ℕ) → Progress → A.Answer ℕ
+abbrev roundsFrom : (bytes plan : List ℕ) (budget limit : ℕ) (o : Origin State Cost) (h : Cost) (most width : ℕ) (wider : List ℕ) (k : ℕ) → Progress → A.Answer Cost
 roundsFrom bytes plan budget limit o h most width wider k p =
     S.rounds (costsIn bytes) (systemIn bytes) most budget limit width wider k (S.root (costsIn bytes) (systemIn bytes) o h) (progressOf plan p)
 
@@ -108,22 +117,23 @@ pub record Widening (bytes root words₀ words plan₀ plan widths : List ℕ) (
   pub inside : place < length widths
   pub width-there : p .tally .width ≡ getD widths place 0
   pub counted : p .tally .rounds + most ≡ budget + 2
-  pub same : (o : Origin State ℕ) (h : ℕ) → RootIs bytes root o h
+  pub same : (o : Origin State Cost) (h : Cost) → RootIs bytes root o h
       → S.rounds (costsIn bytes) (systemIn bytes) (suc budget) budget limit (getD widths 0 0) (drop 1 widths) 1 (S.root (costsIn bytes) (systemIn bytes) o h) (record { best = none; low = costsIn bytes .combine (o .spent) h; expansions = 0 })
       ≡ roundsFrom bytes plan budget limit o h most (getD widths place 0) (drop (place + 1) widths) (p .tally .rounds) p
 
--- before any round: low is the root's f
-abbrev unbegun : (root : List ℕ) → Progress
-unbegun root = record { best = record { found = false; cost = 0; length = 0 }; low = getD root fAt 0; tally = record { expansions = 0; rounds = 0; width = 0 } }
+-- before any round: nothing is found, whatever cost stands there
+abbrev unbegun : (cost low : Cost) → Progress
+unbegun cost low = record { best = record { found = false; cost = cost; length = 0 }; low = low; tally = record { expansions = 0; rounds = 0; width = 0 } }
 
-root-f : {bytes root : List ℕ} {o : Origin State ℕ} {h : ℕ} → RootIs bytes root o h → costsIn bytes .combine (o .spent) h ≡ getD root fAt 0
+root-f : {bytes root : List ℕ} {o : Origin State Cost} {h : Cost} → RootIs bytes root o h → costsIn bytes .combine (o .spent) h ≡ fOf root
 unfolding nodeAt S.root
-root-f is = sym (ap (λ (n : S.Node State ℕ). n .f) (is .node))
+root-f is = sym (ap (λ (n : S.Node State Cost). n .f) (is .node))
 
-pub widening-first : {bytes root words plan widths : List ℕ} {budget limit first : ℕ} {p : Progress} → rising widths ≡ true → first ≡ getD widths 0 0 → p ≡ beginsAt first (unbegun root)
+-- low is the root's f
+pub widening-first : {bytes root words plan widths : List ℕ} {budget limit first : ℕ} {p : Progress} {cost low : Cost} → rising widths ≡ true → first ≡ getD widths 0 0 → low ≡ fOf root → p ≡ beginsAt first (unbegun cost low)
     → Widening bytes root words words plan plan widths budget limit 0 p (budget + 1)
 unfolding progressOf bestOf
-widening-first {widths = widths} {budget = budget} rises e begins =
+widening-first {widths = widths} {budget = budget} rises e least begins =
     rw begins
     (record {
       same-words = refl;
@@ -132,7 +142,7 @@ widening-first {widths = widths} {budget = budget} rises e begins =
       inside = some-entries widths rises;
       width-there = e;
       counted = omega arith;
-      same = λ o h is. rw (root-f is, add-one budget);
+      same = λ o h is. rw (root-f is, ← least, add-one budget);
     })
 
 module _ {bytes root words₀ words plan₀ plan widths : List ℕ} {budget limit place : ℕ} {p : Progress} {most : ℕ} (s : Widening bytes root words₀ words plan₀ plan widths budget limit place p most) where
@@ -149,7 +159,7 @@ module _ {bytes root words₀ words plan₀ plan widths : List ℕ} {budget limi
   room rises r = let fits = entry-fits widths place rises (s .inside) in room-for r (s .same-words) (s .same-plan) (fits .0) (fits .1)
 
   -- round k, then those behind it
-  one-more : {words′ plan′ : List ℕ} {left : ℕ} {y : Judged} → most ≡ suc left → RoundJudged bytes root words′ plan plan′ last budget limit width p y → (o : Origin State ℕ) (h : ℕ) → RootIs bytes root o h
+  one-more : {words′ plan′ : List ℕ} {left : ℕ} {y : Judged} → most ≡ suc left → RoundJudged bytes root words′ plan plan′ last budget limit width p y → (o : Origin State Cost) (h : Cost) → RootIs bytes root o h
       → roundsFrom bytes plan budget limit o h most width (drop (place + 1) widths) k p
       ≡ S.unlessOver (costsIn bytes) (systemIn bytes) k width (afterOf (costsIn bytes) (systemIn bytes) (pathBy words′ width (y .layer)) (y .next) (progressOf plan′ (y .progress)))
       (λ q. S.rounds (costsIn bytes) (systemIn bytes) left budget limit (getD widths (placeBehind (length widths) place) 0) (drop (placeBehind (length widths) place + 1) widths) (suc k) (S.root (costsIn bytes) (systemIn bytes) o h) q)

@@ -6,6 +6,7 @@ use mathlib.Core.List.{List}
 use lib.Dec.{eqb}
 use Rattle.model.specs.System.{Costs, System, Origin}
 use Rattle.model.specs.Meaning.{State}
+use Rattle.model.specs.declared.Cost.{Cost}
 use Rattle.search.specs.Search.{After, again, ended}
 use Rattle.search.specs.Search as S
 use Rattle.steps.specs.InBytes.{systemIn}
@@ -28,7 +29,7 @@ abbrev pub beginsAt : (width : ℕ) → Progress → Progress
 beginsAt width p = record { best = p .best; low = p .low; tally = begunAt width (p .tally) }
 
 -- another round, or the run is over
-unfoldable pub afterOf : (K : Costs ℕ) (M : System State ℕ) (path : ℕ → List ℕ) → Next → S.Progress ℕ → After K M
+unfoldable pub afterOf : (K : Costs Cost) (M : System State Cost) (path : ℕ → List ℕ) → Next → S.Progress Cost → After K M
 afterOf K M path N.On p = again p
 afterOf K M path (N.Over e) p = ended (record { ending = endingOf path e; progress = p })
 
@@ -37,6 +38,6 @@ pub record RoundJudged (bytes root words′ plan plan′ : List ℕ) (last : Boo
   pub best-fits : y .progress .best .length ≤ limit
   pub round-same : roundBegun (y .progress) ≡ roundBegun p
   pub inside : Inside width limit (y .layer) (y .next)
-  pub same : (o : Origin State ℕ) (h : ℕ) → RootIs bytes root o h
+  pub same : (o : Origin State Cost) (h : Cost) → RootIs bytes root o h
       → S.afterRound (costsIn bytes) (systemIn bytes) last (S.round (costsIn bytes) (systemIn bytes) budget limit width (S.root (costsIn bytes) (systemIn bytes) o h) (progressOf plan p))
       ≡ afterOf (costsIn bytes) (systemIn bytes) (pathBy words′ width (y .layer)) (y .next) (progressOf plan′ (y .progress))

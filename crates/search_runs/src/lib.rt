@@ -9,10 +9,11 @@ ghost use Rattle.search_runs.specs.Runs.{Runnable, Runs};
 ghost use Rattle.search_runs.specs.Widths.{beginsAt, RoundJudged};
 use crate::judges::Judgement;
 use crate::judges::judge;
-use beam_order::slots::F_AT;
 use beam_order::slots::SLOT_WORDS;
+use beam_order::slots::f_in;
 use beam_widths::next_place;
 use beam_widths::width_at;
+use costs::hours;
 use outline::layout::PREPARED_WORDS;
 use search_expansion::trials::Best;
 use search_rounds::round;
@@ -45,10 +46,11 @@ fn begin(progress: Progress, width: usize) -> Progress
 {
     let best = progress.best;
     let tally = progress.tally;
+    let low = progress.low;
     let more = begun(tally, width as u64);
     Progress {
         best: best,
-        low: progress.low,
+        low: low,
         tally: more,
     }
 }
@@ -111,10 +113,10 @@ pub fn rounds(
     let unbegun = Progress {
         best: Best {
             found: false,
-            cost: 0,
+            cost: hours(0),
             length: 0,
         },
-        low: root[F_AT],
+        low: f_in(root, 0),
         tally: Tally {
             expansions: 0,
             rounds: 0,

@@ -7,6 +7,7 @@ use native.Mathlib.Numerals.{add-one}
 use lib.ListN.{length, take, drop}
 use Rattle.laws.specs.Lists.{All}
 use Rattle.model.specs.Meaning.{State}
+use Rattle.model.specs.declared.Cost.{Cost}
 use Rattle.search.specs.Search.{Node, Result, andThen, visit, layer}
 use Rattle.search.specs.Search as S
 use Rattle.beam_order.specs.Slots.{wordsIn, nextAt, nextEnd}
@@ -42,7 +43,7 @@ halfway-first bytes outline words plan w budget limit k n x r =
     record { ready = r; within = omega arith; round-same = refl; room-same = refl; plan-same = refl; current = refl; rows = refl; same = rw z }
 
 module _ {bytes outline words plan words′ plan′ : List ℕ} {w budget limit k n i : ℕ} {x x′ : Round} (h : Halfway bytes outline words plan words′ plan′ w budget limit k n i x x′) where
-  abbrev rest : (m j : ℕ) → S.Round State ℕ → Result (S.Round State ℕ) ℕ
+  abbrev rest : (m j : ℕ) → S.Round State Cost → Result (S.Round State Cost) Cost
   rest m j r = layer (costsIn bytes) (systemIn bytes) budget w (limit - k) (nodesFrom bytes (pathBy words w k) words m j) r
 
   pub layer-done : n ≤ i → Leaves bytes outline words words′ plan plan′ w limit k x (record { round = x′; next = N.On }) (layer (costsIn bytes) (systemIn bytes) budget w (limit - k) (currentOf bytes words w k n))
@@ -67,7 +68,7 @@ module _ {bytes outline words plan words′ plan′ : List ℕ} {w budget limit 
       (l : Leaves bytes outline words′ words″ plan′ plan″ w limit k x′ y (visit (costsIn bytes) (systemIn bytes) budget w (limit - k) (systemIn bytes .status (nodeAt bytes (pathBy words′ w k) i (wordsIn words′ i) .state)) (nodeAt bytes (pathBy words′ w k) i (wordsIn words′ i))))
       (words-long : length words″ ≡ length words′) (plan-long : length plan″ ≡ length plan′)
     where
-      abbrev next-node : Node State ℕ
+      abbrev next-node : Node State Cost
       next-node = nodeAt bytes (pathBy words w k) i (wordsIn words i)
 
       some-width : 0 < w
@@ -84,7 +85,7 @@ module _ {bytes outline words plan words′ plan′ : List ℕ} {w budget limit 
           slots (l .same))
 
       turned : layer (costsIn bytes) (systemIn bytes) budget w (limit - k) (currentOf bytes words w k n) (roundIn bytes words plan w k x) ≡ andThen (resultOf (pathBy words w k) (y .next) (roundIn bytes words″ plan″ w k (y .round))) (λ r. rest (n - suc i) (suc i) r)
-      turned = h .same ∙ one-more ∙ ap (λ (q : Result (S.Round State ℕ) ℕ). andThen q (λ r. rest (n - suc i) (suc i) r)) visited
+      turned = h .same ∙ one-more ∙ ap (λ (q : Result (S.Round State Cost) Cost). andThen q (λ r. rest (n - suc i) (suc i) r)) visited
         where
           one-more : rest (n - i) i (roundIn bytes words′ plan′ w k x′) ≡ andThen (visit (costsIn bytes) (systemIn bytes) budget w (limit - k) (systemIn bytes .status (next-node .state)) next-node (roundIn bytes words′ plan′ w k x′)) (λ r. rest (n - suc i) (suc i) r)
           one-more =

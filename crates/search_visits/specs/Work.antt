@@ -8,6 +8,8 @@ use lib.ListN.{length, take, drop}
 use Rattle.laws.specs.Lists.{All}
 use Rattle.model.specs.Numbers.{rangeEnd, mostSteps}
 use Rattle.model.specs.Meaning.{State}
+use Rattle.model.specs.declared.Cost.{Cost}
+use Rattle.model.specs.Costs.{CostUpTo}
 use Rattle.search.specs.Answer as A
 use Rattle.search.specs.Search.{Node, Route, Result, on, over, decided, refused}
 use Rattle.search.specs.Search as S
@@ -38,22 +40,22 @@ verdictOf W.BudgetSpent = A.budgetSpent
 verdictOf W.Contradicted = A.contradicted
 
 -- plan: the bytes whose first ones are the best plan's
-unfoldable pub bestOf : (plan : List ℕ) → Best → Option (Route ℕ)
+unfoldable pub bestOf : (plan : List ℕ) → Best → Option (Route Cost)
 bestOf plan b = cond (b .found) (some (record { cost = b .cost; path = reverse (take (b .length) plan) })) none
 
-unfoldable pub progressOf : (plan : List ℕ) → Progress → S.Progress ℕ
+unfoldable pub progressOf : (plan : List ℕ) → Progress → S.Progress Cost
 progressOf plan p = record { best = bestOf plan (p .best); low = p .low; expansions = p .tally .expansions }
 
-unfoldable pub roundOf : (kept : List (Node State ℕ)) (plan : List ℕ) → Round → S.Round State ℕ
+unfoldable pub roundOf : (kept : List (Node State Cost)) (plan : List ℕ) → Round → S.Round State Cost
 roundOf kept plan x = record { kept = kept; widthMark = x .marks .width; lengthMark = x .marks .length; improved = x .improved; progress = progressOf plan (x .progress) }
 
 -- path: the path to each slot of the layer
-unfoldable pub endingOf : (path : ℕ → List ℕ) → Ending → S.Ending ℕ
+unfoldable pub endingOf : (path : ℕ → List ℕ) → Ending → S.Ending Cost
 endingOf path (E.Decided v) = decided (verdictOf v)
 endingOf path (E.At e c i) = refused e (record { cost = c; path = path i })
 endingOf path (E.Beyond e c i t) = refused e (record { cost = c; path = t ∷ path i })
 
-unfoldable pub resultOf : (path : ℕ → List ℕ) → Next → S.Round State ℕ → Result (S.Round State ℕ) ℕ
+unfoldable pub resultOf : (path : ℕ → List ℕ) → Next → S.Round State Cost → Result (S.Round State Cost) Cost
 resultOf path N.On r = on r
 resultOf path (N.Over e) r = over (record { ending = endingOf path e; progress = r .progress })
 
@@ -62,30 +64,30 @@ abbrev pub roundBegun : Progress → ℕ × ℕ
 roundBegun p = (p .tally .rounds, p .tally .width)
 
 -- the round that the working words and the code's record stand for, in layer k of a round of width w
-abbrev pub roundIn : (bytes words plan : List ℕ) (w k : ℕ) → Round → S.Round State ℕ
+abbrev pub roundIn : (bytes words plan : List ℕ) (w k : ℕ) → Round → S.Round State Cost
 roundIn bytes words plan w k x = roundOf (nodesOf w (nextOf w words) bytes (pathBy words w k) (x .count)) plan x
 
 -- the node with these words, in slot i of layer k
-abbrev pub nodeIn : (bytes words : List ℕ) (w k i : ℕ) (node : List ℕ) → Node State ℕ
+abbrev pub nodeIn : (bytes words : List ℕ) (w k i : ℕ) (node : List ℕ) → Node State Cost
 nodeIn bytes words w k i node = nodeAt bytes (pathBy words w k) i node
 
 -- rules 2 to 4 in the model that stands in the bytes, `left` being the steps left to the limit: an expansion, which counts from its
 -- start; an unfinished state; any state; the nodes of a layer
-abbrev pub countedIn : (bytes : List ℕ) (w : ℕ) → Node State ℕ → S.Round State ℕ → Result (S.Round State ℕ) ℕ
+abbrev pub countedIn : (bytes : List ℕ) (w : ℕ) → Node State Cost → S.Round State Cost → Result (S.Round State Cost) Cost
 countedIn bytes w n r = expandIn bytes w n (S.counted (costsIn bytes) (systemIn bytes) r)
 
-abbrev pub advanceIn : (bytes : List ℕ) (budget w left : ℕ) → Node State ℕ → S.Round State ℕ → Result (S.Round State ℕ) ℕ
+abbrev pub advanceIn : (bytes : List ℕ) (budget w left : ℕ) → Node State Cost → S.Round State Cost → Result (S.Round State Cost) Cost
 advanceIn bytes budget w left = S.advance (costsIn bytes) (systemIn bytes) budget w left
 
-abbrev pub visitIn : (bytes : List ℕ) (budget w left : ℕ) → Node State ℕ → S.Round State ℕ → Result (S.Round State ℕ) ℕ
+abbrev pub visitIn : (bytes : List ℕ) (budget w left : ℕ) → Node State Cost → S.Round State Cost → Result (S.Round State Cost) Cost
 visitIn bytes budget w left n = S.visit (costsIn bytes) (systemIn bytes) budget w left (systemIn bytes .status (n .state)) n
 
-abbrev pub layerIn : (bytes : List ℕ) (budget w left : ℕ) → List (Node State ℕ) → S.Round State ℕ → Result (S.Round State ℕ) ℕ
+abbrev pub layerIn : (bytes : List ℕ) (budget w left : ℕ) → List (Node State Cost) → S.Round State Cost → Result (S.Round State Cost) Cost
 layerIn bytes budget w left = S.layer (costsIn bytes) (systemIn bytes) budget w left
 
--- g of the node: each of k steps, those before the root included, has added less than the end of the numbers' range
-abbrev pub Within : (k : ℕ) → Node State ℕ → Type 0
-Within k m = m .g ≤ k * rangeEnd
+-- g of the node: each of k steps, those before the root included, has added less than the end of the numbers' range to each part
+abbrev pub Within : (k : ℕ) → Node State Cost → Type 0
+Within k m = CostUpTo (k * rangeEnd) (m .g)
 
 -- what the code needs of a round in layer k, which has n nodes. before: the steps made before the root
 pub record Ready (bytes outline words plan : List ℕ) (w limit k n : ℕ) (x : Round) : Type 0 where
@@ -112,7 +114,7 @@ Inside w limit k (N.Over e) = EndsInside w limit k e
 
 -- rule: what the definition does with the round before; it goes on with the one after, or the run is over.
 -- The current layer and the back pointers stay
-pub record Leaves (bytes outline words words′ plan plan′ : List ℕ) (w limit k : ℕ) (x : Round) (y : Visited) (rule : S.Round State ℕ → Result (S.Round State ℕ) ℕ) : Type 0 where
+pub record Leaves (bytes outline words words′ plan plan′ : List ℕ) (w limit k : ℕ) (x : Round) (y : Visited) (rule : S.Round State Cost → Result (S.Round State Cost) Cost) : Type 0 where
   pub held : Indexed outline w (y .round .count) (nextOf w words′)
   pub best-fits : y .round .progress .best .length ≤ limit
   pub round-same : roundBegun (y .round .progress) ≡ roundBegun (x .progress)

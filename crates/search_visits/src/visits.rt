@@ -15,13 +15,15 @@ use crate::work::Round;
 use crate::work::Spot;
 use crate::work::Verdict;
 use crate::work::Visited;
-use beam_order::slots::F_AT;
-use beam_order::slots::G_AT;
 use beam_order::slots::NEXT_AT;
 use beam_order::slots::NEXT_END;
 use beam_order::slots::SLOT_WORDS;
 use beam_order::slots::STATE_AT;
+use beam_order::slots::f_in;
+use beam_order::slots::g_in;
+use costs::at_most;
 use laws::copy_words;
+use model::Cost;
 use outline::layout::PREPARED_WORDS;
 use outline::layout::STATE_WORDS;
 use search_expansion::children::below_best;
@@ -38,7 +40,7 @@ use steps::answers::StatusAnswer;
 use steps::conditions::status;
 
 // Rule 2: a plan of k steps and cost g becomes best; the run is over if g is at most low.
-fn new_best(k: usize, g: u64, round: Round) -> Visited
+fn new_best(k: usize, g: Cost, round: Round) -> Visited
     ensures { λ r. ⌜ NewBest k g round r ⌝ }
 {
     let low = round.progress.low;
@@ -58,8 +60,8 @@ fn new_best(k: usize, g: u64, round: Round) -> Visited
             tally: tally,
         },
     };
-    if g <= low {
-        if low <= g {
+    if at_most(g, low) {
+        if at_most(low, g) {
             return Visited {
                 round: improved,
                 next: Next::Over(Ending::Decided(Verdict::Cheapest)),
@@ -77,7 +79,7 @@ fn new_best(k: usize, g: u64, round: Round) -> Visited
 }
 
 // Rule 2: the base state at a spot, its path costing g; the plan is written if it is best.
-fn reached(words: &[u64], plan: &mut [u8], w: usize, spot: Spot, g: u64, round: Round) -> Visited
+fn reached(words: &[u64], plan: &mut [u8], w: usize, spot: Spot, g: Cost, round: Round) -> Visited
     requires { ⌜ Traceable (now plan) w (spot .layer) × (spot .slot < w) ⌝ }
     ensures { λ r. ⌜ Reached (now (words .entry)) (now (plan .entry)) (now (plan .exit)) w (spot .layer) (spot .slot) g round r ⌝ }
 {
@@ -94,7 +96,7 @@ fn reached(words: &[u64], plan: &mut [u8], w: usize, spot: Spot, g: u64, round: 
 }
 
 // Rule 3: a state at the limit sets the length mark if its f is below the best cost.
-fn at_limit(f: u64, round: Round) -> Round
+fn at_limit(f: Cost, round: Round) -> Round
     ensures { λ r. ⌜ Limited f round r ⌝ }
 {
     let best = round.progress.best;
@@ -120,6 +122,7 @@ fn count_one(round: Round) -> Round
     let best = round.progress.best;
     let marks = round.marks;
     let tally = round.progress.tally;
+    let low = round.progress.low;
     let more = counted(tally);
     Round {
         count: round.count,
@@ -127,14 +130,14 @@ fn count_one(round: Round) -> Round
         improved: round.improved,
         progress: Progress {
             best: best,
-            low: round.progress.low,
+            low: low,
             tally: more,
         },
     }
 }
 
 // What the expansion of the node in slot i, its path costing g, makes of the round.
-fn told(g: u64, i: usize, x: Expanded, round: Round) -> Visited
+fn told(g: Cost, i: usize, x: Expanded, round: Round) -> Visited
     ensures { λ r. ⌜ Told g i x round r ⌝ }
 {
     let progress = round.progress;
@@ -182,7 +185,7 @@ fn expand_node(
     let i = spot.slot;
     let n = round.count;
     let best = round.progress.best;
-    let g = node[G_AT];
+    let g = g_in(node, 0);
     let mut state = [0u64; STATE_WORDS];
     copy_words(&node[STATE_AT..], &mut state);
     let parent = Parent {
@@ -211,8 +214,9 @@ fn advance(
     ensures { λ r. ⌜ Keeps (now (model .entry)) (now (outline .entry)) (now (words .entry)) (now (words .exit)) (limits .width) (limits .length) (spot .layer) round r (advanceIn (now (model .entry)) (limits .budget) (limits .width) (limits .length - spot .layer) (nodeIn (now (model .entry)) (now (words .entry)) (limits .width) (spot .layer) (spot .slot) (now (node .entry)))) ⌝ }
 {
     if spot.layer == limits.length {
+        let f = f_in(node, 0);
         return Visited {
-            round: at_limit(node[F_AT], round),
+            round: at_limit(f, round),
             next: Next::On,
         };
     }
@@ -239,7 +243,7 @@ fn visit_node(
     requires { ⌜ Met (now model) (now outline) (now words) (now node) (limits .width) (limits .length) (spot .layer) (spot .slot) round × (limits .length ≤ length (now plan)) ⌝ }
     ensures { λ r. ⌜ Leaves (now (model .entry)) (now (outline .entry)) (now (words .entry)) (now (words .exit)) (now (plan .entry)) (now (plan .exit)) (limits .width) (limits .length) (spot .layer) round r (visitIn (now (model .entry)) (limits .budget) (limits .width) (limits .length - spot .layer) (nodeIn (now (model .entry)) (now (words .entry)) (limits .width) (spot .layer) (spot .slot) (now (node .entry)))) ⌝ }
 {
-    let g = node[G_AT];
+    let g = g_in(node, 0);
     let mut state = [0u64; STATE_WORDS];
     copy_words(&node[STATE_AT..], &mut state);
     match status(model, outline, &state) {

@@ -1,5 +1,6 @@
 // What a round and a run bring forward, beside the working words and the bytes of the best plan.
 
+use model::Cost;
 use search_expansion::trials::Best;
 use search_tally::Tally;
 
@@ -16,7 +17,7 @@ pub enum Verdict {
 // What lasts over rounds: the best plan, low, the tally of the run.
 pub struct Progress {
     pub best: Best,
-    pub low: u64,
+    pub low: Cost,
     pub tally: Tally,
 }
 
@@ -51,8 +52,8 @@ pub struct Round {
 // child by a transition.
 pub enum Ending {
     Decided(Verdict),
-    At(u8, u64, usize),
-    Beyond(u8, u64, usize, usize),
+    At(u8, Cost, usize),
+    Beyond(u8, Cost, usize, usize),
 }
 
 // The round goes on, or the run is over.

@@ -10,6 +10,8 @@ use lib.ListN.{length, drop, getD, take}
 use lib.Dec.{leb}
 use borrow.Author.Tests.{le-leb, lt-leb, leb-true}
 use Rattle.laws.proofs.Bools.{and-both}
+use Rattle.model.specs.declared.Cost.{Cost}
+use Rattle.model.specs.Costs.{free, hours}
 use Rattle.model.specs.Numbers.{mostSteps}
 use Rattle.model.specs.Values.{Value, value, trouble}
 use Rattle.model.specs.Readers.{Read, read, refused}
@@ -23,15 +25,15 @@ use Rattle.search.specs.Answer.{noPlan, verdict, byState, byInput, bufferAfter}
 use Rattle.search.specs.Search as S
 use Rattle.search.specs.Search.{root, search, searchWithin, enter, begin}
 use Rattle.search.specs.Demands.{Demands}
-use Rattle.search.specs.Run.{Beam, upTo, listed, Form, plain, Settings, widerUpTo, rising, widestOf, limitOf, beamFits, formFits, settingsFit, wordsNeeded, lentFits, lentBefore, accepts, refusedByInput, searchModel, runSet}
+use Rattle.search.specs.Run.{Beam, upTo, listed, Form, plain, Settings, widerUpTo, rising, widestOf, limitOf, beamFits, formFits, settingsFit, wordsNeeded, lentFits, lentBefore, accepts, refusedByInput, searchModel, runSet, inHours}
 use Rattle.search.proofs.Settings.{built-in-rises, last-fits, limit-within}
 use Rattle.search.proofs.Source.{run-bad-setting, run-bad-widths, run-set, set-lent-behind, set-searched}
 use Rattle.search.proofs.Targets.{broken-start, troubled-start, unbounded-start}
 use Rattle.search.proofs.Counts.{never-by-input}
-use Rattle.search.proofs.Mission.{run-meets-demands, steps-fit-buffer, refusal-changes-no-buffer, built-in-set}
+use Rattle.search.proofs.Mission.{every-run-ends, run-meets-demands, steps-fit-buffer, refusal-changes-no-buffer, built-in-set}
 use Rattle.beam_widths.specs.Lists.{BuiltIn}
 use Rattle.beam_widths.proofs.Rising.{widths, built-in-none, built-in-some}
-use Rattle.steps.specs.InBytes.{refusalIn, systemIn, stateIn, targetIn, originIn}
+use Rattle.steps.specs.InBytes.{refusalIn, systemIn, boundIn, stateIn, targetIn, originIn}
 use Rattle.steps.specs.Follow.{costsIn}
 use Rattle.steps.specs.Answers.{heldAnswer, boundAnswer}
 use Rattle.steps.specs.declared.answers.HeldAnswer.{HeldAnswer}
@@ -42,13 +44,13 @@ use Rattle.beam.specs.Nodes.{headerOf, nodeAt}
 use Rattle.search_paths.specs.Routes.{RootIs}
 use Rattle.search_rounds.specs.Rounds.{RoomFor}
 use Rattle.search_runs.specs.Runs.{Runs}
-use Rattle.search_report.specs.Answers.{AnswerIs, stopAnswer, Reports, numbersOf}
+use Rattle.search_report.specs.Answers.{AnswerIs, stopAnswer, Reports, numbersOf, answerIn}
 use Rattle.solver.specs.Searches.{searchIn, SearchSays, SetSays, lentOf, lent, runOf, Searched, enteredOf, endedAtTarget}
 use Rattle.solver.specs.declared.entry.Entered.{Entered}
 use Rattle.solver.specs.declared.entry.Entered.the-variants as E
 use Rattle.search_report.specs.declared.answers.Answer.{Answer}
 use Rattle.search_runs.specs.declared.Stop.{Stop}
-use Rattle.steps.proofs.Promises.{cost-laws, cost-empty, origin-start, origin-spent}
+use Rattle.steps.proofs.Promises.{cost-laws, cost-empty, bound-hours, bound-troubles, origin-start, origin-spent}
 use Rattle.steps.proofs.Trials.{all-held, one-fails, one-troubles}
 use Rattle.search_report.proofs.Reporting.{answer-same}
 use Rattle.search_report.proofs.Numbers.{in-numbers, read-back}
@@ -118,7 +120,7 @@ module _ (bytes : List ℕ) where
   admitted = systemIn bytes .admits (targetIn bytes)
 
   abbrev pub bounded : Value ℕ
-  bounded = systemIn bytes .bound (targetIn bytes)
+  bounded = boundIn bytes (targetIn bytes)
 
 -- what the code has found of the target's words
 module _ (bytes target : List ℕ) (at-target : stateIn bytes target ≡ targetIn bytes) (q : HeldAnswer) (tried : q ≡ heldAnswer (systemIn bytes .admits (stateIn bytes target)) 0) where
@@ -133,9 +135,9 @@ module _ (bytes target : List ℕ) (at-target : stateIn bytes target ≡ targetI
   unfolding enteredOf
   enter-trouble e = rw (one-troubles (admitted bytes) 0 (held ∙ e))
 
-  module _ {i : ℕ} (all : q ≡ H.All i) (r : BoundAnswer) (says : r ≡ boundAnswer (systemIn bytes .bound (stateIn bytes target))) where
+  module _ {i : ℕ} (all : q ≡ H.All i) (r : BoundAnswer) (says : r ≡ boundAnswer (boundIn bytes (stateIn bytes target))) where
     valued : boundAnswer (bounded bytes) ≡ r
-    valued = ap (λ s. boundAnswer (systemIn bytes .bound s)) (sym at-target) ∙ sym says
+    valued = ap (λ s. boundAnswer (boundIn bytes s)) (sym at-target) ∙ sym says
 
     pub enter-bounded : {h : ℕ} → r ≡ B.Value h → E.Bounded h ≡ enteredOf (admitted bytes) (bounded bytes)
     unfolding enteredOf
@@ -148,24 +150,24 @@ module _ (bytes target : List ℕ) (at-target : stateIn bytes target ≡ targetI
 -- ---- the search of a model that was read
 
 module _ (bytes widths : List ℕ) (limit budget : ℕ) where
-  abbrev searched : A.Answer ℕ
+  abbrev searched : A.Answer Cost
   searched = searchIn bytes widths limit budget
 
   abbrev first : ℕ
   first = getD widths 0 0
 
-  nothing-spent : (h : ℕ) → costsIn bytes .combine 0 h ≡ h
-  nothing-spent h = ap (λ (c : ℕ). costsIn bytes .combine c h) (sym (cost-empty bytes)) ∙ cost-laws bytes .left-unit h
+  nothing-spent : (h : Cost) → costsIn bytes .combine free h ≡ h
+  nothing-spent h = ap (λ (c : Cost). costsIn bytes .combine c h) (sym (cost-empty bytes)) ∙ cost-laws bytes .left-unit h
 
   -- the words of the target, as the root
-  pub target-root : (target : List ℕ) (h : ℕ) → stateIn bytes target ≡ targetIn bytes → RootIs bytes (headerOf 0 h h 0 ++ target) (originIn bytes) h
+  pub target-root : (target : List ℕ) (h : ℕ) → stateIn bytes target ≡ targetIn bytes → RootIs bytes (headerOf free h (hours h) 0 ++ target) (originIn bytes) (hours h)
   unfolding nodeAt root
-  target-root target h e = record { node = rw (e, origin-start bytes, origin-spent bytes, nothing-spent h) }
+  target-root target h e = record { node = rw (e, origin-start bytes, origin-spent bytes, nothing-spent (hours h)) }
 
   with-bound : (a : Value Bool) (b : Value ℕ) (h : ℕ) → admitted bytes ≡ a → bounded bytes ≡ b → enteredOf a b ≡ E.Bounded h
-      → searched ≡ S.rounds (costsIn bytes) (systemIn bytes) (suc budget) budget limit first (drop 1 widths) 1 (root (costsIn bytes) (systemIn bytes) (originIn bytes) h) (record { best = none; low = costsIn bytes .combine (originIn bytes .spent) h; expansions = 0 })
+      → searched ≡ S.rounds (costsIn bytes) (systemIn bytes) (suc budget) budget limit first (drop 1 widths) 1 (root (costsIn bytes) (systemIn bytes) (originIn bytes) (hours h)) (record { best = none; low = costsIn bytes .combine (originIn bytes .spent) (hours h); expansions = 0 })
   unfolding enteredOf search searchWithin enter begin
-  with-bound (value true) (value x) h p q e = let same : x ≡ h = cc in rw (origin-start bytes, p, q, same)
+  with-bound (value true) (value x) h p q e = let same : x ≡ h = cc in rw (origin-start bytes, p, bound-hours bytes (targetIn bytes) q, same)
   with-bound (value true) (trouble t) h p q e = let z : _≡_ {A = ℕ} 0 1 = cc in absurd (omega arith)
   with-bound (value false) b h p q e = let z : _≡_ {A = ℕ} 0 1 = cc in absurd (omega arith)
   with-bound (trouble t) b h p q e = let z : _≡_ {A = ℕ} 0 1 = cc in absurd (omega arith)
@@ -183,20 +185,20 @@ module _ (bytes widths : List ℕ) (limit budget : ℕ) where
   troubled : (a : Value Bool) (b : Value ℕ) (t : ℕ) → admitted bytes ≡ a → bounded bytes ≡ b → enteredOf a b ≡ E.Trouble t → searched ≡ endedAtTarget first (byState t)
   unfolding enteredOf
   troubled (value true) (value x) t p q e = let z : _≡_ {A = ℕ} 0 1 = cc in absurd (omega arith)
-  troubled (value true) (trouble u) t p q e = let same : u ≡ t = cc in rw (sym same) (unbounded-start (costsIn bytes) (systemIn bytes) (originIn bytes) budget limit first (drop 1 widths) (at-origin (systemIn bytes .admits) p) (at-origin (systemIn bytes .bound) q) ∙ rw (origin-spent bytes, cost-empty bytes))
+  troubled (value true) (trouble u) t p q e = let same : u ≡ t = cc in rw (sym same) (unbounded-start (costsIn bytes) (systemIn bytes) (originIn bytes) budget limit first (drop 1 widths) (at-origin (systemIn bytes .admits) p) (at-origin (systemIn bytes .bound) (bound-troubles bytes (targetIn bytes) q)) ∙ rw (origin-spent bytes, cost-empty bytes))
   troubled (value false) b t p q e = let z : _≡_ {A = ℕ} 0 1 = cc in absurd (omega arith)
   troubled (trouble u) b t p q e = let same : u ≡ t = cc in rw (sym same) (troubled-start (costsIn bytes) (systemIn bytes) (originIn bytes) budget limit first (drop 1 widths) (at-origin (systemIn bytes .admits) p) ∙ rw (origin-spent bytes, cost-empty bytes))
 
   module _ (plan plan′ : List ℕ) (x : Answer) (q : Entered) (entered : q ≡ enteredOf (admitted bytes) (bounded bytes)) where
     pub says-run : (h : ℕ) → q ≡ E.Bounded h
-        → (at words best : List ℕ) (stop : Stop) → RootIs bytes at (originIn bytes) h → Runs bytes at words best widths budget limit stop → Reports words best plan plan′ stop x → SearchSays bytes plan plan′ widths limit budget x
+        → (at words best : List ℕ) (stop : Stop) → RootIs bytes at (originIn bytes) (hours h) → Runs bytes at words best widths budget limit stop → Reports words best plan plan′ stop x → SearchSays bytes plan plan′ widths limit budget x
     says-run h e at words best stop at-root runs r =
-        let same : searched ≡ stopAnswer bytes words best stop = with-bound (admitted bytes) (bounded bytes) h refl refl (sym entered ∙ e) ∙ runs .same (originIn bytes) h at-root in
-        record { answer = answer-same x same (r .answer bytes); plan-after = r .plan-after bytes ∙ ap (λ (a : A.Answer ℕ). bufferAfter a plan) (sym same) }
+        let same : searched ≡ stopAnswer bytes words best stop = with-bound (admitted bytes) (bounded bytes) h refl refl (sym entered ∙ e) ∙ runs .same (originIn bytes) (hours h) at-root in
+        record { answer = answer-same x same (r .answer bytes); plan-after = r .plan-after bytes ∙ ap (λ (a : A.Answer Cost). bufferAfter a plan) (sym same) }
 
     says-ended : (o : A.Outcome) (w : ℕ) → w ≡ first → searched ≡ endedAtTarget first o → plan′ ≡ plan → AnswerIs (endedAtTarget w o) x → SearchSays bytes plan plan′ widths limit budget x
     unfolding bufferAfter
-    says-ended o w there same kept r = record { answer = answer-same x same (rw there at r); plan-after = kept ∙ ap (λ (a : A.Answer ℕ). bufferAfter a plan) (sym same) }
+    says-ended o w there same kept r = record { answer = answer-same x same (rw there at r); plan-after = kept ∙ ap (λ (a : A.Answer Cost). bufferAfter a plan) (sym same) }
 
     pub says-broken : (w : ℕ) → w ≡ first → q ≡ E.Broken → plan′ ≡ plan → AnswerIs (endedAtTarget w (verdict noPlan)) x → SearchSays bytes plan plan′ widths limit budget x
     says-broken w there e = says-ended (verdict noPlan) w there (broken (admitted bytes) (bounded bytes) refl (sym entered ∙ e))
@@ -222,8 +224,8 @@ module _ (most : ℕ) (bytes plan words : List ℕ) (q : Settings) where
   told plan′ words′ x is after kept =
       let meets = run-meets-demands most bytes q (lent plan words) in
       let fields = in-numbers (runOf most bytes plan words q) x is in
-      let same = read-back (runOf most bytes plan words q) (numbersOf x) plan plan′ (meets .ends) (steps-fit-buffer most bytes q (lent plan words)) fields after in
-      let outcome = ap (λ (a : A.Answer ℕ). a .outcome) same in
+      let same = read-back (runOf most bytes plan words q) (numbersOf x) plan plan′ (every-run-ends most bytes q (lent plan words)) (steps-fit-buffer most bytes q (lent plan words)) fields after in
+      let outcome : answerIn (numbersOf x) plan′ .outcome ≡ runOf most bytes plan words q .outcome = ap (λ (a : A.Answer ℕ). a .outcome) same ∙ (unfold inHours in refl) in
       record {
         fields = fields;
         plan-after = after;
@@ -262,8 +264,8 @@ module _ (bytes plan words ws : List ℕ) (f : Form) (b : ℕ) where
         let told = subst (λ k. SearchSays bytes plan plan′ ws k b x) chosen says in
         record {
           answer = answer-same x same (told .answer);
-          plan-after = told .plan-after ∙ ap (λ (a : A.Answer ℕ). bufferAfter a plan) (sym same);
-          kept = λ t e. absurd (never-by-input (costsIn bytes) (systemIn bytes) (originIn bytes) b (limitOf f (modelOf bytes)) (getD ws 0 0) (drop 1 ws) t (ap (λ (a : A.Answer ℕ). a .outcome) (sym same) ∙ e));
+          plan-after = told .plan-after ∙ ap (λ (a : A.Answer Cost). bufferAfter a plan) (sym same);
+          kept = λ t e. absurd (never-by-input (costsIn bytes) (systemIn bytes) (originIn bytes) b (limitOf f (modelOf bytes)) (getD ws 0 0) (drop 1 ws) t (ap (λ (a : A.Answer Cost). a .outcome) (sym same) ∙ e));
         }
 
 -- ---- the settings, in front of it
@@ -273,8 +275,8 @@ module _ (most : ℕ) (bytes plan words : List ℕ) (q : Settings) where
   pub set-told : (q′ : Settings) → runOf most bytes plan words q ≡ runSet bytes q′ (lent plan words) → (plan′ words′ : List ℕ) (x : Answer) → SetSays bytes plan plan′ words words′ q′ x
       → Searched most bytes plan plan′ words words′ q (numbersOf x)
   set-told q′ same plan′ words′ x says =
-      told most bytes plan words q plan′ words′ x (answer-same x same (says .answer)) (says .plan-after ∙ ap (λ (a : A.Answer ℕ). bufferAfter a plan) (sym same))
-      (λ t e. says .kept t (ap (λ (a : A.Answer ℕ). a .outcome) (sym same) ∙ e))
+      told most bytes plan words q plan′ words′ x (answer-same x same (says .answer)) (says .plan-after ∙ ap (λ (a : A.Answer Cost). bufferAfter a plan) (sym same))
+      (λ t e. says .kept t (ap (λ (a : A.Answer Cost). a .outcome) (sym same) ∙ e))
 
 -- with W: the built-in widths, n of them
 module _ (most : ℕ) (bytes plan words : List ℕ) (w b n : ℕ) (f : Form) (few : length bytes ≤ most) (fits : formFits f ≡ true) (is : BuiltIn w n) where

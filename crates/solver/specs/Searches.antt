@@ -4,12 +4,14 @@ use mathlib.Core.Path.{_≡_}
 use mathlib.Core.Bool.{Bool, true, false}
 use mathlib.Core.List.{List, []}
 use lib.ListN.{length, getD, drop}
+use Rattle.model.specs.declared.Cost.{Cost}
+use Rattle.model.specs.Costs.{free}
 use Rattle.model.specs.Numbers.{mostModelBytes, mostSteps}
 use Rattle.model.specs.Values.{Value, value, trouble}
 use Rattle.search.specs.Answer as A
 use Rattle.search.specs.Answer.{byInput, bufferAfter}
 use Rattle.search.specs.Search.{search}
-use Rattle.search.specs.Run.{Settings, upTo, listed, plain, loading, Lent, rising, widestOf, runSet, run}
+use Rattle.search.specs.Run.{Settings, upTo, listed, plain, loading, Lent, rising, widestOf, runSet, run, inHours}
 use Rattle.search.specs.Demands.{Demands}
 use Rattle.steps.specs.InBytes.{Outlined, systemIn, originIn}
 use Rattle.steps.specs.Follow.{costsIn}
@@ -28,8 +30,8 @@ enteredOf (value false) bound = E.Broken
 enteredOf (trouble t) bound = E.Trouble t
 
 -- the answer of a run that ends at the target, in round 1 at this width, before anything is found
-abbrev pub endedAtTarget : (width : ℕ) → A.Outcome → A.Answer ℕ
-endedAtTarget width o = record { outcome = o; flag = false; cost = 0; bound = 0; steps = []; tally = record { expansions = 0; rounds = 1; width = width } }
+abbrev pub endedAtTarget : (width : ℕ) → A.Outcome → A.Answer Cost
+endedAtTarget width o = record { outcome = o; flag = false; cost = free; bound = free; steps = []; tally = record { expansions = 0; rounds = 1; width = width } }
 
 -- what the search of a model needs: that it was read, room for its widest round, widths that rise, a budget in its range
 pub record Searchable (bytes outline words plan widths : List ℕ) (limit budget : ℕ) : Type 0 where
@@ -39,7 +41,7 @@ pub record Searchable (bytes outline words plan widths : List ℕ) (limit budget
   pub small-budget : budget < 2 ^ 32
 
 -- the search of the model that stands in the bytes, at the widths of a list
-abbrev pub searchIn : (bytes widths : List ℕ) (limit budget : ℕ) → A.Answer ℕ
+abbrev pub searchIn : (bytes widths : List ℕ) (limit budget : ℕ) → A.Answer Cost
 searchIn bytes widths limit budget = search (costsIn bytes) (systemIn bytes) budget limit (getD widths 0 0) (drop 1 widths) (originIn bytes)
 
 pub record SearchSays (bytes plan plan′ widths : List ℕ) (limit budget : ℕ) (x : Answer) : Type 0 where
@@ -81,13 +83,13 @@ pub record SetSays (bytes plan plan′ words words′ : List ℕ) (q : Settings)
   pub kept : (t : ℕ) → runSet bytes q (lent plan words) .outcome ≡ byInput t → words′ ≡ words
 
 -- the run of these bytes with these settings and buffers; most: the bytes that a model may have
-abbrev pub runOf : (most : ℕ) (bytes plan words : List ℕ) → Settings → A.Answer ℕ
+abbrev pub runOf : (most : ℕ) (bytes plan words : List ℕ) → Settings → A.Answer Cost
 runOf most bytes plan words q = run most bytes q (lent plan words)
 
 -- what a caller of the search is given, x being the answer in numbers
 pub record Searched (most : ℕ) (bytes plan plan′ words words′ : List ℕ) (q : Settings) (x : Fields) : Type 0 where
   -- "the answer and the plan buffer are as document 01's rules give them"
-  pub fields : FieldsAre (runOf most bytes plan words q) x
+  pub fields : FieldsAre (inHours (runOf most bytes plan words q)) x
   pub plan-after : plan′ ≡ bufferAfter (runOf most bytes plan words q) plan
   -- "Refusing a model or a setting changes no lent buffer"
   pub kept : (t : ℕ) → answerIn x plan′ .outcome ≡ byInput t → (plan′ ≡ plan) × (words′ ≡ words)

@@ -3,7 +3,7 @@
 ghost use mathlib.Core.Path.{_≡_};
 ghost use Prim.Native.Nat.{_≤_};
 ghost use Rattle.search.specs.Run.{plain, formFits, lentFits, refusedByInput};
-ghost use Rattle.steps.specs.InBytes.{Outlined, stateIn, systemIn, targetIn};
+ghost use Rattle.steps.specs.InBytes.{Outlined, stateIn, systemIn, boundIn, targetIn};
 ghost use Rattle.steps.specs.Answers.{boundAnswer};
 ghost use Rattle.search_report.specs.Answers.{AnswerIs, numbersOf, outcomeOf};
 ghost use Rattle.solver.specs.Searches.{Searchable, Searched, Settled, SetSays, settings, listSettings, lentOf, SearchSays, enteredOf, endedAtTarget};
@@ -13,6 +13,7 @@ use beam_widths::WIDTHS;
 use beam_widths::built_in;
 use beam_widths::widest;
 use beam_widths::width_at;
+use costs::hours;
 use outline::layout::PREPARED_WORDS;
 use outline::layout::STATE_WORDS;
 use prepare::read_and_prepare;
@@ -46,7 +47,7 @@ fn target_bound(
     target: &[u64; STATE_WORDS],
 ) -> BoundAnswer
     requires { ⌜ Outlined (now model) (now outline) ⌝ }
-    ensures { λ r. ⌜ r ≡ boundAnswer (systemIn (now (model .entry)) .bound (stateIn (now (model .entry)) (now (target .entry)))) ⌝ }
+    ensures { λ r. ⌜ r ≡ boundAnswer (boundIn (now (model .entry)) (stateIn (now (model .entry)) (now (target .entry)))) ⌝ }
 {
     let mut sums = [0u64; SUM_WORDS];
     forget(&mut sums);
@@ -56,7 +57,7 @@ fn target_bound(
 // Tries the target: its constraints, then its bounds.
 fn enter(model: &[u8], outline: &[u64; PREPARED_WORDS], target: &[u64; STATE_WORDS]) -> Entered
     requires { ⌜ Outlined (now model) (now outline) × (stateIn (now model) (now target) ≡ targetIn (now model)) ⌝ }
-    ensures { λ r. ⌜ r ≡ enteredOf (systemIn (now (model .entry)) .admits (targetIn (now (model .entry)))) (systemIn (now (model .entry)) .bound (targetIn (now (model .entry)))) ⌝ }
+    ensures { λ r. ⌜ r ≡ enteredOf (systemIn (now (model .entry)) .admits (targetIn (now (model .entry)))) (boundIn (now (model .entry)) (targetIn (now (model .entry)))) ⌝ }
 {
     match constraints_hold(model, outline, target) {
         HeldAnswer::All(_) => match target_bound(model, outline, target) {
@@ -115,11 +116,12 @@ fn ended_at_target(outcome: Outcome, width: usize) -> Answer
         width: 0,
     };
     let tally = begun(fresh, width as u64);
+    let nothing = hours(0);
     Answer {
         outcome: outcome,
         flag: false,
-        cost: 0,
-        bound: 0,
+        cost: nothing,
+        bound: nothing,
         length: 0,
         tally: tally,
     }
@@ -129,11 +131,12 @@ fn ended_at_target(outcome: Outcome, width: usize) -> Answer
 pub fn refusal(number: u8) -> Answer
     ensures { λ r. ⌜ AnswerIs (refusedByInput number) r ⌝ }
 {
+    let nothing = hours(0);
     Answer {
         outcome: Outcome::ByInput(number),
         flag: false,
-        cost: 0,
-        bound: 0,
+        cost: nothing,
+        bound: nothing,
         length: 0,
         tally: Tally {
             expansions: 0,

@@ -4,6 +4,7 @@ ghost use mathlib.Core.Path.{_≡_};
 ghost use mathlib.Core.List.{_++_};
 ghost use lib.ListN.{length};
 ghost use Rattle.model.specs.Numbers.{mostVariables};
+ghost use Rattle.model.specs.Costs.{free, hours};
 ghost use Rattle.beam_order.specs.Slots.{slotWords};
 ghost use Rattle.beam.specs.Nodes.{headerOf};
 use beam::slots::write_slot;
@@ -15,7 +16,7 @@ use outline::layout::STATE_WORDS;
 // Writes the words of the root: a state that nothing was spent on, h being its bound.
 pub fn write_root(state: &[u64; STATE_WORDS], h: u64, root: &mut [u64])
     requires { ⌜ (length (now state) ≡ mostVariables) × (length (now root) ≡ slotWords) ⌝ }
-    ensures { λ _. ⌜ now (root .exit) ≡ headerOf 0 h h 0 ++ now (state .entry) ⌝ }
+    ensures { λ _. ⌜ now (root .exit) ≡ headerOf free h (hours h) 0 ++ now (state .entry) ⌝ }
 {
     let mut header = [0u64; HEADER_WORDS];
     header[H_AT] = h;

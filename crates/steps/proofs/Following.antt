@@ -1,5 +1,5 @@
 -- The plan check turn by turn: what one transition comes to, and what is left of the plan.
-use Prim.Native.Nat.{ℕ, _+_, _*_, _≤_, _<_, _^_, max}
+use Prim.Native.Nat.{ℕ, _+_, _*_, _≤_, _<_, _^_}
 use mathlib.Core.Path.{_≡_, refl, sym, ap, _∙_}
 use mathlib.Core.Bool.{Bool, true, false, cond}
 use mathlib.Core.List.{List, _∷_}
@@ -14,8 +14,13 @@ use Rattle.model.specs.Values.{Value, trouble}
 use Rattle.model.specs.System.{Status, base, unfinished, noStatus, Move, blocked, moved, troubleBefore, troubleAfter}
 use Rattle.model.specs.Syntax.{Rule, sum, largest}
 use Rattle.model.specs.Meaning.{State}
-use Rattle.model.specs.Steps.{combine, costsOf, systemOf, move, moveBy}
-use Rattle.model.specs.Check.{final, afterMove, afterStatus, follow, afterConstraints, followFrom, answerNumber, answerCost}
+use Rattle.model.specs.Commands.{ruleOf}
+use Rattle.model.specs.declared.Cost.{Cost}
+use Rattle.model.specs.Costs.{free, combine, costsOf, CostUpTo, CostBelow}
+use Rattle.model.specs.Steps.{systemOf, move, moveBy}
+use Rattle.model.proofs.Ranges.{up-to-less, up-to-below, below-up-to}
+use Rattle.costs.specs.Costs.{Joinable}
+use Rattle.model.specs.Check.{final, afterMove, afterStatus, follow, afterConstraints, followFrom, answerNumber, costGiven}
 use Rattle.outline.specs.Outline.{modelOf, ruleNumber}
 use Rattle.steps.specs.declared.answers.StatusAnswer.the-variants as S
 use Rattle.steps.specs.declared.answers.HeldAnswer.{HeldAnswer}
@@ -31,7 +36,7 @@ use Rattle.steps.specs.Says.{MoveSays}
 use Rattle.steps.specs.Follow.{costsIn, followIn, followFromIn, stepTried, finished, FollowsOn, CheckedIs}
 use Rattle.prepare.proofs.Items.{none-beyond}
 use Rattle.steps.proofs.Trials.{all-held, one-fails, one-troubles}
-use Rattle.steps.proofs.Promises.{combined-at-most, step-cost-below}
+use Rattle.steps.proofs.Promises.{combined-up-to, step-cost-below}
 
 -- ---- answers taken apart
 
@@ -53,28 +58,28 @@ no-status base e = let z : _≡_ {A = ℕ} 0 1 = cc in absurd (omega arith)
 no-status unfinished e = let z : _≡_ {A = ℕ} 0 1 = cc in absurd (omega arith)
 no-status (noStatus t) e = cc
 
-pub is-blocked : (x : Move State ℕ) → moveAnswer x ≡ M.Blocked → x ≡ blocked
+pub is-blocked : (x : Move State Cost) → moveAnswer x ≡ M.Blocked → x ≡ blocked
 unfolding moveAnswer
 is-blocked blocked e = refl
 is-blocked (moved c u) e = let z : _≡_ {A = ℕ} 0 1 = cc in absurd (omega arith)
 is-blocked (troubleBefore t) e = let z : _≡_ {A = ℕ} 0 1 = cc in absurd (omega arith)
 is-blocked (troubleAfter c t) e = let z : _≡_ {A = ℕ} 0 1 = cc in absurd (omega arith)
 
-pub is-moved : (x : Move State ℕ) {c : ℕ} → moveAnswer x ≡ M.Moved c → (u : State) × (x ≡ moved c u)
+pub is-moved : (x : Move State Cost) {c : Cost} → moveAnswer x ≡ M.Moved c → (u : State) × (x ≡ moved c u)
 unfolding moveAnswer
 is-moved blocked e = let z : _≡_ {A = ℕ} 0 1 = cc in absurd (omega arith)
 is-moved (moved c u) e = (u, cc)
 is-moved (troubleBefore t) e = let z : _≡_ {A = ℕ} 0 1 = cc in absurd (omega arith)
 is-moved (troubleAfter c t) e = let z : _≡_ {A = ℕ} 0 1 = cc in absurd (omega arith)
 
-pub is-before : (x : Move State ℕ) {t : ℕ} → moveAnswer x ≡ M.Before t → x ≡ troubleBefore t
+pub is-before : (x : Move State Cost) {t : ℕ} → moveAnswer x ≡ M.Before t → x ≡ troubleBefore t
 unfolding moveAnswer
 is-before blocked e = let z : _≡_ {A = ℕ} 0 1 = cc in absurd (omega arith)
 is-before (moved c u) e = let z : _≡_ {A = ℕ} 0 1 = cc in absurd (omega arith)
 is-before (troubleBefore t) e = cc
 is-before (troubleAfter c t) e = let z : _≡_ {A = ℕ} 0 1 = cc in absurd (omega arith)
 
-pub is-after : (x : Move State ℕ) {c t : ℕ} → moveAnswer x ≡ M.After c t → x ≡ troubleAfter c t
+pub is-after : (x : Move State Cost) {c : Cost} {t : ℕ} → moveAnswer x ≡ M.After c t → x ≡ troubleAfter c t
 unfolding moveAnswer
 is-after blocked e = let z : _≡_ {A = ℕ} 0 1 = cc in absurd (omega arith)
 is-after (moved c u) e = let z : _≡_ {A = ℕ} 0 1 = cc in absurd (omega arith)
@@ -83,32 +88,27 @@ is-after (troubleAfter c t) e = cc
 
 -- ---- costs
 
-sum-rule : (r : Rule) (g c : ℕ) → ruleNumber r ≡ 0 → g + c ≡ combine r g c
-unfolding ruleNumber combine
-sum-rule sum g c e = refl
-sum-rule largest g c e = absurd (omega arith)
+rule-back : (r : Rule) → ruleOf (ruleNumber r) ≡ r
+unfolding ruleNumber ruleOf
+rule-back sum = refl
+rule-back largest = refl
 
-largest-rule : (r : Rule) (g c : ℕ) → (ruleNumber r ≡ 0 → ⊥) → max g c ≡ combine r g c
-unfolding ruleNumber combine
-largest-rule sum g c e = absurd (e refl)
-largest-rule largest g c e = refl
+-- the rule by the outline's word
+pub rule-is : (bytes words : List ℕ) → Outlined bytes words → (g c : Cost) (w : ℕ) → w ≡ getD words 0 0 → combine (ruleOf w) g c ≡ costsIn bytes .combine g c
+unfolding costsOf
+rule-is bytes words o g c w k = let same : w ≡ ruleNumber (modelOf bytes .rule) = k ∙ o .outlines .rule in rw (same, rule-back (modelOf bytes .rule))
 
-module _ (bytes words : List ℕ) (o : Outlined bytes words) (g c w : ℕ) (k : w ≡ getD words 0 0) where
-  pub combine-sum : w ≡ 0 → g + c ≡ costsIn bytes .combine g c
-  unfolding costsOf
-  combine-sum e = sum-rule (modelOf bytes .rule) g c (sym (o .outlines .rule) ∙ (sym k ∙ e))
-
-  pub combine-second : (w ≡ 0 → ⊥) → g < c → c ≡ costsIn bytes .combine g c
-  unfolding costsOf
-  combine-second e l = let m : max g c ≡ c = omega arith in sym m ∙ largest-rule (modelOf bytes .rule) g c (λ i. e (k ∙ (o .outlines .rule ∙ i)))
-
-  pub combine-first : (w ≡ 0 → ⊥) → c ≤ g → g ≡ costsIn bytes .combine g c
-  unfolding costsOf
-  combine-first e l = let m : max g c ≡ g = omega arith in sym m ∙ largest-rule (modelOf bytes .rule) g c (λ i. e (k ∙ (o .outlines .rule ∙ i)))
+-- a path and a step have room together
+pub joinable : {g c : Cost} → CostBelow (2 ^ 63) g → CostBelow rangeEnd c → Joinable g c
+joinable p q = record {
+  high-fits = omega (arith, p .high-below, q .high-below);
+  low-fits = omega (arith, p .low-below, q .low-below);
+  moves-fit = omega (arith, p .moves-below, q .moves-below);
+}
 
 -- ---- one transition
 
-module _ (bytes state : List ℕ) (t g : ℕ) (child : List ℕ) (q : MoveAnswer) (says : MoveSays bytes state t child q) where
+module _ (bytes state : List ℕ) (t : ℕ) (g : Cost) (child : List ℕ) (q : MoveAnswer) (says : MoveSays bytes state t child q) where
   abbrev here : State
   here = stateIn bytes state
 
@@ -120,30 +120,30 @@ module _ (bytes state : List ℕ) (t g : ℕ) (child : List ℕ) (q : MoveAnswer
   unfolding afterMove
   checked-before e plan = let m = is-before _ (sym (says .answer) ∙ e) in rw m
 
-  pub checked-after : {c n : ℕ} → q ≡ M.After c n → FollowsOn bytes (stepTried bytes here t g) child g (T.Ended n)
+  pub checked-after : {c : Cost} {n : ℕ} → q ≡ M.After c n → FollowsOn bytes (stepTried bytes here t g) child g (T.Ended n)
   unfolding afterMove
   checked-after e plan = let m = is-after _ (sym (says .answer) ∙ e) in rw m
 
-  -- the cost of a step is below the range's end
-  pub step-small : {c : ℕ} → q ≡ M.Moved c → c < rangeEnd
+  -- each part of a step's cost is below the range's end
+  pub step-small : {c : Cost} → q ≡ M.Moved c → CostBelow rangeEnd c
   step-small e = let m = is-moved _ (sym (says .answer) ∙ e) in step-cost-below bytes here t (m .1)
 
-  pub checked-moved : {c h : ℕ} → q ≡ M.Moved c → h ≡ costsIn bytes .combine g c → FollowsOn bytes (stepTried bytes here t g) child g (T.On h)
+  pub checked-moved : {c h : Cost} → q ≡ M.Moved c → h ≡ costsIn bytes .combine g c → FollowsOn bytes (stepTried bytes here t g) child g (T.On h)
   unfolding afterMove
   checked-moved {c} {h} e f =
       let m = is-moved _ (sym (says .answer) ∙ e) in
       let w : stateIn bytes child ≡ m .0 = says .arrives c (m .0) (m .1) in
-      (λ plan. rw (m .1, f, w), omega (arith, f, combined-at-most bytes g c, step-small e))
+      (λ plan. rw (m .1, f, w), λ n p. rw f (combined-up-to bytes p (up-to-less (below-up-to (step-small e)) (omega arith))))
 
 -- ---- one turn: the status of the state, then the transition
 
-checked-same : (bytes : List ℕ) (f k : List ℕ → Value ℕ) (child : List ℕ) (g : ℕ) (r : FollowAnswer) → ((plan : List ℕ) → k plan ≡ f plan) → FollowsOn bytes f child g r → FollowsOn bytes k child g r
+checked-same : (bytes : List ℕ) (f k : List ℕ → Value Cost) (child : List ℕ) (g : Cost) (r : FollowAnswer) → ((plan : List ℕ) → k plan ≡ f plan) → FollowsOn bytes f child g r → FollowsOn bytes k child g r
 checked-same bytes f k child g (T.On h) e t = (λ plan. e plan ∙ t .0 plan, t .1)
 checked-same bytes f k child g (T.Ended n) e t = λ plan. e plan ∙ t plan
 
-module _ (bytes : List ℕ) (s : State) (t g : ℕ) where
+module _ (bytes : List ℕ) (s : State) (t : ℕ) (g : Cost) where
   -- a number that is not declared is blocked
-  undeclared : (rest : ℕ → State → Value ℕ) → cond (ltb t (systemIn bytes .transitions)) (afterMove (costsIn bytes) (systemIn bytes) (systemIn bytes .move s t) rest) (trouble notAPlan) ≡ afterMove (costsIn bytes) (systemIn bytes) (systemIn bytes .move s t) rest
+  undeclared : (rest : Cost → State → Value Cost) → cond (ltb t (systemIn bytes .transitions)) (afterMove (costsIn bytes) (systemIn bytes) (systemIn bytes .move s t) rest) (trouble notAPlan) ≡ afterMove (costsIn bytes) (systemIn bytes) (systemIn bytes .move s t) rest
   unfolding systemOf move moveBy afterMove
   undeclared rest = by-test (ltb t (length (modelOf bytes .transitions))) (ltb-false t (length (modelOf bytes .transitions)))
     where
@@ -157,7 +157,7 @@ module _ (bytes : List ℕ) (s : State) (t g : ℕ) where
   follow-unfinished plan e = rw e (undeclared (λ c u. followIn bytes plan u (costsIn bytes .combine g c)))
 
   module _ (child : List ℕ) where
-    abbrev whole : List ℕ → Value ℕ
+    abbrev whole : List ℕ → Value Cost
     whole plan = followIn bytes (t ∷ plan) s g
 
     pub checked-base : S.Base ≡ statusAnswer (systemIn bytes .status s) → FollowsOn bytes whole child g (T.Ended notAPlan)
@@ -173,57 +173,54 @@ module _ (bytes : List ℕ) (s : State) (t g : ℕ) where
 
 -- ---- the final state
 
-module _ (bytes : List ℕ) (s : State) (g : ℕ) where
+module _ (bytes : List ℕ) (s : State) (g : Cost) where
   pub finish-base : S.Base ≡ statusAnswer (systemIn bytes .status s) → CheckedIs (finished bytes s g) (record { answer = 0; cost = g })
-  unfolding final answerNumber answerCost
+  unfolding final answerNumber costGiven
   finish-base e = let f = is-base _ (sym e) in record { number = rw f; cost = rw f }
 
-  pub finish-unfinished : S.Unfinished ≡ statusAnswer (systemIn bytes .status s) → CheckedIs (finished bytes s g) (record { answer = notAPlan; cost = 0 })
-  unfolding final answerNumber answerCost
-  finish-unfinished e = let f = is-unfinished _ (sym e) in record { number = rw f; cost = rw f }
+  pub finish-unfinished : S.Unfinished ≡ statusAnswer (systemIn bytes .status s) → (r : Checked) → CheckedIs (trouble notAPlan) r → CheckedIs (finished bytes s g) r
+  unfolding final
+  finish-unfinished e r c = rw (is-unfinished _ (sym e)) c
 
-  pub finish-troubles : {n : ℕ} → S.Trouble n ≡ statusAnswer (systemIn bytes .status s) → CheckedIs (finished bytes s g) (record { answer = n; cost = 0 })
-  unfolding final answerNumber answerCost
-  finish-troubles e = let f = no-status _ (sym e) in record { number = rw f; cost = rw f }
+  pub finish-troubles : {n : ℕ} → S.Trouble n ≡ statusAnswer (systemIn bytes .status s) → (r : Checked) → CheckedIs (trouble n) r → CheckedIs (finished bytes s g) r
+  unfolding final
+  finish-troubles e r c = rw (no-status _ (sym e)) c
 
 -- ---- the whole plan
 
 -- i steps of the plan are taken from s, at the cost g, to the state
-pub record Followed (bytes plan : List ℕ) (s : State) (state : List ℕ) (g i : ℕ) : Type 0 where
+pub record Followed (bytes plan : List ℕ) (s : State) (state : List ℕ) (g : Cost) (i : ℕ) : Type 0 where
   pub within : i ≤ length plan
-  pub small : g ≤ i * rangeEnd
-  pub left : followIn bytes plan s 0 ≡ followIn bytes (drop i plan) (stateIn bytes state) g
+  pub small : CostUpTo (i * rangeEnd) g
+  pub left : followIn bytes plan s free ≡ followIn bytes (drop i plan) (stateIn bytes state) g
 
-pub followed-first : (bytes plan state : List ℕ) → Followed bytes plan (stateIn bytes state) state 0 0
-followed-first bytes plan state = record { within = omega arith; small = omega arith; left = refl }
+pub followed-first : (bytes plan state : List ℕ) → Followed bytes plan (stateIn bytes state) state free 0
+followed-first bytes plan state = record { within = omega arith; small = record { high-within = omega arith; low-within = omega arith; moves-within = omega arith }; left = refl }
 
-module _ (bytes plan : List ℕ) (s : State) (state : List ℕ) (g i : ℕ) (so-far : Followed bytes plan s state g i) where
-  pub cost-small : length plan ≤ 256 → g < 2 ^ 63
-  cost-small h = omega (arith, so-far .small, so-far .within)
+module _ (bytes plan : List ℕ) (s : State) (state : List ℕ) (g : Cost) (i : ℕ) (so-far : Followed bytes plan s state g i) where
+  pub cost-small : length plan ≤ 256 → CostBelow (2 ^ 63) g
+  cost-small h = up-to-below (so-far .small) (omega (arith, so-far .within))
 
-  pub followed-last : length plan ≤ i → (r : Checked) → CheckedIs (finished bytes (stateIn bytes state) g) r → CheckedIs (followIn bytes plan s 0) r
+  pub followed-last : length plan ≤ i → (r : Checked) → CheckedIs (finished bytes (stateIn bytes state) g) r → CheckedIs (followIn bytes plan s free) r
   unfolding follow
   followed-last h r c = rw (so-far .left, drop-of-length-le plan h) c
 
   module _ (h : i < length plan) (after : List ℕ) (r : FollowAnswer) (turned : FollowsOn bytes (λ rest. followIn bytes (getD plan i 0 ∷ rest) (stateIn bytes state) g) after g r) where
-    next-step : followIn bytes plan s 0 ≡ followIn bytes (getD plan i 0 ∷ drop (i + 1) plan) (stateIn bytes state) g
+    next-step : followIn bytes plan s free ≡ followIn bytes (getD plan i 0 ∷ drop (i + 1) plan) (stateIn bytes state) g
     next-step = so-far .left ∙ ap (λ (l : List ℕ). followIn bytes l (stateIn bytes state) g) (drop-cons plan i 0 h ∙ ap (λ (k : ℕ). getD plan i 0 ∷ drop k plan) (sym (add-one i)))
 
-    pub followed-more : {k : ℕ} → r ≡ T.On k → Followed bytes plan s after k (i + 1)
+    pub followed-more : {k : Cost} → r ≡ T.On k → Followed bytes plan s after k (i + 1)
     followed-more {k} e =
         let t = rw e at turned in
         let m : (i + 1) * rangeEnd ≡ i * rangeEnd + rangeEnd = omega arith in
-        record { within = omega arith; small = omega (arith, so-far .small, t .1); left = next-step ∙ t .0 (drop (i + 1) plan) }
+        record { within = omega arith; small = up-to-less (t .1 (i * rangeEnd) (so-far .small)) (omega arith); left = next-step ∙ t .0 (drop (i + 1) plan) }
 
-    pub followed-ended : {n : ℕ} → r ≡ T.Ended n → CheckedIs (followIn bytes plan s 0) (record { answer = n; cost = 0 })
-    unfolding answerNumber answerCost
-    followed-ended {n} e =
-        let t : followIn bytes plan s 0 ≡ trouble n = next-step ∙ (rw e at turned) (drop (i + 1) plan) in
-        record { number = rw t; cost = rw t }
+    pub followed-ended : {n : ℕ} → r ≡ T.Ended n → (x : Checked) → CheckedIs (trouble n) x → CheckedIs (followIn bytes plan s free) x
+    followed-ended e x c = rw (next-step ∙ (rw e at turned) (drop (i + 1) plan)) c
 
 -- ---- the target's constraints, then the plan
 
-module _ (bytes plan state : List ℕ) (at-target : stateIn bytes state ≡ targetIn bytes) (g : ℕ) (q : HeldAnswer) (says : q ≡ heldAnswer (systemIn bytes .admits (stateIn bytes state)) 0) where
+module _ (bytes plan state : List ℕ) (at-target : stateIn bytes state ≡ targetIn bytes) (g : Cost) (q : HeldAnswer) (says : q ≡ heldAnswer (systemIn bytes .admits (stateIn bytes state)) 0) where
   held : heldAnswer (systemIn bytes .admits (targetIn bytes)) 0 ≡ q
   held = ap (λ s. heldAnswer (systemIn bytes .admits s) 0) (sym at-target) ∙ sym says
 

@@ -9,7 +9,6 @@ pub mod Evaluated
 pub mod Holding
 pub mod Trials
 pub mod Signs
-pub mod Codes
 pub mod Writing
 pub mod Moving
 pub mod Promises

@@ -1,22 +1,20 @@
--- A transition's move from its parts: conditions, then cost and effects, then the new state's constraints.
-use Prim.Native.Nat.{ℕ, suc, _+_, _*_, _≤_, _<_}
+-- A transition's move from its parts: conditions, then costs and effects, then the new state's constraints.
+use Prim.Native.Nat.{ℕ, _+_, _*_, _≤_, _<_}
 use mathlib.Core.Path.{_≡_, refl, sym, ap, _∙_}
 use mathlib.Core.Bool.{Bool, true, false, cond}
 use mathlib.Core.List.{List}
 use native.Mathlib.Omega.{arith}
 use lib.ListN.{length, getD, drop}
-use lib.IntN.{ℤ, pos, negsuc}
-use lib.Signed.{leZ}
-use borrow.Author.Tests.{leb-false}
 use Rattle.laws.proofs.Lists.{byte-inside}
 use Rattle.model.specs.Numbers.{rangeEnd}
 use Rattle.model.specs.Values.{Value, value, trouble, _>>=_}
 use Rattle.model.specs.System.{blocked, moved, troubleBefore}
 use Rattle.model.specs.Readers.{read}
 use Rattle.model.specs.Syntax.{Condition, Transition, Model}
-use Rattle.model.specs.Commands.{transition}
-use Rattle.model.specs.Meaning.{State, numberValue, allHold}
-use Rattle.model.specs.Steps.{costOf, effects, Attempt, notTaken, taken, attempt, constrained, moveOf, moveBy, move, systemOf}
+use Rattle.model.specs.Commands.{costs, transition}
+use Rattle.model.specs.Meaning.{State, allHold}
+use Rattle.model.specs.declared.Cost.{Cost}
+use Rattle.model.specs.Steps.{effects, Attempt, notTaken, taken, attempt, constrained, moveOf, moveBy, move, systemOf}
 use Rattle.outline.specs.Outline.{modelOf}
 use Rattle.prepare.specs.Layout.{guardsFrom}
 use Rattle.prepare.specs.Guards.{passes, guardIn}
@@ -27,23 +25,25 @@ use Rattle.steps.specs.declared.answers.CostAnswer.{CostAnswer}
 use Rattle.steps.specs.declared.answers.CostAnswer.the-variants as C
 use Rattle.steps.specs.declared.answers.EffectsAnswer.{EffectsAnswer}
 use Rattle.steps.specs.declared.answers.EffectsAnswer.the-variants as E
+use Rattle.steps.specs.declared.answers.AttemptAnswer.{AttemptAnswer}
+use Rattle.steps.specs.declared.answers.AttemptAnswer.the-variants as A
 use Rattle.steps.specs.declared.answers.MoveAnswer.{MoveAnswer}
 use Rattle.steps.specs.declared.answers.MoveAnswer.the-variants as M
 use Rattle.steps.specs.InBytes.{Outlined, stateIn, systemIn}
-use Rattle.steps.specs.Answers.{heldAnswer, costAnswer, effectsAnswer, troubleCode, attemptCode, moveAnswer}
-use Rattle.steps.specs.Says.{HeldSays, CostSays, EffectsRead, EffectsSays, AttemptSay, TakenSays, TakenRead, TransitionRead, AttemptSays, Tried, AllowedSays, MoveSays}
+use Rattle.steps.specs.Answers.{heldAnswer, costAnswer, effectsAnswer, attemptAnswer, moveAnswer}
+use Rattle.steps.specs.Says.{HeldSays, CostsSay, EffectsRead, EffectsSays, AttemptSay, TakenSays, TakenRead, TransitionRead, AttemptSays, Tried, AllowedSays, MoveSays}
 use Rattle.prepare.proofs.Items.{Nth, nth-of, none-beyond}
-use Rattle.steps.proofs.Readings.{PartsAt, parts-at}
+use Rattle.steps.proofs.Readings.{costs-at, PartsAt, parts-at}
 use Rattle.steps.proofs.Trials.{constraintsIn, all-held, one-fails, one-troubles}
 
 -- ---- answers taken apart
 
-cost-is : (v : Value ℕ) (n : ℕ) {c k : ℕ} → costAnswer v n ≡ C.Cost c k → (v ≡ value c) × (n ≡ k)
+cost-is : (v : Value Cost) (n : ℕ) {c : Cost} {k : ℕ} → costAnswer v n ≡ C.Costs c k → (v ≡ value c) × (n ≡ k)
 unfolding costAnswer
 cost-is (value a) n e = (cc, cc)
 cost-is (trouble t) n e = let z : _≡_ {A = ℕ} 0 1 = cc in absurd (omega arith)
 
-cost-troubles : (v : Value ℕ) (n : ℕ) {t : ℕ} → costAnswer v n ≡ C.Trouble t → v ≡ trouble t
+cost-troubles : (v : Value Cost) (n : ℕ) {t : ℕ} → costAnswer v n ≡ C.Trouble t → v ≡ trouble t
 unfolding costAnswer
 cost-troubles (value a) n e = let z : _≡_ {A = ℕ} 0 1 = cc in absurd (omega arith)
 cost-troubles (trouble t) n e = cc
@@ -58,84 +58,74 @@ unfolding effectsAnswer
 effects-trouble (value u) e = let z : _≡_ {A = ℕ} 0 1 = cc in absurd (omega arith)
 effects-trouble (trouble t) e = cc
 
-not-taken : (v : Value Attempt) → attemptCode v ≡ negsuc 0 → v ≡ value notTaken
-unfolding attemptCode
+not-taken : (v : Value Attempt) → attemptAnswer v ≡ A.NotTaken → v ≡ value notTaken
+unfolding attemptAnswer
 not-taken (value notTaken) e = refl
 not-taken (value (taken c u)) e = let z : _≡_ {A = ℕ} 0 1 = cc in absurd (omega arith)
-not-taken (trouble t) e = let z : suc t ≡ 0 = cc in absurd (omega arith)
+not-taken (trouble t) e = let z : _≡_ {A = ℕ} 0 1 = cc in absurd (omega arith)
 
-is-taken : (v : Value Attempt) {c : ℕ} → attemptCode v ≡ pos c → (u : State) × (v ≡ value (taken c u))
-unfolding attemptCode
+is-taken : (v : Value Attempt) {c : Cost} → attemptAnswer v ≡ A.Taken c → (u : State) × (v ≡ value (taken c u))
+unfolding attemptAnswer
 is-taken (value notTaken) e = let z : _≡_ {A = ℕ} 0 1 = cc in absurd (omega arith)
 is-taken (value (taken c u)) e = (u, cc)
 is-taken (trouble t) e = let z : _≡_ {A = ℕ} 0 1 = cc in absurd (omega arith)
 
-attempt-troubles : (v : Value Attempt) {t : ℕ} → attemptCode v ≡ troubleCode t → v ≡ trouble t
-unfolding attemptCode
-attempt-troubles (value notTaken) {t} e = let z : 0 ≡ suc t = cc in absurd (omega arith)
+attempt-troubles : (v : Value Attempt) {t : ℕ} → attemptAnswer v ≡ A.Trouble t → v ≡ trouble t
+unfolding attemptAnswer
+attempt-troubles (value notTaken) e = let z : _≡_ {A = ℕ} 0 1 = cc in absurd (omega arith)
 attempt-troubles (value (taken c u)) e = let z : _≡_ {A = ℕ} 0 1 = cc in absurd (omega arith)
-attempt-troubles (trouble k) {t} e = let z : suc k ≡ suc t = cc in ap trouble (omega arith)
+attempt-troubles (trouble t) e = cc
 
--- neither a cost nor -1
-has-trouble : (v : Value Attempt) → leZ (pos 0) (attemptCode v) ≡ false → (attemptCode v ≡ negsuc 0 → ⊥) → (t : ℕ) × (v ≡ trouble t)
-unfolding attemptCode
-has-trouble (value notTaken) l n = absurd (n refl)
-has-trouble (value (taken c u)) l n = let z : c < 0 = leb-false 0 c l in absurd (omega arith)
-has-trouble (trouble t) l n = (t, refl)
-
--- ---- answers that write nothing
+-- ---- answers, and what they write
 
 module _ (bytes child : List ℕ) (v : Value Attempt) where
-  says-trouble : {t : ℕ} → t < 256 → v ≡ trouble t → AttemptSay bytes child (troubleCode t) v
-  unfolding attemptCode
-  says-trouble {t} b e = record { answer = rw e; byte = λ k i. let p : t ≡ k = cc in omega (arith, b); written = λ c u i. let z : _≡_ {A = ℕ} 0 1 = cc in absurd (omega arith) }
+  says-trouble : {t : ℕ} → v ≡ trouble t → AttemptSay bytes child (A.Trouble t) v
+  unfolding attemptAnswer
+  says-trouble e = record { answer = rw e; written = λ c u i. let z : _≡_ {A = ℕ} 0 1 = cc in absurd (omega arith) }
 
-  says-not-taken : v ≡ value notTaken → AttemptSay bytes child (negsuc 0) v
-  unfolding attemptCode
-  says-not-taken e = record { answer = rw e; byte = λ k i. let z : _≡_ {A = ℕ} 0 1 = cc in absurd (omega arith); written = λ c u i. let z : _≡_ {A = ℕ} 0 1 = cc in absurd (omega arith) }
+  says-not-taken : v ≡ value notTaken → AttemptSay bytes child A.NotTaken v
+  unfolding attemptAnswer
+  says-not-taken e = record { answer = rw e; written = λ c u i. let z : _≡_ {A = ℕ} 0 1 = cc in absurd (omega arith) }
 
-  says-taken : {c : ℕ} {u : State} → v ≡ value (taken c u) → stateIn bytes child ≡ u → AttemptSay bytes child (pos c) v
-  unfolding attemptCode
-  says-taken {c} {u} e w = record { answer = rw e; byte = λ k i. let z : _≡_ {A = ℕ} 0 1 = cc in absurd (omega arith); written = λ d y i. let p : u ≡ y = cc in w ∙ p }
+  says-taken : {c : Cost} {u : State} → v ≡ value (taken c u) → stateIn bytes child ≡ u → AttemptSay bytes child (A.Taken c) v
+  unfolding attemptAnswer
+  says-taken {c} {u} e w = record { answer = rw e; written = λ d y i. let p : u ≡ y = cc in w ∙ p }
 
--- ---- cost and effects
+-- ---- costs and effects
 
-cost-then : (v : Value ℤ) (f : ℕ → Value Attempt) {c : ℕ} → (v >>= costOf) ≡ value c → (v >>= λ z. costOf z >>= f) ≡ f c
+-- one evaluation behind another, by what the first comes to
+goes-on : {A B : Type 0} {v : Value A} {a : A} (next : A → Value B) → v ≡ value a → (v >>= next) ≡ next a
 unfolding _>>=_
-cost-then (value z) f e = rw e
-cost-then (trouble t) f e = let z : _≡_ {A = ℕ} 0 1 = cc in absurd (omega arith)
+goes-on next e = rw e
 
-cost-stops : (v : Value ℤ) (f : ℕ → Value Attempt) {t : ℕ} → (v >>= costOf) ≡ trouble t → (v >>= λ z. costOf z >>= f) ≡ trouble t
+stops : {A B : Type 0} {v : Value A} {t : ℕ} (next : A → Value B) → v ≡ trouble t → (v >>= next) ≡ trouble t
 unfolding _>>=_
-cost-stops (value z) f e = rw e
-cost-stops (trouble t) f e = cc
+stops next e = rw e
 
-module _ (bytes : List ℕ) (at : ℕ) (state : List ℕ) (q : CostAnswer) (says : CostSays bytes at state q) where
-  pub take-stops : {t : ℕ} (child : List ℕ) → t < 256 → q ≡ C.Trouble t → TakenSays bytes at state child (troubleCode t)
-  take-stops child b e x n l k h g = says-trouble bytes child _ b (cost-stops _ _ (cost-troubles _ n (sym (says x n h) ∙ e)))
+module _ (bytes : List ℕ) (at : ℕ) (state : List ℕ) (q : CostAnswer) (says : CostsSay bytes at state q) where
+  pub take-stops : {t : ℕ} (child : List ℕ) → q ≡ C.Trouble t → TakenSays bytes at state child (A.Trouble t)
+  take-stops child e x n l k h g = says-trouble bytes child _ (stops _ (cost-troubles _ n (sym (says x n h) ∙ e)))
 
-  module _ {c used : ℕ} (e : q ≡ C.Cost c used) where
+  module _ {c : Cost} {used : ℕ} (e : q ≡ C.Costs c used) where
     -- where the effects begin
     pub effects-begin : TakenRead bytes at → EffectsRead bytes (at + used)
-    effects-begin r = let p = cost-is _ (r .cost-used) (sym (says (r .cost) (r .cost-used) (r .reads-cost)) ∙ e) in rw (p .1) at (r .effects-read)
+    effects-begin r = let p = cost-is _ (r .costs-read .used) (sym (says (r .costs-read .item) (r .costs-read .used) (r .costs-read .reads)) ∙ e) in rw (p .1) at (r .effects-read)
 
     -- the effects go into a copy of the state
     module _ (child : List ℕ) (r : EffectsAnswer) (effected : EffectsSays bytes (at + used) state state child r) where
-      pub take-done : r ≡ E.Done → TakenSays bytes at state child (pos c)
-      unfolding _>>=_
+      pub take-done : r ≡ E.Done → TakenSays bytes at state child (A.Taken c)
       take-done d x n l k h g =
           let p = cost-is _ n (sym (says x n h) ∙ e) in
           let s = effected l k (rw (p .1) at g) in
           let w = effects-done _ (sym (s .answer) ∙ d) in
-          says-taken bytes child _ (cost-then (numberValue rangeEnd (modelOf bytes .tables) x (stateIn bytes state)) (λ c. effects rangeEnd (modelOf bytes) l (stateIn bytes state) (stateIn bytes state) >>= λ new. value (taken c new)) (p .0) ∙ ap (λ (v : Value State). v >>= λ new. value (taken c new)) (w .1)) (s .written (w .0) (w .1))
+          says-taken bytes child _ (goes-on _ (p .0) ∙ goes-on _ (w .1)) (s .written (w .0) (w .1))
 
-      pub take-troubles : {t : ℕ} → t < 256 → r ≡ E.Trouble t → TakenSays bytes at state child (troubleCode t)
-      unfolding _>>=_
-      take-troubles {t} b d x n l k h g =
+      pub take-troubles : {t : ℕ} → r ≡ E.Trouble t → TakenSays bytes at state child (A.Trouble t)
+      take-troubles d x n l k h g =
           let p = cost-is _ n (sym (says x n h) ∙ e) in
           let s = effected l k (rw (p .1) at g) in
           let w = effects-trouble _ (sym (s .answer) ∙ d) in
-          says-trouble bytes child _ b (cost-then (numberValue rangeEnd (modelOf bytes .tables) x (stateIn bytes state)) (λ c. effects rangeEnd (modelOf bytes) l (stateIn bytes state) (stateIn bytes state) >>= λ new. value (taken c new)) (p .0) ∙ ap (λ (v : Value State). v >>= λ new. value (taken c new)) w)
+          says-trouble bytes child _ (goes-on _ (p .0) ∙ stops _ w)
 
 -- ---- conditions, then the rest
 
@@ -146,44 +136,44 @@ module _ (bytes : List ℕ) (at : ℕ) (state : List ℕ) (q : HeldAnswer) (says
   held : (x : Transition) (p : PartsIn x) → heldAnswer (allHold rangeEnd (modelOf bytes .tables) (x .conditions) (stateIn bytes state)) (at + p .conditions-used) ≡ q
   held x p = sym (says (x .conditions) (p .conditions-used) (p .reads-conditions))
 
-  pub attempt-blocked : (child : List ℕ) → q ≡ H.Fails → AttemptSays bytes at state child (negsuc 0)
+  pub attempt-blocked : (child : List ℕ) → q ≡ H.Fails → AttemptSays bytes at state child A.NotTaken
   unfolding attempt _>>=_
   attempt-blocked child e x n h =
       let p = parts-at _ _ bytes at x n h in
       let f = one-fails _ _ (held x p ∙ e) in
       says-not-taken bytes child _ (rw f)
 
-  pub attempt-stops : {t : ℕ} (child : List ℕ) → t < 256 → q ≡ H.Trouble t → AttemptSays bytes at state child (troubleCode t)
+  pub attempt-stops : {t : ℕ} (child : List ℕ) → q ≡ H.Trouble t → AttemptSays bytes at state child (A.Trouble t)
   unfolding attempt _>>=_
-  attempt-stops child b e x n h =
+  attempt-stops child e x n h =
       let p = parts-at _ _ bytes at x n h in
       let f = one-troubles _ _ (held x p ∙ e) in
-      says-trouble bytes child _ b (rw f)
+      says-trouble bytes child _ (rw f)
 
   module _ {next : ℕ} (e : q ≡ H.All next) where
-    pub rest-read : TransitionRead bytes at → TakenRead bytes (next + 1)
+    pub rest-read : TransitionRead bytes at → TakenRead bytes next
     rest-read r =
         let p = parts-at _ _ bytes at (r .item) (r .used) (r .reads) in
         let f = all-held _ _ (held (r .item) p ∙ e) in
+        let reads : costs (modelOf bytes .variables) (modelOf bytes .tables) (drop next bytes) ≡ read (r .item .costs) (p .costs-used) = rw (f .1) at (p .reads-costs) in
+        let k = costs-at _ _ bytes next (r .item .costs) (p .costs-used) reads in
         record {
-          cost = r .item .cost;
-          cost-used = p .cost-used;
-          reads-cost = rw (f .1) at (p .reads-cost);
-          inside = omega (arith, byte-inside bytes next 9 (omega arith) (rw (f .1) at (p .cost-there)));
+          costs-read = record { item = r .item .costs; used = p .costs-used; reads = reads };
+          inside = byte-inside bytes next 9 (omega arith) (k .there);
           effects-read = record { item = r .item .effects; used = p .effects-used; reads = rw (f .1) at (p .reads-effects) };
         }
 
-    pub attempt-taken : (child : List ℕ) (r : ℤ) → TakenSays bytes (next + 1) state child r → AttemptSays bytes at state child r
+    pub attempt-taken : (child : List ℕ) (r : AttemptAnswer) → TakenSays bytes next state child r → AttemptSays bytes at state child r
     unfolding attempt _>>=_
     attempt-taken child r rest x n h =
         let p = parts-at _ _ bytes at x n h in
         let f = all-held _ _ (held x p ∙ e) in
-        let s = rest (x .cost) (p .cost-used) (x .effects) (p .effects-used) (rw (f .1) at (p .reads-cost)) (rw (f .1) at (p .reads-effects)) in
-        record { answer = s .answer ∙ rw (f .0); byte = λ t i. s .byte t (rw (f .0) at i); written = λ c u i. s .written c u (rw (f .0) at i) }
+        let s = rest (x .costs) (p .costs-used) (x .effects) (p .effects-used) (rw (f .1) at (p .reads-costs)) (rw (f .1) at (p .reads-effects)) in
+        record { answer = s .answer ∙ rw (f .0); written = λ c u i. s .written c u (rw (f .0) at i) }
 
 -- ---- the constraints of the new state
 
-module _ (end : ℕ) (m : Model) (c : ℕ) (s : State) (v : Value Bool) where
+module _ (end : ℕ) (m : Model) (c : Cost) (s : State) (v : Value Bool) where
   pub constraints-met : {i : ℕ} → H.All i ≡ heldAnswer v 0 → M.Moved c ≡ moveAnswer (constrained end m c s v)
   unfolding constrained moveAnswer
   constraints-met e = rw (all-held v 0 (sym e) .0)
@@ -196,7 +186,7 @@ module _ (end : ℕ) (m : Model) (c : ℕ) (s : State) (v : Value Bool) where
   unfolding constrained moveAnswer
   constraint-troubles e = rw (one-troubles v 0 (sym e))
 
-new-state : (end : ℕ) (m : Model) (c : ℕ) (s : State) (v : Value Bool) {d : ℕ} {u : State} → constrained end m c s v ≡ moved d u → s ≡ u
+new-state : (end : ℕ) (m : Model) (c : Cost) (s : State) (v : Value Bool) {d : Cost} {u : State} → constrained end m c s v ≡ moved d u → s ≡ u
 unfolding constrained
 new-state end m c s (value true) e = cc
 new-state end m c s (value false) e = let z : _≡_ {A = ℕ} 0 1 = cc in absurd (omega arith)
@@ -207,7 +197,7 @@ new-state end m c s (trouble t) e = let z : _≡_ {A = ℕ} 0 1 = cc in absurd (
 -- a transition whose conditions a guard and others decide
 attempt-guarded : (end : ℕ) (m : Model) (x : Transition) (rest : List Condition) (s : State) (b : Bool)
     → allHold end (m .tables) (x .conditions) s ≡ cond b (allHold end (m .tables) rest s) (value false)
-    → attempt end m x s ≡ cond b (attempt end m (record { conditions = rest; cost = x .cost; effects = x .effects }) s) (value notTaken)
+    → attempt end m x s ≡ cond b (attempt end m (record { conditions = rest; costs = x .costs; effects = x .effects }) s) (value notTaken)
 unfolding attempt _>>=_
 attempt-guarded end m x rest s true e = rw e
 attempt-guarded end m x rest s false e = rw e
@@ -228,7 +218,7 @@ module _ (bytes words : List ℕ) (o : Outlined bytes words) (state : List ℕ) 
 
   -- the transition that is read behind the guard
   abbrev behind : Transition
-  behind = record { conditions = guarded .rest; cost = there .nth .cost; effects = there .nth .effects }
+  behind = record { conditions = guarded .rest; costs = there .nth .costs; effects = there .nth .effects }
 
   decided : attempt rangeEnd (modelOf bytes) (there .nth) (stateIn bytes state) ≡ cond guardPasses (attempt rangeEnd (modelOf bytes) behind (stateIn bytes state)) (value notTaken)
   decided = attempt-guarded rangeEnd (modelOf bytes) (there .nth) (guarded .rest) (stateIn bytes state) guardPasses (guarded .decides state)
@@ -256,7 +246,7 @@ module _ (bytes words : List ℕ) (o : Outlined bytes words) (state : List ℕ) 
     pub transition-read : TransitionRead bytes at
     transition-read = record { item = behind; used = guarded .used; reads = stands-there }
 
-    pub tried : (child : List ℕ) (q : ℤ) → true ≡ guardPasses → AttemptSays bytes at state child q → Tried bytes state t child q
+    pub tried : (child : List ℕ) (q : AttemptAnswer) → true ≡ guardPasses → AttemptSays bytes at state child q → Tried bytes state t child q
     tried child q e says =
         let same : attempt rangeEnd (modelOf bytes) (there .nth) (stateIn bytes state) ≡ attempt rangeEnd (modelOf bytes) behind (stateIn bytes state) = decided ∙ rw (← e) in
         record { transition-of = there .nth; declared = there .found; says = rw same (says behind (guarded .used) stands-there) }
@@ -268,33 +258,26 @@ module _ (bytes state : List ℕ) (t : ℕ) where
   unfolding systemOf move moveBy moveAnswer
   move-undeclared child h = let n = none-beyond (modelOf bytes .transitions) t h in record { answer = rw n; arrives = λ c u i. let z : _≡_ {A = ℕ} 0 1 = cc (rw n at i) in absurd (omega arith) }
 
-module _ (bytes state : List ℕ) (t : ℕ) (child : List ℕ) (q : ℤ) (a : Tried bytes state t child q) where
+module _ (bytes state : List ℕ) (t : ℕ) (child : List ℕ) (q : AttemptAnswer) (a : Tried bytes state t child q) where
   the-move : systemIn bytes .move (stateIn bytes state) t ≡ moveOf rangeEnd (modelOf bytes) (attempt rangeEnd (modelOf bytes) (a .transition-of) (stateIn bytes state))
   unfolding systemOf move moveBy
   the-move = rw (a .declared)
 
-  pub move-blocked : q ≡ negsuc 0 → MoveSays bytes state t child M.Blocked
+  pub move-blocked : q ≡ A.NotTaken → MoveSays bytes state t child M.Blocked
   unfolding moveOf moveAnswer
   move-blocked e =
       let v = not-taken _ (sym (a .says .answer) ∙ e) in
       let m : systemIn bytes .move (stateIn bytes state) t ≡ blocked = the-move ∙ rw v in
       record { answer = rw m; arrives = λ c u i. let z : _≡_ {A = ℕ} 0 1 = cc in absurd (omega arith) }
 
-  -- a code below -1 is a trouble's
-  pub troubled : leZ (pos 0) q ≡ false → (q ≡ negsuc 0 → ⊥) → (k : ℕ) × (q ≡ troubleCode k) × (k < 256)
-  unfolding attemptCode
-  troubled l n =
-      let v = has-trouble _ (rw (a .says .answer) at l) (λ e. n (a .says .answer ∙ e)) in
-      (v .0, a .says .answer ∙ ap attemptCode (v .1), a .says .byte (v .0) (v .1))
-
-  pub move-before : {k : ℕ} → q ≡ troubleCode k → MoveSays bytes state t child (M.Before k)
+  pub move-before : {k : ℕ} → q ≡ A.Trouble k → MoveSays bytes state t child (M.Before k)
   unfolding moveOf moveAnswer
   move-before {k} e =
       let v = attempt-troubles _ (sym (a .says .answer) ∙ e) in
       let m : systemIn bytes .move (stateIn bytes state) t ≡ troubleBefore k = the-move ∙ rw v in
       record { answer = rw m; arrives = λ c u i. let z : _≡_ {A = ℕ} 0 1 = cc in absurd (omega arith) }
 
-  pub move-after : {c : ℕ} → q ≡ pos c → (r : MoveAnswer) → r ≡ moveAnswer (constrained rangeEnd (modelOf bytes) c (stateIn bytes child) (constraintsIn bytes child)) → MoveSays bytes state t child r
+  pub move-after : {c : Cost} → q ≡ A.Taken c → (r : MoveAnswer) → r ≡ moveAnswer (constrained rangeEnd (modelOf bytes) c (stateIn bytes child) (constraintsIn bytes child)) → MoveSays bytes state t child r
   unfolding moveOf systemOf
   move-after {c} e r f =
       let v = is-taken _ (sym (a .says .answer) ∙ e) in

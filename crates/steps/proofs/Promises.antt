@@ -4,22 +4,23 @@ use mathlib.Core.Path.{_≡_, refl, sym, ap}
 use mathlib.Core.Bool.{true}
 use mathlib.Core.List.{List}
 use native.Mathlib.Omega.{arith}
-use lib.Dec.{leb}
 use lib.ListN.{getD}
 use Rattle.model.specs.Numbers.{rangeEnd, mostVariables, mostTransitions}
-use Rattle.model.specs.Values.{value}
+use Rattle.model.specs.Values.{value, trouble, _>>=_}
 use Rattle.model.specs.System.{Costs, CostLaws, System, Origin, moved, troubleAfter}
 use Rattle.model.specs.Readers.{Read, read, refused}
 use Rattle.model.specs.Syntax.{Model}
 use Rattle.model.specs.Commands.{model}
 use Rattle.model.specs.Meaning.{State}
-use Rattle.model.specs.Steps.{systemOf, costsOf, originOf}
+use Rattle.model.specs.declared.Cost.{Cost}
+use Rattle.model.specs.Costs.{free, hours, atMost, costsOf, CostUpTo, CostBelow}
+use Rattle.model.specs.Steps.{systemOf, originOf, bound}
 use Rattle.model.proofs.Costs as costs
 use Rattle.model.proofs.Ranges as ranges
 use Rattle.model.proofs.Reading.{model-refusal}
 use Rattle.outline.specs.Outline.{modelOf, readModel, refusalOf}
 use Rattle.prepare.specs.Promised.{Ready}
-use Rattle.steps.specs.InBytes.{refusalIn, Outlined, systemIn, stateIn, targetIn, originIn}
+use Rattle.steps.specs.InBytes.{refusalIn, Outlined, systemIn, boundIn, stateIn, targetIn, originIn}
 use Rattle.steps.specs.Follow.{costsIn}
 use Rattle.steps.specs.Hashes.{hashOf}
 use Rattle.steps.proofs.StateWords.{state-alike}
@@ -37,7 +38,7 @@ module _ (bytes : List ℕ) where
   refused-in t e h = refused-as (model bytes) t e h
 
   -- bytes that are read, to a function that goes by a model's costs, system and origin alone: it goes by those in the bytes
-  module _ {X : Type 0} (f : Read Model → X) (g : Costs ℕ → System State ℕ → Origin State ℕ → X) (made : (m : Model) (n : ℕ) → f (read m n) ≡ g (costsOf (m .rule)) (systemOf rangeEnd m) (originOf m)) where
+  module _ {X : Type 0} (f : Read Model → X) (g : Costs Cost → System State Cost → Origin State Cost → X) (made : (m : Model) (n : ℕ) → f (read m n) ≡ g (costsOf (m .rule)) (systemOf rangeEnd m) (originOf m)) where
     read-as : (x : Read Model) → model bytes ≡ x → 0 ≡ refusalOf x → f x ≡ g (costsIn bytes) (systemIn bytes) (originIn bytes)
     unfolding refusalOf modelOf readModel
     read-as (read m n) e z = rw e (made m n)
@@ -51,29 +52,44 @@ module _ (bytes : List ℕ) where
   pub cost-laws : CostLaws (costsIn bytes)
   cost-laws = costs.cost-laws (modelOf bytes .rule)
 
-  -- costs are numbers in their order
-  pub cost-order : (a b : ℕ) → costsIn bytes .atMost a b ≡ leb a b
+  -- their order, and what is spent on nothing
+  pub cost-order : (a b : Cost) → costsIn bytes .atMost a b ≡ atMost a b
   unfolding costsOf
   cost-order a b = refl
 
-  pub cost-empty : costsIn bytes .empty ≡ 0
+  pub cost-empty : costsIn bytes .empty ≡ free
   unfolding costsOf
   cost-empty = refl
 
-  pub combined-at-most : (a b : ℕ) → costsIn bytes .combine a b ≤ a + b
+  -- each part of two costs joined
+  pub combined-up-to : {a b : Cost} {n k : ℕ} → CostUpTo n a → CostUpTo k b → CostUpTo (n + k) (costsIn bytes .combine a b)
   unfolding costsOf
-  combined-at-most a b = costs.combine-at-most-sum (modelOf bytes .rule) a b
+  combined-up-to p q = costs.combine-up-to (modelOf bytes .rule) p q
+
+  -- f has the low figure of g
+  pub f-low : (g : Cost) (h : ℕ) → costsIn bytes .combine g (hours h) .low ≡ g .low
+  unfolding costsOf
+  f-low g h = costs.f-low (modelOf bytes .rule) g h
 
   -- ---- steps and h, below the range's end
 
-  pub step-cost-below : (s : State) (t : ℕ) {c : ℕ} {u : State} → systemIn bytes .move s t ≡ moved c u → c < rangeEnd
+  pub step-cost-below : (s : State) (t : ℕ) {c : Cost} {u : State} → systemIn bytes .move s t ≡ moved c u → CostBelow rangeEnd c
   step-cost-below s t e = ranges.step-cost-below rangeEnd (modelOf bytes) s t e
 
-  pub trouble-cost-below : (s : State) (t : ℕ) {c n : ℕ} → systemIn bytes .move s t ≡ troubleAfter c n → c < rangeEnd
+  pub trouble-cost-below : (s : State) (t : ℕ) {c : Cost} {n : ℕ} → systemIn bytes .move s t ≡ troubleAfter c n → CostBelow rangeEnd c
   trouble-cost-below s t e = ranges.trouble-cost-below rangeEnd (modelOf bytes) s t e
 
-  pub bound-below : (s : State) {h : ℕ} → systemIn bytes .bound s ≡ value h → h < rangeEnd
-  bound-below s e = ranges.bound-below rangeEnd (modelOf bytes) (omega arith) s e
+  pub bound-below : (s : State) {h : ℕ} → boundIn bytes s ≡ value h → h < rangeEnd
+  bound-below s e = ranges.bound-hours-below rangeEnd (modelOf bytes) (omega arith) s e
+
+  -- h as a cost
+  pub bound-hours : (s : State) {h : ℕ} → boundIn bytes s ≡ value h → systemIn bytes .bound s ≡ value (hours h)
+  unfolding systemOf bound _>>=_
+  bound-hours s e = rw e
+
+  pub bound-troubles : (s : State) {t : ℕ} → boundIn bytes s ≡ trouble t → systemIn bytes .bound s ≡ trouble t
+  unfolding systemOf bound _>>=_
+  bound-troubles s e = rw e
 
   -- ---- the start
 
@@ -81,7 +97,7 @@ module _ (bytes : List ℕ) where
   unfolding originOf
   origin-start = refl
 
-  pub origin-spent : originIn bytes .spent ≡ 0
+  pub origin-spent : originIn bytes .spent ≡ free
   unfolding originOf
   origin-spent = refl
 

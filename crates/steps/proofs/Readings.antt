@@ -12,9 +12,9 @@ use lib.Dec.{eqb}
 use borrow.Author.Tests.{eqb-true, eqb-false}
 use Rattle.model.specs.Numbers.{offLimits, mismatch, mostConditions, mostNesting, mostVariables}
 use Rattle.model.specs.Readers.{read, Reader, after, continue, _>>=_, _>>_, give, refuse, require, peek, byte, word, one, command, many, upTo}
-use Rattle.model.specs.Syntax.{Element, Set, Condition, Number, Expression, ofSet, ofElement, ofNumber, aSet, anElement, aNumber, Variable, Table, Effect, Transition}
+use Rattle.model.specs.Syntax.{Element, Set, Condition, Number, Expression, ofSet, ofElement, ofNumber, aSet, anElement, aNumber, Variable, Table, Effect, StepCosts, Transition}
 use Rattle.model.specs.Expressions.{declared, element, set, number, condition}
-use Rattle.model.specs.Commands.{conditions, effectTarget, expressionFor, effectOn, transition}
+use Rattle.model.specs.Commands.{conditions, costs, effectTarget, expressionFor, effectOn, transition}
 use Rattle.model.proofs.Chains.{chain, given, required, byte-used, commanded}
 use Rattle.steps.specs.Says.{effectList}
 
@@ -206,44 +206,59 @@ module _ (vs : List Variable) (ts : List Table) (bytes : List ℕ) where
           let e : drop n (drop at bytes) ≡ drop (at + 1) bytes = rw (t .one-used) (drop-drop 1 at bytes) in
           effect-at at p n f k t (rw e at q)
 
+  -- ---- a step's costs
+
+  -- 09, then the number
+  pub record CostsAt (at : ℕ) (k : StepCosts) (next : ℕ) : Type 0 where
+    pub used : ℕ
+    pub there : getD bytes at 0 ≡ 0x09
+    pub reads : number vs ts mostNesting (drop (at + 1) bytes) ≡ read (k .cost) used
+    pub ends : next ≡ at + 1 + used
+
+  pub costs-at : (at : ℕ) (k : StepCosts) (n : ℕ) → costs vs ts (drop at bytes) ≡ read k n → CostsAt at k (at + n)
+  unfolding costs _>>=_ _>>_
+  costs-at at k n h =
+      let e = drop at bytes in
+      let c1 = chain (command 0x09 e) _ e k n h in
+      let w = commanded 0x09 e (c1 .first) (c1 .used) (c1 .reads-first) in
+      let c2 = chain (number vs ts mostNesting (drop (c1 .used) e)) _ (drop (c1 .used) e) k (c1 .left) (c1 .reads-next) in
+      let g = given _ _ k (c2 .left) (c2 .reads-next) in
+      let behind : drop (c1 .used) e ≡ drop (at + 1) bytes = rw (w .0) (drop-drop 1 at bytes) in
+      record {
+        used = c2 .used;
+        there = sym (front-byte bytes at) ∙ w .1;
+        reads = ap (number vs ts mostNesting) (sym behind) ∙ c2 .reads-first ∙ ap (λ (i : StepCosts). read (i .cost) (c2 .used)) (g .0);
+        ends = omega (arith, w .0, c1 .uses, c2 .uses, g .1);
+      }
+
   -- ---- a transition
 
   pub record PartsAt (at : ℕ) (x : Transition) : Type 0 where
     pub conditions-used : ℕ
-    pub cost-used : ℕ
+    pub costs-used : ℕ
     pub effects-used : ℕ
     pub reads-conditions : conditions vs ts (drop at bytes) ≡ read (x .conditions) conditions-used
-    pub reads-cost : number vs ts mostNesting (drop (at + conditions-used + 1) bytes) ≡ read (x .cost) cost-used
-    pub cost-there : getD bytes (at + conditions-used) 0 ≡ 0x09
-    pub reads-effects : effectList vs ts (drop (at + conditions-used + 1 + cost-used) bytes) ≡ read (x .effects) effects-used
-
-  -- by the bytes of the conditions, of the command 09, of the cost and of the effects
-  parts-told : (at n j k m : ℕ) (x : Transition) {a : List Condition} {y : Number} {z : List Effect} → j ≡ 1 → conditions vs ts (drop at bytes) ≡ read a n → getD (drop n (drop at bytes)) 0 0 ≡ 0x09
-      → number vs ts mostNesting (drop j (drop n (drop at bytes))) ≡ read y k → effectList vs ts (drop k (drop j (drop n (drop at bytes)))) ≡ read z m → record { conditions = a; cost = y; effects = z } ≡ x → PartsAt at x
-  parts-told at n j k m x one cs c y z e =
-      let e2 : drop j (drop n (drop at bytes)) ≡ drop (at + n + 1) bytes = rw (one, drop-drop n at bytes) (drop-drop 1 (at + n) bytes) in
-      let e3 : drop k (drop j (drop n (drop at bytes))) ≡ drop (at + n + 1 + k) bytes = ap (drop k) e2 ∙ drop-drop k (at + n + 1) bytes in
-      record {
-        conditions-used = n;
-        cost-used = k;
-        effects-used = m;
-        reads-conditions = cs ∙ ap (λ (i : Transition). read (i .conditions) n) e;
-        reads-cost = ap (number vs ts mostNesting) (sym e2) ∙ y ∙ ap (λ (i : Transition). read (i .cost) k) e;
-        cost-there = sym (front-byte bytes (at + n)) ∙ ap (λ (l : List ℕ). getD l 0 0) (sym (drop-drop n at bytes)) ∙ c;
-        reads-effects = ap (effectList vs ts) (sym e3) ∙ z ∙ ap (λ (i : Transition). read (i .effects) m) e;
-      }
+    pub reads-costs : costs vs ts (drop (at + conditions-used) bytes) ≡ read (x .costs) costs-used
+    pub reads-effects : effectList vs ts (drop (at + conditions-used + costs-used) bytes) ≡ read (x .effects) effects-used
 
   pub parts-at : (at : ℕ) (x : Transition) (u : ℕ) → transition vs ts (drop at bytes) ≡ read x u → PartsAt at x
-  unfolding transition _>>=_ _>>_
+  unfolding transition _>>=_
   parts-at at x u h =
       let e = drop at bytes in
       let c1 = chain (conditions vs ts e) _ e x u h in
-      let c2 = chain (command 0x09 (drop (c1 .used) e)) _ (drop (c1 .used) e) x (c1 .left) (c1 .reads-next) in
-      let w = commanded 0x09 (drop (c1 .used) e) (c2 .first) (c2 .used) (c2 .reads-first) in
-      let c3 = chain (number vs ts mostNesting (drop (c2 .used) (drop (c1 .used) e))) _ (drop (c2 .used) (drop (c1 .used) e)) x (c2 .left) (c2 .reads-next) in
-      let c4 = chain (effectList vs ts (drop (c3 .used) (drop (c2 .used) (drop (c1 .used) e)))) _ (drop (c3 .used) (drop (c2 .used) (drop (c1 .used) e))) x (c3 .left) (c3 .reads-next) in
-      let g = given _ _ x (c4 .left) (c4 .reads-next) in
-      parts-told at (c1 .used) (c2 .used) (c3 .used) (c4 .used) x (w .0) (c1 .reads-first) (w .1) (c3 .reads-first) (c4 .reads-first) (g .0)
+      let c2 = chain (costs vs ts (drop (c1 .used) e)) _ (drop (c1 .used) e) x (c1 .left) (c1 .reads-next) in
+      let c3 = chain (effectList vs ts (drop (c2 .used) (drop (c1 .used) e))) _ (drop (c2 .used) (drop (c1 .used) e)) x (c2 .left) (c2 .reads-next) in
+      let g = given _ _ x (c3 .left) (c3 .reads-next) in
+      let e1 : drop (c1 .used) e ≡ drop (at + c1 .used) bytes = drop-drop (c1 .used) at bytes in
+      let e2 : drop (c2 .used) (drop (c1 .used) e) ≡ drop (at + c1 .used + c2 .used) bytes = ap (drop (c2 .used)) e1 ∙ drop-drop (c2 .used) (at + c1 .used) bytes in
+      record {
+        conditions-used = c1 .used;
+        costs-used = c2 .used;
+        effects-used = c3 .used;
+        reads-conditions = c1 .reads-first ∙ ap (λ (i : Transition). read (i .conditions) (c1 .used)) (g .0);
+        reads-costs = ap (costs vs ts) (sym e1) ∙ c2 .reads-first ∙ ap (λ (i : Transition). read (i .costs) (c2 .used)) (g .0);
+        reads-effects = ap (effectList vs ts) (sym e2) ∙ c3 .reads-first ∙ ap (λ (i : Transition). read (i .effects) (c3 .used)) (g .0);
+      }
 
 -- ---- an effect's expression, by the kind of its variable
 

@@ -13,7 +13,7 @@ use Rattle.model.specs.Syntax.{Number, Condition}
 use Rattle.model.specs.Expressions as reading
 use Rattle.model.specs.Commands.{conditions}
 use Rattle.model.specs.Meaning.{numberValue, conditionValue, allHold, someHolds}
-use Rattle.model.specs.Steps.{admits, statusOf, status, raise, greatest, bound, systemOf}
+use Rattle.model.specs.Steps.{admits, statusOf, status, raise, greatest, boundHours, systemOf}
 use Rattle.outline.specs.Outline.{modelOf, baseCasesFrom, boundsFrom}
 use Rattle.prepare.specs.Layout.{conjunctsFrom, conjunctCountAt}
 use Rattle.prepare.specs.Guards.{passes, guardIn}
@@ -28,7 +28,7 @@ use Rattle.steps.specs.declared.answers.HeldAnswer.{HeldAnswer}
 use Rattle.steps.specs.declared.answers.HeldAnswer.the-variants as H
 use Rattle.steps.specs.declared.answers.StatusAnswer.the-variants as S
 use Rattle.steps.specs.declared.answers.BoundAnswer.the-variants as B
-use Rattle.steps.specs.InBytes.{Outlined, stateIn, systemIn}
+use Rattle.steps.specs.InBytes.{Outlined, stateIn, systemIn, boundIn}
 use Rattle.steps.specs.Answers.{heldAnswer, statusAnswer, boundAnswer}
 use Rattle.quick.specs.Quick.{QuickSays}
 use Rattle.quick.specs.Sums.{boundPlace, BoundTold}
@@ -275,14 +275,14 @@ module _ {bytes words : List ℕ} (o : Outlined bytes words) (state : List ℕ) 
 
 -- h is the greatest of those before k
 abbrev pub Raising : (bytes state : List ℕ) (k h : ℕ) → Type 0
-Raising bytes state k h = systemIn bytes .bound (stateIn bytes state) ≡ greatest rangeEnd (modelOf bytes) (drop k (modelOf bytes .bounds)) (stateIn bytes state) h
+Raising bytes state k h = boundIn bytes (stateIn bytes state) ≡ greatest rangeEnd (modelOf bytes) (drop k (modelOf bytes .bounds)) (stateIn bytes state) h
 
 pub raising-first : (bytes state : List ℕ) → Raising bytes state 0 0
-unfolding systemOf bound
+unfolding boundHours
 raising-first bytes state = refl
 
 module _ (bytes state : List ℕ) (k h : ℕ) (passed : Raising bytes state k h) where
-  pub raising-last : length (modelOf bytes .bounds) ≤ k → B.Value h ≡ boundAnswer (systemIn bytes .bound (stateIn bytes state))
+  pub raising-last : length (modelOf bytes .bounds) ≤ k → B.Value h ≡ boundAnswer (boundIn bytes (stateIn bytes state))
   unfolding boundAnswer greatest bounds-from
   raising-last l = rw (none-left (bounds-from bytes state h) (modelOf bytes .bounds) k passed l)
 
@@ -300,6 +300,6 @@ module _ (bytes state : List ℕ) (k h : ℕ) (passed : Raising bytes state k h)
     unfolding bounds-from
     raising-more e = with-value (bounds-from bytes state h) (modelOf bytes .bounds) k passed (placed .rest) (number-is number (number-said .0) (number-said .1 ∙ e) .0)
 
-    pub raising-troubles : {t : ℕ} → r ≡ N.Trouble t → B.Trouble t ≡ boundAnswer (systemIn bytes .bound (stateIn bytes state))
+    pub raising-troubles : {t : ℕ} → r ≡ N.Trouble t → B.Trouble t ≡ boundAnswer (boundIn bytes (stateIn bytes state))
     unfolding boundAnswer bounds-from
     raising-troubles e = rw (with-trouble (bounds-from bytes state h) (modelOf bytes .bounds) k passed (placed .rest) (number-troubles number (number-said .0) (number-said .1 ∙ e)))

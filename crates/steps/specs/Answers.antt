@@ -1,10 +1,10 @@
--- The answers in enums and codes, from the definitions' own.
-use Prim.Native.Nat.{ℕ, suc}
+-- The answers in enums, from the definitions' own.
+use Prim.Native.Nat.{ℕ}
 use mathlib.Core.Bool.{Bool, true, false}
-use lib.IntN.{ℤ, pos, negsuc}
 use Rattle.model.specs.Values.{Value, value, trouble}
 use Rattle.model.specs.System.{Status, base, unfinished, noStatus, Move, blocked, moved, troubleBefore, troubleAfter}
 use Rattle.model.specs.Meaning.{State}
+use Rattle.model.specs.declared.Cost.{Cost}
 use Rattle.model.specs.Steps.{Attempt, notTaken, taken}
 use Rattle.steps.specs.declared.answers.StatusAnswer.{StatusAnswer}
 use Rattle.steps.specs.declared.answers.StatusAnswer.the-variants as S
@@ -16,6 +16,8 @@ use Rattle.steps.specs.declared.answers.CostAnswer.{CostAnswer}
 use Rattle.steps.specs.declared.answers.CostAnswer.the-variants as C
 use Rattle.steps.specs.declared.answers.EffectsAnswer.{EffectsAnswer}
 use Rattle.steps.specs.declared.answers.EffectsAnswer.the-variants as E
+use Rattle.steps.specs.declared.answers.AttemptAnswer.{AttemptAnswer}
+use Rattle.steps.specs.declared.answers.AttemptAnswer.the-variants as A
 use Rattle.steps.specs.declared.answers.MoveAnswer.{MoveAnswer}
 use Rattle.steps.specs.declared.answers.MoveAnswer.the-variants as M
 
@@ -34,25 +36,20 @@ unfoldable pub boundAnswer : Value ℕ → BoundAnswer
 boundAnswer (value h) = B.Value h
 boundAnswer (trouble t) = B.Trouble t
 
-unfoldable pub costAnswer : Value ℕ → (used : ℕ) → CostAnswer
-costAnswer (value c) n = C.Cost c n
+unfoldable pub costAnswer : Value Cost → (used : ℕ) → CostAnswer
+costAnswer (value c) n = C.Costs c n
 costAnswer (trouble t) n = C.Trouble t
 
 unfoldable pub effectsAnswer : Value State → EffectsAnswer
 effectsAnswer (value u) = E.Done
 effectsAnswer (trouble t) = E.Trouble t
 
--- trouble t in a code, -2 - t
-abbrev pub troubleCode : (t : ℕ) → ℤ
-troubleCode t = negsuc (suc t)
+unfoldable pub attemptAnswer : Value Attempt → AttemptAnswer
+attemptAnswer (value notTaken) = A.NotTaken
+attemptAnswer (value (taken c u)) = A.Taken c
+attemptAnswer (trouble t) = A.Trouble t
 
--- a step before the new state's constraints, in one number: its cost, -1 where it is not taken, -2 - t at trouble t
-unfoldable pub attemptCode : Value Attempt → ℤ
-attemptCode (value notTaken) = negsuc 0
-attemptCode (value (taken c u)) = pos c
-attemptCode (trouble t) = troubleCode t
-
-unfoldable pub moveAnswer : Move State ℕ → MoveAnswer
+unfoldable pub moveAnswer : Move State Cost → MoveAnswer
 moveAnswer blocked = M.Blocked
 moveAnswer (moved c u) = M.Moved c
 moveAnswer (troubleBefore t) = M.Before t

@@ -6,7 +6,9 @@ use Rattle.model.specs.Numbers.{rangeEnd, mostVariables}
 use Rattle.model.specs.System.{System, Origin}
 use Rattle.model.specs.Meaning.{State}
 use Rattle.model.specs.Commands.{model}
-use Rattle.model.specs.Steps.{systemOf, target, originOf}
+use Rattle.model.specs.declared.Cost.{Cost}
+use Rattle.model.specs.Values.{Value}
+use Rattle.model.specs.Steps.{systemOf, target, originOf, boundHours}
 use Rattle.words.specs.States.{stateOf}
 use Rattle.outline.specs.Outline.{modelOf, refusalOf, Outlines}
 use Rattle.prepare.specs.Layout.{preparedWords}
@@ -22,8 +24,12 @@ pub record Outlined (bytes words : List ℕ) : Type 0 where
   pub prepared : Prepared bytes words (modelOf bytes)
   pub long : preparedWords ≤ length words
 
-abbrev pub systemIn : (bytes : List ℕ) → System State ℕ
+abbrev pub systemIn : (bytes : List ℕ) → System State Cost
 systemIn bytes = systemOf rangeEnd (modelOf bytes)
+
+-- h of a state, in hours
+abbrev pub boundIn : (bytes : List ℕ) → State → Value ℕ
+boundIn bytes = boundHours rangeEnd (modelOf bytes)
 
 -- a word for each variable that a model may have
 abbrev pub StateRoom : (words : List ℕ) → Type 0
@@ -36,5 +42,5 @@ stateIn bytes words = stateOf (modelOf bytes .variables) words
 abbrev pub targetIn : (bytes : List ℕ) → State
 targetIn bytes = target (modelOf bytes)
 
-abbrev pub originIn : (bytes : List ℕ) → Origin State ℕ
+abbrev pub originIn : (bytes : List ℕ) → Origin State Cost
 originIn bytes = originOf (modelOf bytes)

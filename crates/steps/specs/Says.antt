@@ -12,11 +12,12 @@ use Rattle.model.specs.Numbers.{rangeEnd, mostNesting, mostVariables}
 use Rattle.model.specs.Values.{Value, value, trouble, _>>=_}
 use Rattle.model.specs.System.{blocked, moved}
 use Rattle.model.specs.Readers.{Reader, read, many}
-use Rattle.model.specs.Syntax.{Element, Set, Number, Condition, Kind, aNumber, Variable, Expression, Effect, Transition, Table}
+use Rattle.model.specs.Syntax.{Element, Set, Number, Condition, Kind, aNumber, Variable, Expression, Effect, StepCosts, Transition, Table}
+use Rattle.model.specs.declared.Cost.{Cost}
 use Rattle.model.specs.Expressions as reading
-use Rattle.model.specs.Commands.{conditions, effectTarget, effectOn, expressionFor, transition}
+use Rattle.model.specs.Commands.{conditions, costs, effectTarget, effectOn, expressionFor, transition}
 use Rattle.model.specs.Meaning.{State, elementValue, setValue, numberValue, conditionValue, expressionValue, allHold}
-use Rattle.model.specs.Steps.{costOf, effects, Attempt, taken, attempt}
+use Rattle.model.specs.Steps.{stepCost, effects, Attempt, taken, attempt}
 use Rattle.words.specs.States.{valueOf}
 use Rattle.eval_sets.specs.declared.answers.NumberValue.{NumberValue}
 use Rattle.eval_sets.specs.declared.answers.ConditionValue.{ConditionValue}
@@ -34,8 +35,9 @@ use Rattle.steps.specs.declared.answers.CostAnswer.the-variants as C
 use Rattle.steps.specs.declared.answers.WordAnswer.{WordAnswer}
 use Rattle.steps.specs.declared.answers.WordAnswer.the-variants as W
 use Rattle.steps.specs.declared.answers.EffectsAnswer.{EffectsAnswer}
+use Rattle.steps.specs.declared.answers.AttemptAnswer.{AttemptAnswer}
 use Rattle.steps.specs.declared.answers.MoveAnswer.{MoveAnswer}
-use Rattle.steps.specs.Answers.{heldAnswer, costAnswer, effectsAnswer, attemptCode, moveAnswer}
+use Rattle.steps.specs.Answers.{heldAnswer, costAnswer, effectsAnswer, attemptAnswer, moveAnswer}
 use Rattle.steps.specs.InBytes.{stateIn, systemIn}
 
 -- 0A from the first on, as a transition has them
@@ -48,9 +50,9 @@ pub record ReadsAt {A : Type 0} (r : Reader A) (bytes : List ℕ) (at : ℕ) : T
   pub used : ℕ
   pub reads : r (drop at bytes) ≡ read item used
 
--- a cost in range, and no more bytes used than there are
+-- no more bytes used than there are
 abbrev pub CostWithin : (bytes : ℕ) → CostAnswer → Type 0
-CostWithin l (C.Cost c n) = (c < rangeEnd) × (n ≤ l)
+CostWithin l (C.Costs c n) = n ≤ l
 CostWithin l (C.Trouble t) = Unit {0}
 
 -- no more bytes used than there are
@@ -76,11 +78,10 @@ module _ (bytes : List ℕ) where
   abbrev pub TransitionRead : (at : ℕ) → Type 0
   TransitionRead at = ReadsAt (transition variablesIn tablesIn) bytes at
 
-  -- the code, and the new state's words where the step is taken; a trouble's number is a byte
-  pub record AttemptSay (child : List ℕ) (r : ℤ) (v : Value Attempt) : Type 0 where
-    pub answer : r ≡ attemptCode v
-    pub byte : (t : ℕ) → v ≡ trouble t → t < 256
-    pub written : (c : ℕ) (u : State) → v ≡ value (taken c u) → stateIn bytes child ≡ u
+  -- the answer, and the new state's words where the step is taken
+  pub record AttemptSay (child : List ℕ) (r : AttemptAnswer) (v : Value Attempt) : Type 0 where
+    pub answer : r ≡ attemptAnswer v
+    pub written : (c : Cost) (u : State) → v ≡ value (taken c u) → stateIn bytes child ≡ u
 
   module _ (at : ℕ) (state : List ℕ) where
     abbrev pub ConditionSays : ConditionValue → Type 0
@@ -104,9 +105,9 @@ module _ (bytes : List ℕ) where
     HeldSays r = (l : List Condition) (n : ℕ) → conditions variablesIn tablesIn (drop at bytes) ≡ read l n
         → r ≡ heldAnswer (allHold rangeEnd tablesIn l (stateIn bytes state)) (at + n)
 
-    abbrev pub CostSays : CostAnswer → Type 0
-    CostSays r = (x : Number) (n : ℕ) → reading.number variablesIn tablesIn mostNesting (drop at bytes) ≡ read x n
-        → r ≡ costAnswer (numberValue rangeEnd tablesIn x (stateIn bytes state) >>= costOf) n
+    -- what a step costs, 09 and its number
+    abbrev pub CostsSay : CostAnswer → Type 0
+    CostsSay r = (k : StepCosts) (n : ℕ) → costs variablesIn tablesIn (drop at bytes) ≡ read k n → r ≡ costAnswer (stepCost rangeEnd (modelOf bytes) k (stateIn bytes state)) n
 
     -- the word of a number variable
     abbrev pub NumberWordSays : WordAnswer → Type 0
@@ -126,16 +127,15 @@ module _ (bytes : List ℕ) where
     abbrev pub EffectsSays : (before after : List ℕ) → EffectsAnswer → Type 0
     EffectsSays before after r = (l : List Effect) (n : ℕ) → effectList variablesIn tablesIn (drop at bytes) ≡ read l n → EffectsSay before after r l
 
-    -- a cost and the effects behind it
-    abbrev pub takenIn : Number → List Effect → Value Attempt
-    takenIn x l =
-        numberValue rangeEnd tablesIn x (stateIn bytes state) >>= λ z. costOf z >>= λ c. effects rangeEnd (modelOf bytes) l (stateIn bytes state) (stateIn bytes state) >>= λ new. value (taken c new)
+    -- costs and the effects behind them
+    abbrev pub takenIn : StepCosts → List Effect → Value Attempt
+    takenIn x l = stepCost rangeEnd (modelOf bytes) x (stateIn bytes state) >>= λ c. effects rangeEnd (modelOf bytes) l (stateIn bytes state) (stateIn bytes state) >>= λ new. value (taken c new)
 
-    abbrev pub TakenSays : (child : List ℕ) → ℤ → Type 0
-    TakenSays child r = (x : Number) (n : ℕ) (l : List Effect) (k : ℕ) → reading.number variablesIn tablesIn mostNesting (drop at bytes) ≡ read x n
+    abbrev pub TakenSays : (child : List ℕ) → AttemptAnswer → Type 0
+    TakenSays child r = (x : StepCosts) (n : ℕ) (l : List Effect) (k : ℕ) → costs variablesIn tablesIn (drop at bytes) ≡ read x n
         → effectList variablesIn tablesIn (drop (at + n) bytes) ≡ read l k → AttemptSay child r (takenIn x l)
 
-    abbrev pub AttemptSays : (child : List ℕ) → ℤ → Type 0
+    abbrev pub AttemptSays : (child : List ℕ) → AttemptAnswer → Type 0
     AttemptSays child r = (x : Transition) (n : ℕ) → transition variablesIn tablesIn (drop at bytes) ≡ read x n → AttemptSay child r (attempt rangeEnd (modelOf bytes) x (stateIn bytes state))
 
   -- the condition at a place, without its bytes
@@ -146,16 +146,14 @@ module _ (bytes : List ℕ) where
   abbrev pub ConjunctSays : (words : List ℕ) (k : ℕ) (state : List ℕ) → HeldAnswer → Type 0
   ConjunctSays words k state r = (x : Condition) → ConjunctAt bytes words (modelOf bytes) k x → r ≡ heldAnswer (conditionValue rangeEnd tablesIn x (stateIn bytes state)) 0
 
-  -- a cost, then effects
+  -- costs, then effects
   pub record TakenRead (at : ℕ) : Type 0 where
-    pub cost : Number
-    pub cost-used : ℕ
-    pub reads-cost : reading.number variablesIn tablesIn mostNesting (drop at bytes) ≡ read cost cost-used
-    pub inside : at ≤ length bytes
-    pub effects-read : EffectsRead (at + cost-used)
+    pub costs-read : ReadsAt (costs variablesIn tablesIn) bytes at
+    pub inside : at < length bytes
+    pub effects-read : EffectsRead (at + costs-read .used)
 
   -- transition t was tried in the state
-  pub record Tried (state : List ℕ) (t : ℕ) (child : List ℕ) (r : ℤ) : Type 0 where
+  pub record Tried (state : List ℕ) (t : ℕ) (child : List ℕ) (r : AttemptAnswer) : Type 0 where
     pub transition-of : Transition
     pub declared : getElem? (modelOf bytes .transitions) t ≡ some transition-of
     pub says : AttemptSay child r (attempt rangeEnd (modelOf bytes) transition-of (stateIn bytes state))
@@ -163,7 +161,7 @@ module _ (bytes : List ℕ) where
   -- the answer of a move, and the new state's words where it is one
   pub record MoveSays (state : List ℕ) (t : ℕ) (child : List ℕ) (r : MoveAnswer) : Type 0 where
     pub answer : r ≡ moveAnswer (systemIn bytes .move (stateIn bytes state) t)
-    pub arrives : (c : ℕ) (u : State) → systemIn bytes .move (stateIn bytes state) t ≡ moved c u → stateIn bytes child ≡ u
+    pub arrives : (c : Cost) (u : State) → systemIn bytes .move (stateIn bytes state) t ≡ moved c u → stateIn bytes child ≡ u
 
   -- where the answer is no, transition t is blocked
   abbrev pub AllowedSays : (state : List ℕ) (t : ℕ) → Bool → Type 0

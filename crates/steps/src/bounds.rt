@@ -6,7 +6,7 @@ ghost use lib.ListN.{length};
 ghost use Rattle.model.specs.Steps as steps;
 ghost use Rattle.outline.specs.Outline.{modelOf};
 ghost use Rattle.quick.specs.Sums.{Remembers};
-ghost use Rattle.steps.specs.InBytes.{Outlined, stateIn, systemIn};
+ghost use Rattle.steps.specs.InBytes.{Outlined, stateIn, boundIn};
 ghost use Rattle.steps.specs.Answers.{boundAnswer};
 ghost use Rattle.steps.specs.Says.{BoundSays, InnerPlace};
 use crate::answers::BoundAnswer;
@@ -74,7 +74,7 @@ pub fn bound(
     sums: &mut [u64; SUM_WORDS],
 ) -> BoundAnswer
     requires { ⌜ Outlined (now model) (now outline) × Remembers (now model) (now outline) (now sums) ⌝ }
-    ensures { λ r. ⌜ (r ≡ boundAnswer (systemIn (now (model .entry)) .bound (stateIn (now (model .entry)) (now (state .entry))))) × Remembers (now (model .entry)) (now (outline .entry)) (now (sums .exit)) ⌝ }
+    ensures { λ r. ⌜ (r ≡ boundAnswer (boundIn (now (model .entry)) (stateIn (now (model .entry)) (now (state .entry))))) × Remembers (now (model .entry)) (now (outline .entry)) (now (sums .exit)) ⌝ }
 {
     let count = word_at(outline, BOUND_COUNT) as usize;
     let mut h: u64 = 0;

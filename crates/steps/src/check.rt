@@ -2,9 +2,11 @@
 
 ghost use mathlib.Core.Path.{_≡_};
 ghost use mathlib.Core.List.{_∷_};
-ghost use Prim.Native.Nat.{_+_, _≤_, _<_, _^_};
+ghost use Prim.Native.Nat.{_≤_, _<_, _^_};
 ghost use lib.ListN.{length};
 ghost use Rattle.model.specs.Values.{trouble};
+ghost use Rattle.model.specs.Costs.{free, CostBelow};
+ghost use Rattle.costs.specs.Costs.{Joinable};
 ghost use Rattle.steps.specs.InBytes.{Outlined, stateIn, targetIn};
 ghost use Rattle.steps.specs.Follow.{costsIn, followIn, followFromIn, stepTried, finished, FollowsOn, CheckedIs};
 use crate::answers::Checked;
@@ -17,20 +19,19 @@ use crate::conditions::constraints_hold;
 use crate::conditions::status;
 use crate::moves::step;
 use crate::states::start;
+use costs::hours;
+use model::Cost;
 use outline::layout::PREPARED_WORDS;
 use outline::layout::RULE;
 use outline::layout::STATE_WORDS;
 use outline::word_at;
 
 // The cost of a path and of a step behind it, by the cost rule.
-pub fn combine(model: &[u8], outline: &[u64; PREPARED_WORDS], g: u64, c: u64) -> u64
-    requires { ⌜ Outlined (now model) (now outline) × (g + c < 2 ^ 64) ⌝ }
+pub fn combine(model: &[u8], outline: &[u64; PREPARED_WORDS], g: Cost, c: Cost) -> Cost
+    requires { ⌜ Outlined (now model) (now outline) × Joinable g c ⌝ }
     ensures { λ r. ⌜ r ≡ costsIn (now (model .entry)) .combine g c ⌝ }
 {
-    if word_at(outline, RULE) == 0 {
-        return g + c;
-    }
-    if g < c { c } else { g }
+    costs::combine(word_at(outline, RULE), g, c)
 }
 
 // Tries one transition of a plan.
@@ -39,10 +40,10 @@ fn tried_step(
     outline: &[u64; PREPARED_WORDS],
     state: &[u64; STATE_WORDS],
     t: u8,
-    g: u64,
+    g: Cost,
     child: &mut [u64; STATE_WORDS],
 ) -> FollowAnswer
-    requires { ⌜ Outlined (now model) (now outline) × (g < 2 ^ 63) ⌝ }
+    requires { ⌜ Outlined (now model) (now outline) × CostBelow (2 ^ 63) g ⌝ }
     ensures { λ r. ⌜ FollowsOn (now (model .entry)) (stepTried (now (model .entry)) (stateIn (now (model .entry)) (now (state .entry))) t g) (now (child .exit)) g r ⌝ }
 {
     match step(model, outline, state, t as usize, child) {
@@ -59,10 +60,10 @@ fn checked_step(
     outline: &[u64; PREPARED_WORDS],
     state: &[u64; STATE_WORDS],
     t: u8,
-    g: u64,
+    g: Cost,
     child: &mut [u64; STATE_WORDS],
 ) -> FollowAnswer
-    requires { ⌜ Outlined (now model) (now outline) × (g < 2 ^ 63) ⌝ }
+    requires { ⌜ Outlined (now model) (now outline) × CostBelow (2 ^ 63) g ⌝ }
     ensures { λ r. ⌜ FollowsOn (now (model .entry)) (λ plan. followIn (now (model .entry)) (t ∷ plan) (stateIn (now (model .entry)) (now (state .entry))) g) (now (child .exit)) g r ⌝ }
 {
     match status(model, outline, state) {
@@ -72,23 +73,30 @@ fn checked_step(
     }
 }
 
+// A plan that is refused, with this number.
+pub fn refused_plan(number: u8) -> Checked
+    ensures { λ r. ⌜ CheckedIs (trouble number) r ⌝ }
+{
+    Checked {
+        answer: number,
+        cost: hours(0),
+    }
+}
+
 // The final state, g being spent.
 fn finish(
     model: &[u8],
     outline: &[u64; PREPARED_WORDS],
     state: &[u64; STATE_WORDS],
-    g: u64,
+    g: Cost,
 ) -> Checked
     requires { ⌜ Outlined (now model) (now outline) ⌝ }
     ensures { λ r. ⌜ CheckedIs (finished (now (model .entry)) (stateIn (now (model .entry)) (now (state .entry))) g) r ⌝ }
 {
     match status(model, outline, state) {
         StatusAnswer::Base => Checked { answer: 0, cost: g },
-        StatusAnswer::Unfinished => Checked {
-            answer: NOT_A_PLAN,
-            cost: 0,
-        },
-        StatusAnswer::Trouble(n) => Checked { answer: n, cost: 0 },
+        StatusAnswer::Unfinished => refused_plan(NOT_A_PLAN),
+        StatusAnswer::Trouble(n) => refused_plan(n),
     }
 }
 
@@ -100,11 +108,11 @@ fn follow_steps(
     plan: &[u8],
 ) -> Checked
     requires { ⌜ Outlined (now model) (now outline) × (length (now plan) ≤ 256) ⌝ }
-    ensures { λ r. ⌜ CheckedIs (followIn (now (model .entry)) (now (plan .entry)) (stateIn (now (model .entry)) (now (from .entry))) 0) r ⌝ }
+    ensures { λ r. ⌜ CheckedIs (followIn (now (model .entry)) (now (plan .entry)) (stateIn (now (model .entry)) (now (from .entry))) free) r ⌝ }
 {
     let mut state = *from;
     let mut child = [0u64; STATE_WORDS];
-    let mut g: u64 = 0;
+    let mut g = hours(0);
     let mut i: usize = 0;
     while i < plan.len() {
         match checked_step(model, outline, &state, plan[i], g, &mut child) {
@@ -113,26 +121,16 @@ fn follow_steps(
                 state = child;
                 i += 1;
             }
-            FollowAnswer::Ended(n) => return Checked { answer: n, cost: 0 },
+            FollowAnswer::Ended(n) => return refused_plan(n),
         }
     }
     finish(model, outline, &state, g)
 }
 
-// A plan that is refused, with this number.
-fn refused_plan(number: u8) -> Checked
-    ensures { λ r. ⌜ CheckedIs (trouble number) r ⌝ }
-{
-    Checked {
-        answer: number,
-        cost: 0,
-    }
-}
-
 // Follows a plan from the target, which has to meet the constraints first: 0 and its cost, or the number of the first trouble.
 pub fn follow(model: &[u8], outline: &[u64; PREPARED_WORDS], plan: &[u8]) -> Checked
     requires { ⌜ Outlined (now model) (now outline) × (length (now plan) ≤ 256) ⌝ }
-    ensures { λ r. ⌜ CheckedIs (followFromIn (now (model .entry)) (now (plan .entry)) (targetIn (now (model .entry))) 0) r ⌝ }
+    ensures { λ r. ⌜ CheckedIs (followFromIn (now (model .entry)) (now (plan .entry)) (targetIn (now (model .entry))) free) r ⌝ }
 {
     let mut target = [0u64; STATE_WORDS];
     start(model, outline, &mut target);

@@ -8,8 +8,9 @@ ghost use Rattle.model.specs.Steps as steps;
 ghost use Rattle.outline.specs.Outline.{modelOf};
 ghost use Rattle.eval_sets.specs.Bounds.{NumberWithin};
 ghost use Rattle.steps.specs.InBytes.{Outlined, StateRoom, stateIn, systemIn};
-ghost use Rattle.steps.specs.Answers.{troubleCode, moveAnswer};
-ghost use Rattle.steps.specs.Says.{NumberSays, CostSays, CostWithin, NumberWordSays, WordSays, WordWithin, EffectsRead, EffectsSays, TakenRead, TakenSays, TransitionRead, AttemptSays, Tried, AllowedSays, MoveSays};
+ghost use Rattle.steps.specs.Answers.{moveAnswer};
+ghost use Rattle.steps.specs.Says.{NumberSays, CostsSay, CostWithin, NumberWordSays, WordSays, WordWithin, EffectsRead, EffectsSays, TakenRead, TakenSays, TransitionRead, AttemptSays, Tried, AllowedSays, MoveSays};
+use crate::answers::AttemptAnswer;
 use crate::answers::CostAnswer;
 use crate::answers::EffectsAnswer;
 use crate::answers::HeldAnswer;
@@ -22,9 +23,11 @@ use crate::parts::element_at;
 use crate::parts::number_near;
 use crate::parts::number_short;
 use crate::parts::set_at;
+use costs::fixed;
 use cursor::numbers::SILENT;
 use eval_sets::answers::NumberValue;
 use laws::byte_at;
+use model::Cost;
 use outline::layout::GUARDS;
 use outline::layout::KINDS;
 use outline::layout::PREPARED_WORDS;
@@ -62,22 +65,23 @@ fn cost_number(
     number_near(model, at, outline, state)
 }
 
-// The cost at a place; a negative one is trouble.
-fn cost_at(
+// What a step costs, from 09 on; a negative number is trouble.
+fn costs_at(
     model: &[u8],
     at: usize,
     outline: &[u64; PREPARED_WORDS],
     state: &[u64; STATE_WORDS],
 ) -> CostAnswer
-    requires { ⌜ Outlined (now model) (now outline) × (at ≤ length (now model)) ⌝ }
-    ensures { λ r. ⌜ CostSays (now (model .entry)) at (now (state .entry)) r × CostWithin (length (now (model .entry)) - at) r ⌝ }
+    requires { ⌜ Outlined (now model) (now outline) × (at < length (now model)) ⌝ }
+    ensures { λ r. ⌜ CostsSay (now (model .entry)) at (now (state .entry)) r × CostWithin (length (now (model .entry)) - at) r ⌝ }
 {
-    match cost_number(model, at, outline, state) {
+    match cost_number(model, at + 1, outline, state) {
         NumberValue::Value(z, used) => {
             if z < 0 {
                 return CostAnswer::Trouble(NEGATIVE_COST);
             }
-            CostAnswer::Cost(z as u64, used)
+            let cost = fixed(z as u64);
+            CostAnswer::Costs(cost, used + 1)
         }
         NumberValue::Trouble(t) => CostAnswer::Trouble(t),
     }
@@ -150,51 +154,44 @@ fn effects(
     EffectsAnswer::Done
 }
 
-// Trouble t in the code of a step.
-fn trouble_code(t: u8) -> i64
-    ensures { λ r. ⌜ (r ≡ troubleCode t) × (t < 256) ⌝ }
-{
-    -2 - (t as i64)
-}
-
-// Cost and effects of a step whose conditions hold, in a code: the cost, or -2 - t at trouble t.
+// Costs and effects of a step whose conditions hold, from 09 on.
 fn take(
     model: &[u8],
     at: usize,
     outline: &[u64; PREPARED_WORDS],
     state: &[u64; STATE_WORDS],
     child: &mut [u64; STATE_WORDS],
-) -> i64
+) -> AttemptAnswer
     requires { ⌜ Outlined (now model) (now outline) × TakenRead (now model) at × StateRoom (now state) ⌝ }
     ensures { λ r. ⌜ TakenSays (now (model .entry)) at (now (state .entry)) (now (child .exit)) r ⌝ }
 {
-    match cost_at(model, at, outline, state) {
-        CostAnswer::Cost(cost, used) => {
+    match costs_at(model, at, outline, state) {
+        CostAnswer::Costs(cost, used) => {
             *child = *state;
             match effects(model, at + used, outline, state, child) {
-                EffectsAnswer::Done => cost as i64,
-                EffectsAnswer::Trouble(t) => trouble_code(t),
+                EffectsAnswer::Done => AttemptAnswer::Taken(cost),
+                EffectsAnswer::Trouble(t) => AttemptAnswer::Trouble(t),
             }
         }
-        CostAnswer::Trouble(t) => trouble_code(t),
+        CostAnswer::Trouble(t) => AttemptAnswer::Trouble(t),
     }
 }
 
-// Conditions, cost and effects of the transition at a place, in a code: the cost, -1 where it is not taken, -2 - t at trouble t.
+// Conditions, costs and effects of the transition at a place.
 fn attempt(
     model: &[u8],
     at: usize,
     outline: &[u64; PREPARED_WORDS],
     state: &[u64; STATE_WORDS],
     child: &mut [u64; STATE_WORDS],
-) -> i64
+) -> AttemptAnswer
     requires { ⌜ Outlined (now model) (now outline) × TransitionRead (now model) at × StateRoom (now state) ⌝ }
     ensures { λ r. ⌜ AttemptSays (now (model .entry)) at (now (state .entry)) (now (child .exit)) r ⌝ }
 {
     match conditions_hold(model, at, outline, state) {
-        HeldAnswer::All(next) => take(model, next + 1, outline, state, child),
-        HeldAnswer::Fails => -1,
-        HeldAnswer::Trouble(t) => trouble_code(t),
+        HeldAnswer::All(next) => take(model, next, outline, state, child),
+        HeldAnswer::Fails => AttemptAnswer::NotTaken,
+        HeldAnswer::Trouble(t) => AttemptAnswer::Trouble(t),
     }
 }
 
@@ -203,7 +200,7 @@ fn constrained(
     model: &[u8],
     outline: &[u64; PREPARED_WORDS],
     child: &[u64; STATE_WORDS],
-    cost: u64,
+    cost: Cost,
 ) -> MoveAnswer
     requires { ⌜ Outlined (now model) (now outline) ⌝ }
     ensures { λ r. ⌜ r ≡ moveAnswer (steps.constrained rangeEnd (modelOf (now (model .entry))) cost (stateIn (now (model .entry)) (now (child .entry))) (systemIn (now (model .entry)) .admits (stateIn (now (model .entry)) (now (child .entry))))) ⌝ }
@@ -215,25 +212,23 @@ fn constrained(
     }
 }
 
-// The move that was tried, by its code: where it is taken, the new state has to meet the constraints.
+// The move that was tried: where it is taken, the new state has to meet the constraints.
 fn settle(
     model: &[u8],
     outline: &[u64; PREPARED_WORDS],
     state: &[u64; STATE_WORDS],
     t: usize,
     child: &[u64; STATE_WORDS],
-    tried: i64,
+    tried: AttemptAnswer,
 ) -> MoveAnswer
     requires { ⌜ Outlined (now model) (now outline) × Tried (now model) (now state) t (now child) tried ⌝ }
     ensures { λ r. ⌜ MoveSays (now (model .entry)) (now (state .entry)) t (now (child .entry)) r ⌝ }
 {
-    if 0 <= tried {
-        return constrained(model, outline, child, tried as u64);
+    match tried {
+        AttemptAnswer::NotTaken => MoveAnswer::Blocked,
+        AttemptAnswer::Taken(cost) => constrained(model, outline, child, cost),
+        AttemptAnswer::Trouble(t) => MoveAnswer::Before(t),
     }
-    if tried == -1 {
-        return MoveAnswer::Blocked;
-    }
-    MoveAnswer::Before((-2 - tried) as u8)
 }
 
 // How many transitions there are.

@@ -18,7 +18,8 @@ fn write_check(model: &[u8], plan: &[u8]) {
     let checked = plan_check::check(model, plan);
     io::print_decimal(STDOUT_FILENO, checked.answer as u64);
     io::write_all(STDOUT_FILENO, b" ");
-    io::print_decimal(STDOUT_FILENO, checked.cost);
+    let cost = checked.cost;
+    io::print_decimal(STDOUT_FILENO, cost.high);
     io::write_all(STDOUT_FILENO, b"\n");
 }
 

@@ -1,7 +1,7 @@
--- `read_transitions::transition` meets its contract. Conditions, cost and effects, one behind the other.
+-- `read_transitions::transition` meets its contract. Conditions, costs and effects, one behind the other.
 use mathlib.Core.Path.{sym, _∙_}
 use borrow.Author.Needs.{needs}
-use Rattle.read_transitions.proofs.Reading.{transition-conditions-refused, transition-cost-refused, transition-effects}
+use Rattle.read_transitions.proofs.Reading.{transition-conditions-refused, transition-costs-refused, transition-effects}
 use Rattle.read_transitions.proofs.transition.Statement.{statement}
 use Rattle.read_transitions.proofs.transition.Tie as tie
 
@@ -10,14 +10,14 @@ returns c =
     let s : tie.Start = search in
     let p : tie.After-p = search in
     c .effects .ensures ∙ transition-effects _ _ (s .args .at) (s .args .model .now) (sym (p .p .given .1) ∙ p .before .before .conditions .ensures)
-    (sym (c .before .before .q .given .1) ∙ c .before .before .before .before .cost .ensures)
+    (sym (c .before .before .q .given .1) ∙ c .before .before .before .before .costs .ensures)
 
 returns-2 : tie.Need-returns-2
 returns-2 c =
     let s : tie.Start = search in
     let p : tie.After-p = search in
-    transition-cost-refused _ _ (s .args .at) (s .args .model .now) (sym (p .p .given .1) ∙ p .before .before .conditions .ensures)
-    (sym (c .before .t .given .1) ∙ c .before .before .before .cost .ensures)
+    transition-costs-refused _ _ (s .args .at) (s .args .model .now) (sym (p .p .given .1) ∙ p .before .before .conditions .ensures)
+    (sym (c .before .t .given .1) ∙ c .before .before .before .costs .ensures)
 
 returns-3 : tie.Need-returns-3
 returns-3 c =

@@ -10,7 +10,7 @@ begun-requires c κs = search needs
 
 returns : tie.Need-returns
 returns c =
-    let start = c .before .before .before in
+    let start : tie.Start = search in
     ap (λ (t : Tally). record { best = start .args .progress .best; low = start .args .progress .low; tally = t }) (c .begun .ensures)
 
 pub begin-spec : {M : Type 1} → statement M

@@ -3,7 +3,7 @@ use native.Mathlib.Omega.{arith}
 use borrow.Author.Needs.{needs}
 use Rattle.search.proofs.Settings.{some-entries}
 use Rattle.beam_widths.proofs.Places.{next-inside}
-use Rattle.search_runs.proofs.Widening.{Widening, widening-first, room, judged-there, number-same, widening-more, widening-over, widening-spent}
+use Rattle.search_runs.proofs.Widening.{few-entries, Widening, widening-first, room, judged-there, number-same, widening-more, widening-over, widening-spent}
 use Rattle.search_runs.proofs.rounds.Statement.{statement}
 use Rattle.search_runs.proofs.rounds.Tie as tie
 
@@ -22,7 +22,8 @@ loop-holds c =
     let start : tie.Start Inv-loop μ-loop = search in
     let there : tie.After-width-at Inv-loop μ-loop = search in
     let first : tie.After-begin Inv-loop μ-loop = search in
-    widening-first (start .pre .rises) (there .width-at .ensures) (first .begin .ensures)
+    let least : tie.After-f-in Inv-loop μ-loop = search in
+    widening-first (start .pre .rises) (there .width-at .ensures) (least .f-in .ensures) (first .begin .ensures)
 
 width-at-requires-2 : tie.Need-width-at-requires-2 Inv-loop μ-loop
 width-at-requires-2 c κs = let here : tie.At-loop Inv-loop μ-loop = search in here .loop .inv .inside
@@ -45,6 +46,12 @@ turn-of c = search
 
 abbrev start-of : tie.In-loop Inv-loop μ-loop → tie.Start Inv-loop μ-loop
 start-of c = search
+
+add-last : tie.Need-add-last Inv-loop μ-loop
+add-last c =
+    let here : tie.At-loop Inv-loop μ-loop = search in
+    let turn : tie.In-loop Inv-loop μ-loop = search in
+    record { fits = omega (arith, here .loop .inv .inside, few-entries _ (start-of turn .pre .rises)) }
 
 abbrev width-of : tie.After-judged-round Inv-loop μ-loop → tie.After-width-at2 Inv-loop μ-loop
 width-of c = search
@@ -103,13 +110,14 @@ rounds-spec =
     (tie.spec
     Inv-loop
     μ-loop
-    (λ c. search needs)
+    (λ c κs. search needs)
+    (λ c κs. search needs)
     width-at-requires
     (λ c κs. omega arith)
     (λ c. search needs)
     loop-holds
     width-at-requires-2
-    (λ c. search needs)
+    add-last
     judged-round-requires
     (λ c. search needs)
     next-place-requires

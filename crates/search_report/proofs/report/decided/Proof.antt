@@ -16,13 +16,20 @@ same-length c = search needs
 
 returns : tie.Need-returns
 returns c =
-    decides-found _ _ _ _ _ _ (c .before .before .before .before .before .before .bound-at .ensures) (c .before .before .before .before .if1 .taken)
-    (c .before .before .before .before .before .before .before .before .before .before .before .pre .0) (c .before .before .copy-bytes .ensures)
+    let start : tie.Start = search in
+    let bounded : tie.After-bound-at = search in
+    let found : tie.Then1 = search in
+    let copied : tie.After-copy-bytes = search in
+    decides-found _ _ _ _ _ _ (bounded .bound-at .ensures) (found .if1 .taken) (start .pre .0) (copied .copy-bytes .ensures)
 
 returns-2 : tie.Need-returns-2
-returns-2 c = decides-none _ _ _ _ _ _ (c .before .before .bound-at .ensures) (c .if1 .left) refl
+returns-2 c =
+    let bounded : tie.After-bound-at = search in
+    let missing : tie.Else1 = search in
+    let nothing : tie.After-hours = search in
+    rw (nothing .hours .ensures) (decides-none _ _ _ _ _ _ (bounded .bound-at .ensures) (missing .if1 .left) refl)
 
 pub decided-spec : {M : Type 1} → statement M
 decided-spec =
     tie.close
-    (tie.spec bound-at-requires copy-bytes-requires same-length returns returns-2)
+    (tie.spec bound-at-requires copy-bytes-requires (λ c κs. search needs) same-length returns returns-2)

@@ -5,18 +5,24 @@ use borrow.Author.Needs.{needs}
 use Rattle.search_rounds.proofs.ends.layer_end.Statement.{statement}
 use Rattle.search_rounds.proofs.ends.layer_end.Tie as tie
 
+abbrev begun : tie.After-remaining → tie.Start
+begun c = search
+
 part-remaining-end : tie.Need-part-remaining-end
 part-remaining-end c =
-    let start = c .before .before .before .before .before in
+    let start : tie.Start = search in
     omega (arith, words-long _ _ (start .pre .0 .long) (start .pre .1 .0))
 
 part-raised-end : tie.Need-part-raised-end
 part-raised-end c =
-    let start = c .before .before .before .before .before .before .before in
+    let left : tie.After-remaining = search in
+    let start = begun left in
     omega (arith, words-long _ _ (start .pre .0 .long) (start .pre .1 .0))
 
 returns : tie.Need-returns
-returns c = layer-ends _ _ (c .before .before .before .before .before .before .before .before .before .args .round) _ _ (c .before .before .remaining .ensures) (c .raised .ensures)
+returns c =
+    let left : tie.After-remaining = search in
+    layer-ends _ _ (begun left .args .round) _ _ (left .remaining .ensures) (c .raised .ensures)
 
 pub layer-end-spec : {M : Type 1} → statement M
 layer-end-spec =

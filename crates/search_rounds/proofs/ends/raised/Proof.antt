@@ -1,9 +1,20 @@
 -- `search_rounds::ends::raised` meets its contract.
-use Rattle.search_rounds.proofs.Ending.{raises-marked, raises-none, raises-first, raises-not, first-below}
+use Prim.Native.Nat.{_*_, _<_}
+use mathlib.Core.Path.{sym, _∙_}
 use native.Mathlib.Omega.{arith}
 use borrow.Author.Needs.{needs}
+use lib.ListN.{getD}
+use Rattle.beam_order.specs.Slots.{orderAt}
+use Rattle.search_rounds.proofs.Ending.{raises-marked, raises-none, raises-first, raises-not, first-below}
 use Rattle.search_rounds.proofs.ends.raised.Statement.{statement}
 use Rattle.search_rounds.proofs.ends.raised.Tie as tie
+
+abbrev begun : tie.Else2 → tie.Start
+begun c = search
+
+-- the slot of the first node
+slot : (c : tie.Else2) → (let a = begun c .args in getD (a .layer .now) (orderAt * a .w) 0 < a .w)
+slot c = first-below (begun c .pre .0) (omega (arith, c .if2 .left))
 
 returns : tie.Need-returns
 returns c = raises-marked _ _ _ _ _ (c .if1 .taken)
@@ -13,38 +24,34 @@ returns-2 c = raises-none _ _ _ _ _ (c .if2 .taken)
 
 shared-slice-read-slot : tie.Need-shared-slice-read-slot
 shared-slice-read-slot c =
-    let start = c .before .before .before in
-    omega (arith, first-below (start .pre .0) (omega arith), start .pre .0 .long)
+    let some : tie.Else2 = search in
+    omega (arith, slot some, begun some .pre .0 .long)
 
-mul-f : tie.Need-mul-f
-mul-f c =
-    let start = c .before .before .before in
-    omega (arith, first-below (start .pre .0) (omega arith))
+mul-f-in : tie.Need-mul-f-in
+mul-f-in c =
+    let some : tie.Else2 = search in
+    record { fits = omega (arith, slot some, begun some .pre .1) }
 
-add-f : tie.Need-add-f
-add-f c =
-    let start = c .before .before .before in
-    omega (arith, first-below (start .pre .0) (omega arith))
-
-mul-f-2 : tie.Need-mul-f-2
-mul-f-2 c =
-    let start = c .before .before .before in
-    omega (arith, first-below (start .pre .0) (omega arith))
-
-shared-slice-read-f : tie.Need-shared-slice-read-f
-shared-slice-read-f c =
-    let start = c .before .before .before .before in
-    omega (arith, first-below (start .pre .0) (omega arith), start .pre .0 .long)
+f-in-requires : tie.Need-f-in-requires
+f-in-requires c κs =
+    let some : tie.Else2 = search in
+    omega (arith, slot some, begun some .pre .0 .long)
 
 returns-3 : tie.Need-returns-3
 returns-3 c =
-    let start = c .before .before .before .before .before in
-    raises-first (start .pre .0) _ _ (c .before .before .before .before .if1 .left) (omega arith) (omega arith)
+    let some : tie.Else2 = search in
+    let unmarked : tie.Else1 = search in
+    let first : tie.After-f-in = search in
+    let compared : tie.After-at-most = search in
+    raises-not (begun some .pre .0) _ _ (unmarked .if1 .left) (omega (arith, some .if2 .left)) (first .f-in .ensures) (sym (c .if3 .taken) ∙ compared .at-most .ensures)
 
 returns-4 : tie.Need-returns-4
 returns-4 c =
-    let start = c .before .before .before .before .before in
-    raises-not (start .pre .0) _ _ (c .before .before .before .before .if1 .left) (omega arith) (omega arith)
+    let some : tie.Else2 = search in
+    let unmarked : tie.Else1 = search in
+    let first : tie.After-f-in = search in
+    let compared : tie.After-at-most = search in
+    raises-first (begun some .pre .0) _ _ (unmarked .if1 .left) (omega (arith, some .if2 .left)) (first .f-in .ensures) (sym (c .if3 .left) ∙ compared .at-most .ensures)
 
 pub raised-spec : {M : Type 1} → statement M
 raised-spec =
@@ -55,9 +62,8 @@ raised-spec =
     (λ c. search needs)
     (λ c. search needs)
     shared-slice-read-slot
-    mul-f
-    add-f
-    mul-f-2
-    shared-slice-read-f
+    mul-f-in
+    f-in-requires
+    (λ c κs. search needs)
     returns-3
     returns-4)

@@ -9,9 +9,10 @@ returns : tie.Need-returns
 returns c =
     let start : tie.Start = search in
     let limited : tie.Then1 = search in
+    let known : tie.After-f-in = search in
     let a = start .args in
     limit-leaves (a .model .now) (a .outline .now) (a .words .now) (a .node .now) (a .limits .width) (a .limits .length) (a .spot .layer) (a .spot .slot)
-    (a .round) (start .pre) (a .limits .budget) (c .at-limit .result) (limited .if1 .taken) (c .at-limit .ensures)
+    (a .round) (start .pre) (a .limits .budget) (c .at-limit .result) (known .f-in .ensures) (limited .if1 .taken) (c .at-limit .ensures)
 
 returns-2 : tie.Need-returns-2
 returns-2 c =
@@ -32,7 +33,7 @@ pub advance-spec : {M : Type 1} → statement M
 advance-spec =
     tie.close
     (tie.spec
-    (λ c. search needs)
+    (λ c κs. let start : tie.Start = search in omega (arith, start .pre .long))
     (λ c κs. search needs)
     returns
     (λ c κs. search needs)

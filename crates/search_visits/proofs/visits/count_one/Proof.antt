@@ -8,7 +8,7 @@ counted-requires : tie.Need-counted-requires
 counted-requires c κs = search needs
 
 returns : tie.Need-returns
-returns c = counted-one (c .before .before .before .before .args .round) _ (c .counted .ensures)
+returns c = let start : tie.Start = search in counted-one (start .args .round) _ (c .counted .ensures)
 
 pub count-one-spec : {M : Type 1} → statement M
 count-one-spec = tie.close (tie.spec counted-requires returns)

@@ -11,12 +11,18 @@ use Rattle.search_visits.proofs.Visiting.{state-copied, base-leaves, ad
 use Rattle.search_visits.proofs.visits.visit_node.Statement.{statement}
 use Rattle.search_visits.proofs.visits.visit_node.Tie as tie
 
+abbrev read : tie.After-copy-words → tie.After-g-in
+read c = search
+
+abbrev started : tie.After-g-in → tie.Start
+started c = search
+
 abbrev begun : tie.After-copy-words → tie.Start
-begun c = c .before .before .before .before .before .before .before .before
+begun c = started (read c)
 
 -- the copy of the state, before its status
 abbrev copy : tie.After-status → tie.After-copy-words
-copy c = c .before .before .before
+copy c = search
 
 -- the status is that of the node's state
 asked : (c : tie.After-status) → (let start = begun (copy c) in c .status .result ≡ statusAnswer (systemIn (start .args .model .now) .status (stateIn (start .args .model .now) (stateWords (start .args .node .now)))))
@@ -48,7 +54,7 @@ returns c =
     let start = begun (copy here) in
     let a = start .args in
     base-leaves (a .model .now) (a .outline .now) (a .words .now) (a .node .now) (a .limits .width) (a .limits .length) (a .spot .layer) (a .spot .slot)
-    (a .round) (start .pre .0) (a .limits .budget) (a .plan .now) _ (done .reached .result) (sym (base .enum-told .given .1) ∙ asked here) (done .reached .ensures)
+    (a .round) (start .pre .0) (a .limits .budget) (a .plan .now) _ (done .reached .result) (read (copy here) .g-in .ensures) (sym (base .enum-told .given .1) ∙ asked here) (done .reached .ensures)
 
 returns-2 : tie.Need-returns-2
 returns-2 c =
@@ -66,13 +72,13 @@ returns-3 c =
     let start = begun (copy here) in
     let a = start .args in
     trouble-leaves (a .model .now) (a .outline .now) (a .words .now) (a .node .now) (a .limits .width) (a .limits .length) (a .spot .layer) (a .spot .slot)
-    (a .round) (start .pre .0) (a .limits .budget) (a .plan .now) (sym (c .before .e .given .1) ∙ asked here)
+    (a .round) (start .pre .0) (a .limits .budget) (a .plan .now) (read (copy here) .g-in .ensures) (sym (c .before .e .given .1) ∙ asked here)
 
 pub visit-node-spec : {M : Type 1} → statement M
 visit-node-spec =
     tie.close
     (tie.spec
-    (λ c. search needs)
+    (λ c κs. let start : tie.Start = search in omega (arith, start .pre .0 .long))
     (λ c. search needs)
     (λ c. search needs)
     (λ c. search needs)

@@ -7,12 +7,13 @@ use Rattle.solver.proofs.entry.ended_at_target.Tie as tie
 
 returns : tie.Need-returns
 returns c =
-    let e = c .begun .ensures in
+    let counted : tie.After-begun = search in
+    let e = counted .begun .ensures in
     record {
       outcome = refl;
       flag = refl;
-      cost = refl;
-      bound = refl;
+      cost = c .hours .ensures;
+      bound = c .hours .ensures;
       length-of = refl;
       expansions = ap (λ (t : Tally). t .expansions) e;
       rounds = ap (λ (t : Tally). t .rounds) e;
@@ -20,4 +21,4 @@ returns c =
     }
 
 pub ended-at-target-spec : {M : Type 1} → statement M
-ended-at-target-spec = tie.close (tie.spec (λ c κs. search needs) returns)
+ended-at-target-spec = tie.close (tie.spec (λ c κs. search needs) (λ c κs. search needs) returns)

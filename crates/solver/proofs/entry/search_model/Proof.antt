@@ -4,6 +4,7 @@ use mathlib.Core.Path.{_≡_, refl, subst, sym}
 use mathlib.Core.List.{List, _++_}
 use native.Mathlib.Omega.{arith}
 use borrow.Author.Needs.{needs}
+use Rattle.model.specs.Costs.{free, hours}
 use Rattle.search.proofs.Settings.{some-entries}
 use Rattle.steps.specs.InBytes.{originIn}
 use Rattle.beam.specs.Nodes.{headerOf}
@@ -35,13 +36,13 @@ abbrev target : tie.After-start → List ℕ
 target c = c .start .last .1 .1 .0
 
 -- the root's words are the target's
-at-root : (c : tie.After-write-root) (h : ℕ) → c .write-root .last .1 .1 .0 ≡ headerOf 0 h h 0 ++ target (started (entered c))
-    → RootIs (begun (started (entered c)) .args .model .now) (c .write-root .last .1 .1 .0) (originIn (begun (started (entered c)) .args .model .now)) h
+at-root : (c : tie.After-write-root) (h : ℕ) → c .write-root .last .1 .1 .0 ≡ headerOf free h (hours h) 0 ++ target (started (entered c))
+    → RootIs (begun (started (entered c)) .args .model .now) (c .write-root .last .1 .1 .0) (originIn (begun (started (entered c)) .args .model .now)) (hours h)
 at-root c h e =
     let first = started (entered c) in
     let a = begun first .args in
     let bytes = a .model .now in
-    subst (λ (l : List ℕ). RootIs bytes l (originIn bytes) h) (sym e) (target-root bytes (a .widths .now) (a .limit) (a .budget) (target first) h (first .start .ensures))
+    subst (λ (l : List ℕ). RootIs bytes l (originIn bytes) (hours h)) (sym e) (target-root bytes (a .widths .now) (a .limit) (a .budget) (target first) h (first .start .ensures))
 
 enter-requires : tie.Need-enter-requires
 enter-requires c κs =
@@ -61,7 +62,7 @@ rounds-requires c κs =
     record {
       outlined = pre .outlined;
       room = record { some-width = pre .room .some-width; narrow = pre .room .narrow; few-steps = pre .room .few-steps; plan-room = omega (arith, pre .room .few-steps); words-room = pre .room .words-room };
-      root-fits = record { long = done .write-root .kept .1 .1 .0; before = 0; few-steps = omega (arith, pre .room .few-steps); cost = rw (done .write-root .ensures) (omega arith) };
+      root-fits = record { long = done .write-root .kept .1 .1 .0; before = 0; few-steps = omega (arith, pre .room .few-steps); cost = rw (done .write-root .ensures) (record { high-within = omega arith; low-within = omega arith; moves-within = omega arith }) };
       rises = pre .rises;
       small-budget = pre .small-budget;
     }

@@ -17,6 +17,9 @@ abbrev μ-loop : tie.MeasureT-loop
 abbrev turn : tie.After-child Inv-loop μ-loop → tie.In-loop Inv-loop μ-loop
 turn c = c .before .before .before
 
+loop-holds : tie.Need-loop-holds Inv-loop μ-loop
+loop-holds c = let nothing : tie.After-hours Inv-loop μ-loop = search in rw (nothing .hours .ensures) (followed-first _ _ _)
+
 checked-step-requires : tie.Need-checked-step-requires Inv-loop μ-loop
 checked-step-requires c κs =
     let start : tie.Start Inv-loop μ-loop = search in
@@ -29,8 +32,9 @@ loop-again c =
 
 returns : tie.Need-returns Inv-loop μ-loop
 returns c =
-    let checked = c .before .before .before in
-    followed-ended _ _ _ _ _ _ (turn (checked .before) .before .loop .inv) (turn (checked .before) .loop-test .taken) _ _ (checked .checked-step .ensures) (c .before .n .given .1)
+    let checked : tie.After-checked-step Inv-loop μ-loop = search in
+    let ended : tie.After-n Inv-loop μ-loop = search in
+    followed-ended _ _ _ _ _ _ (turn (checked .before) .before .loop .inv) (turn (checked .before) .loop-test .taken) _ _ (checked .checked-step .ensures) (ended .n .given .1) _ (c .refused-plan .ensures)
 
 returns-2 : tie.Need-returns-2 Inv-loop μ-loop
 returns-2 c = followed-last _ _ _ _ _ _ (c .before .before .before .loop .inv) (c .before .before .loop-test .left) _ (c .finish .ensures)
@@ -41,7 +45,8 @@ follow-steps-spec =
     (tie.spec
     Inv-loop
     μ-loop
-    (λ c. followed-first _ _ _)
+    (λ c κs. search needs)
+    loop-holds
     (λ c. search needs)
     checked-step-requires
     (λ c. search needs)
@@ -49,6 +54,7 @@ follow-steps-spec =
     (λ c. search needs)
     loop-again
     (λ c. search needs)
+    (λ c κs. search needs)
     returns
     (λ c κs. search needs)
     returns-2)

@@ -1,6 +1,5 @@
 -- `steps::check::tried_step` meets its contract.
-use Rattle.steps.proofs.Following.{checked-blocked, checked-before, checked-after, step-small, checked-moved}
-use native.Mathlib.Omega.{arith}
+use Rattle.steps.proofs.Following.{checked-blocked, checked-before, checked-after, step-small, joinable, checked-moved}
 use borrow.Author.Needs.{needs}
 use Rattle.steps.proofs.check.tried_step.Statement.{statement}
 use Rattle.steps.proofs.check.tried_step.Tie as tie
@@ -11,7 +10,7 @@ enum-told c = search needs
 combine-requires : tie.Need-combine-requires
 combine-requires c κs =
     let start : tie.Start = search in
-    (start .pre .0, omega (arith, start .pre .1, step-small _ _ _ (start .args .g) _ _ (c .before .before .before .step .ensures) (c .before .c .given .1)))
+    (start .pre .0, joinable (start .pre .1) (step-small _ _ _ (start .args .g) _ _ (c .before .before .before .step .ensures) (c .before .c .given .1)))
 
 returns : tie.Need-returns
 returns c = checked-blocked _ _ _ _ _ _ (c .before .before .step .ensures) (c .enum-told .given .1)

@@ -10,7 +10,6 @@ use Rattle.model.specs.Steps.{systemOf}
 use Rattle.outline.specs.Outline.{modelOf}
 use Rattle.prepare.specs.Layout.{guardsFrom}
 use Rattle.prepare.specs.Guards.{passes, guardIn}
-use Rattle.words.proofs.Integers.{back}
 use Rattle.steps.specs.InBytes.{StateRoom}
 use Rattle.steps.proofs.Moving.{guard-within, transition-read, tried, move-guarded, move-undeclared}
 use Rattle.steps.proofs.moves.step.Statement.{statement}
@@ -78,7 +77,6 @@ settle-requires c κs =
     let then = behind .before .before in
     let here = guard (then .before) in
     let s = start here in
-    rw (back (record { sfits = c .before .attempt .ok }))
     (s .pre, tried _ _ (s .pre) _ _ (declared here) (behind .word-at .ensures) _ _ (passed then) (c .before .attempt .ensures))
 
 returns-2 : tie.Need-returns-2

@@ -1,0 +1,2 @@
+-- The two cost rules by the code's tests.
+pub mod Rules

@@ -1,0 +1,2 @@
+-- What joining two costs asks for.
+pub mod Costs

@@ -1,2 +1,0 @@
--- What a line is made of.
-pub mod Line
