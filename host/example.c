@@ -30,12 +30,13 @@ static void print_plan(const char *title, const uint8_t *plan, uint64_t length)
     printf("\n");
 }
 
-/* Asks the plan check for the answer number and the cost, and prints both. */
+/* Asks the plan check for the answer number, the cost and the low figure, and prints them. */
 static int check(const uint8_t *model, uintptr_t model_len, const uint8_t *plan, uintptr_t plan_len)
 {
     uint8_t answer = repgypsum_check_answer(model, model_len, plan, plan_len);
     uint64_t cost = repgypsum_check_cost(model, model_len, plan, plan_len);
-    printf("plan check: answer %u, cost %" PRIu64 "\n", answer, cost);
+    uint64_t low = repgypsum_check_low(model, model_len, plan, plan_len);
+    printf("plan check: answer %u, cost %" PRIu64 ", low %" PRIu64 "\n", answer, cost, low);
     return answer;
 }
 
@@ -70,7 +71,11 @@ int main(int argc, char **argv)
         printf("no plan is given\n");
         return 0;
     }
-    printf("cost %" PRIu64 "\n", a.cost);
+    printf("cost %" PRIu64, a.cost);
+    if (a.low < a.cost) {
+        printf(", or down to %" PRIu64 " where steps take less than their high costs", a.low);
+    }
+    printf("\n");
     print_plan("plan:", plan, a.length);
     return check(model, (uintptr_t)n, plan, a.length) == 0 ? 0 : 1;
 }

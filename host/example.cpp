@@ -19,6 +19,7 @@ struct Run {
     std::vector<std::uint8_t> plan = std::vector<std::uint8_t>(REPGYPSUM_PLAN_BYTES(width, length));
     std::uint8_t checked = 0;
     std::uint64_t cost = 0;
+    std::uint64_t low = 0;
 
     void go()
     {
@@ -38,6 +39,7 @@ struct Run {
         plan.resize(answer.length);
         checked = repgypsum_check_answer(model.data(), model.size(), plan.data(), plan.size());
         cost = repgypsum_check_cost(model.data(), model.size(), plan.data(), plan.size());
+        low = repgypsum_check_low(model.data(), model.size(), plan.data(), plan.size());
     }
 
     // One line: the answer and the plan check's.
@@ -51,13 +53,15 @@ struct Run {
             std::printf("refused %u\n", static_cast<unsigned>(answer.verdict));
             return false;
         }
-        std::printf("verdict %u, cost %llu, bound %llu, plan", static_cast<unsigned>(answer.verdict),
-                    static_cast<unsigned long long>(answer.cost), static_cast<unsigned long long>(answer.bound));
+        std::printf("verdict %u, cost %llu, bound %llu, low %llu, plan", static_cast<unsigned>(answer.verdict),
+                    static_cast<unsigned long long>(answer.cost), static_cast<unsigned long long>(answer.bound),
+                    static_cast<unsigned long long>(answer.low));
         for (const auto step : plan) {
             std::printf(" %u", static_cast<unsigned>(step));
         }
-        std::printf("; plan check %u, cost %llu\n", static_cast<unsigned>(checked), static_cast<unsigned long long>(cost));
-        return !answer.flag || (checked == 0 && cost == answer.cost);
+        std::printf("; plan check %u, cost %llu, low %llu\n", static_cast<unsigned>(checked),
+                    static_cast<unsigned long long>(cost), static_cast<unsigned long long>(low));
+        return !answer.flag || (checked == 0 && cost == answer.cost && low == answer.low);
     }
 };
 

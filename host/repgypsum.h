@@ -43,7 +43,8 @@ extern "C" {
 #endif
 
 /* How a run ended. Runs with 2, 3 or 4 are stopped: their bound is at most the cost of every plan, if the model's declared
- * bounds and preferences are true. */
+ * bounds and preferences are true. Where a step's cost is a range, a low and a high one, costs here and bounds are at high figures;
+ * declared bounds that are true of the low costs are true of the high ones too. */
 enum repgypsum_verdict {
     REPGYPSUM_CHEAPEST = 0,     /* the plan costs no more than any other, if the declarations are true */
     REPGYPSUM_NO_PLAN = 1,      /* there is none, if the declarations are true, or if the target breaks a constraint */
@@ -53,7 +54,7 @@ enum repgypsum_verdict {
     REPGYPSUM_CONTRADICTED = 5  /* some declaration is false */
 };
 
-/* Why a call was refused: 1 to 9, 15 and 16 by the input, 11 to 14 by a state. */
+/* Why a call was refused: 1 to 9, 15 and 16 by the input, 11 to 14 and 17 by a state. */
 enum repgypsum_refusal {
     REPGYPSUM_MODEL_TOO_LONG = 1,   /* over 65,536 bytes */
     REPGYPSUM_BAD_SETTING = 2,      /* a setting out of range, or a plan of over 256 steps */
@@ -69,21 +70,24 @@ enum repgypsum_refusal {
     REPGYPSUM_NEGATIVE_COST = 13,
     REPGYPSUM_NOT_A_PLAN = 14,      /* plan check only; always where the target breaks a constraint */
     REPGYPSUM_OUTSIDE_PROFILE = 15, /* repgypsum_load and repgypsum_load_widths only: the model is no pure loading order */
-    REPGYPSUM_BAD_WIDTHS = 16       /* a list of widths that is empty, too long, not rising, or has an entry out of range */
+    REPGYPSUM_BAD_WIDTHS = 16,      /* a list of widths that is empty, too long, not rising, or has an entry out of range */
+    REPGYPSUM_HIGH_BELOW_LOW = 17   /* a step's high cost is below its low cost */
 };
 
-/* The answer of a search. At a refusal by the input all fields but the first two are 0. At a refusal by a state cost, length
- * and the plan buffer give the path to the state evaluated. */
+/* The answer of a search. At a refusal by the input all fields but the first two are 0. At a refusal by a state cost, low, length
+ * and the plan buffer give the path to the state evaluated. For every choice of step costs inside their ranges the plan's real cost
+ * lies between low and cost; where no step has a range they are the same. */
 struct repgypsum_answer {
     uint32_t refused;     /* 1 at a refusal, else 0 */
     uint32_t verdict;     /* the verdict's number, or the refusal's */
     uint64_t flag;        /* 1 if a plan is given */
-    uint64_t cost;
-    uint64_t bound;
+    uint64_t cost;        /* at high figures, which the search works on */
+    uint64_t bound;       /* for high figures */
     uint64_t length;      /* steps at the front of the plan buffer */
     uint64_t expansions;
     uint64_t rounds;      /* rounds begun */
     uint64_t width;       /* of the last round: 1, 2, 4 up to the widest beam, or an entry of the list of widths */
+    uint64_t low;         /* the cost at low figures */
 };
 
 /* What a search with widest beam `width` and length limit `length` has to be lent. With a list of widths its last entry is the widest
@@ -123,8 +127,11 @@ struct repgypsum_answer repgypsum_load_widths(const uint8_t *model, uintptr_t mo
  * refusal's number. */
 uint8_t repgypsum_check_answer(const uint8_t *model, uintptr_t model_len, const uint8_t *plan, uintptr_t plan_len);
 
-/* The plan's cost where the answer is 0, else 0. */
+/* The plan's cost where the answer is 0, else 0: the sum of the high costs of its steps, or the largest of them. */
 uint64_t repgypsum_check_cost(const uint8_t *model, uintptr_t model_len, const uint8_t *plan, uintptr_t plan_len);
+
+/* The same of the low costs. */
+uint64_t repgypsum_check_low(const uint8_t *model, uintptr_t model_len, const uint8_t *plan, uintptr_t plan_len);
 
 #ifdef __cplusplus
 }

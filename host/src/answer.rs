@@ -16,6 +16,8 @@ pub struct Answer {
     pub rounds: u64,
     /// The beam width of the last round.
     pub width: u64,
+    /// The cost at low figures, beside `cost`, which is at high ones.
+    pub low: u64,
 }
 
 impl Answer {

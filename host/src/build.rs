@@ -204,11 +204,30 @@ impl Build {
 
     /// 07 with its 08, 09 and 0A commands.
     pub fn transition(self, conditions: &[Bytes], cost: Bytes, effects: &[(u8, Bytes)]) -> Build {
-        let build = self
-            .command(0x07, &[])
+        self.costed(conditions, cost).effects(effects)
+    }
+
+    /// 07 with its 08, 09, 10 and 0A commands: the low cost and the high one.
+    pub fn ranged(
+        self,
+        conditions: &[Bytes],
+        (low, high): (Bytes, Bytes),
+        effects: &[(u8, Bytes)],
+    ) -> Build {
+        self.costed(conditions, low)
+            .command(0x10, &[&high])
+            .effects(effects)
+    }
+
+    fn costed(self, conditions: &[Bytes], cost: Bytes) -> Build {
+        self.command(0x07, &[])
             .conditions(conditions)
-            .command(0x09, &[&cost]);
-        effects.iter().fold(build, |build, (variable, value)| {
+            .command(0x09, &[&cost])
+    }
+
+    /// 0A for each effect.
+    fn effects(self, effects: &[(u8, Bytes)]) -> Build {
+        effects.iter().fold(self, |build, (variable, value)| {
             build.command(0x0A, &[&[*variable], value])
         })
     }

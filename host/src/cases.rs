@@ -4,6 +4,7 @@ pub mod loads;
 pub mod meaning;
 pub mod months;
 pub mod plans;
+pub mod ranges;
 pub mod reading;
 pub mod searches;
 pub mod text;
@@ -48,7 +49,7 @@ pub struct Load {
 
 #[derive(Clone, PartialEq, Eq, Debug)]
 pub enum Outcome {
-    Check(u8, u64),
+    Check(u8, u64, u64),
     Search(Answer, Bytes),
 }
 
@@ -99,8 +100,8 @@ impl Call {
     pub fn run(&self) -> Outcome {
         match self {
             Call::Check { model, plan } => {
-                let (answer, cost) = plan_check(model, plan);
-                Outcome::Check(answer, cost)
+                let (answer, cost, low) = plan_check(model, plan);
+                Outcome::Check(answer, cost, low)
             }
             Call::Search(search) => {
                 let (answer, after) = search.run();
@@ -143,10 +144,10 @@ impl Load {
 }
 
 impl Outcome {
-    /// Answer and cost of a check, or the nine fields of a search.
+    /// Answer, cost and low figure of a check, or the ten fields of a search.
     pub fn fields(&self) -> Vec<u64> {
         match self {
-            Outcome::Check(answer, cost) => vec![u64::from(*answer), *cost],
+            Outcome::Check(answer, cost, low) => vec![u64::from(*answer), *cost, *low],
             Outcome::Search(answer, _) => vec![
                 u64::from(answer.refused),
                 u64::from(answer.verdict),
@@ -157,6 +158,7 @@ impl Outcome {
                 answer.expansions,
                 answer.rounds,
                 answer.width,
+                answer.low,
             ],
         }
     }
@@ -210,11 +212,23 @@ impl Cases {
         }
     }
 
-    /// A plan check whose answer and cost are stated.
+    /// A plan check whose answer and cost are stated, the low figure being the cost.
     pub fn check(&mut self, note: &str, model: Bytes, plan: &[u8], answer: u8, cost: u64) {
+        self.check_range(note, model, plan, answer, (cost, cost));
+    }
+
+    /// A plan check whose answer, cost and low figure are stated.
+    pub fn check_range(
+        &mut self,
+        note: &str,
+        model: Bytes,
+        plan: &[u8],
+        answer: u8,
+        (cost, low): (u64, u64),
+    ) {
         let plan = plan.to_vec();
         let call = Call::Check { model, plan };
-        self.add(note, call, &format!("{answer} {cost}"));
+        self.add(note, call, &format!("{answer} {cost} {low}"));
     }
 
     /// A search with the buffers due, whose fields are stated.
@@ -246,5 +260,6 @@ pub fn groups() -> Vec<(&'static str, Vec<Case>)> {
         ("Searches", searches::cases()),
         ("Loads", loads::cases()),
         ("Widths", widths::cases()),
+        ("Ranges", ranges::cases()),
     ]
 }

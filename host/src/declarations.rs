@@ -2,6 +2,10 @@
 //!
 //! A counterexample holds by itself: a plan that the proved plan check confirms. Without one, enumeration shows a
 //! declaration true as far as the plain implementation is right, and a sample leaves it open.
+//!
+//! Where steps have high costs of their own a bound is looked at twice: against the costs of plans at low figures, which is what a
+//! bound is declared for, and against those at high figures, on which the search works and its promises rest. A bound that is true
+//! of the low costs is true of the high ones. Preferences are about high costs.
 
 mod enumerated;
 mod preferred;
@@ -10,7 +14,7 @@ mod sampled;
 mod tests_of_plans;
 
 use crate::enumerate::Space;
-use crate::reference::{Model, State};
+use crate::reference::{Costs, Model, State};
 
 pub use preferred::preferences;
 pub use tests_of_plans::confirmed;
@@ -31,8 +35,9 @@ pub struct TooHigh {
     /// The steps that lead to it from the target.
     pub path: Vec<u8>,
     pub value: i64,
+    /// A plan from there, and what it costs: the value is above one of the two figures.
     pub plan: Vec<u8>,
-    pub cost: i64,
+    pub costs: Costs,
 }
 
 /// Two states that show the preferences to be false.
@@ -44,8 +49,8 @@ pub struct NotBetter {
     pub worse_path: Vec<u8>,
     /// A plan of the worse state, and what it costs.
     pub plan: Vec<u8>,
-    pub cost: i64,
-    /// The least that a plan of the better state costs; nothing if it has none.
+    pub costs: Costs,
+    /// The least that a plan of the better state costs at high figures; nothing if it has none.
     pub least: Option<i64>,
 }
 
@@ -61,7 +66,10 @@ pub enum Truth<Counterexample> {
 pub struct Findings {
     pub states: usize,
     pub enumerated: bool,
+    /// The bounds against the low costs.
     pub bounds: Vec<Truth<TooHigh>>,
+    /// The same against the high costs, the same ones in a model without ranges.
+    pub bounds_at_high: Vec<Truth<TooHigh>>,
     pub preferences: Option<Truth<NotBetter>>,
     /// Transitions that no state looked at allows.
     pub never: Vec<usize>,

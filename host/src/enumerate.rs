@@ -2,7 +2,7 @@
 
 use crate::answer::Answer;
 use crate::numbers::verdict;
-use crate::reference::{Model, State};
+use crate::reference::{Costs, Model, State};
 use std::collections::{BTreeSet, HashMap};
 
 /// What trying the base cases of a state ends with.
@@ -13,11 +13,11 @@ pub enum Standing {
     NoValue,
 }
 
-/// An allowed step: the transition's number, its cost, and the state reached, by index.
+/// An allowed step: the transition's number, its costs, and the state reached, by index.
 #[derive(Clone, Copy, Debug)]
 pub struct Step {
     pub number: u8,
-    pub cost: i64,
+    pub costs: Costs,
     pub to: usize,
 }
 
@@ -28,23 +28,56 @@ pub struct Space {
     pub states: Vec<State>,
     pub standing: Vec<Standing>,
     pub steps: Vec<Vec<Step>>,
-    /// The least cost of steps from each state to a base state, however many. It is that of the cheapest plan from each
-    /// state that a step reaches, and of the target if it is admitted.
+    /// The least cost of steps from each state to a base state, however many, at high figures. It is that of the cheapest plan
+    /// from each state that a step reaches, and of the target if it is admitted.
     pub to_go: Vec<Option<i64>>,
+    /// The same at low figures; the steps may be others.
+    pub to_go_at_low: Vec<Option<i64>>,
+}
+
+/// Which of the two costs of a step is meant.
+#[derive(Clone, Copy, PartialEq, Eq, Debug)]
+pub enum Figures {
+    Low,
+    High,
+}
+
+impl Figures {
+    pub fn of(self, costs: Costs) -> i64 {
+        match self {
+            Figures::Low => costs.low,
+            Figures::High => costs.high,
+        }
+    }
 }
 
 /// The step by a transition from a state, if it is allowed.
-fn allowed_step(model: &Model, number: usize, state: &State) -> Option<(i64, State)> {
+fn allowed_step(model: &Model, number: usize, state: &State) -> Option<(Costs, State)> {
     let transition = &model.transitions[number];
-    let allowed = || -> Result<Option<(i64, State)>, u8> {
+    let allowed = || -> Result<Option<(Costs, State)>, u8> {
         if !model.all_hold(&transition.conditions, state)? {
             return Ok(None);
         }
-        let cost = model.step_cost(transition, state)?;
+        let costs = model.step_costs(transition, state)?;
         let new = model.after(transition, state)?;
-        Ok(model.meets_constraints(&new)?.then_some((cost, new)))
+        Ok(model.meets_constraints(&new)?.then_some((costs, new)))
     };
     allowed().unwrap_or(None)
+}
+
+/// The real cost of a plan for each choice of step costs inside the ranges of its steps; nothing where there are more than `most`
+/// choices.
+pub fn real_costs(model: &Model, steps: &[Costs], most: usize) -> Option<Vec<i64>> {
+    let mut costs = vec![0];
+    for step in steps {
+        let choices = (step.high - step.low + 1) as usize;
+        if costs.len().checked_mul(choices)? > most {
+            return None;
+        }
+        let joined = |cost: i64| (step.low..=step.high).map(move |real| model.join(cost, real));
+        costs = costs.into_iter().flat_map(joined).collect();
+    }
+    Some(costs)
 }
 
 fn standing(model: &Model, state: &State) -> Standing {
@@ -66,6 +99,7 @@ impl Space {
             standing: Vec::new(),
             steps: Vec::new(),
             to_go: Vec::new(),
+            to_go_at_low: Vec::new(),
         };
         let mut at = 0;
         while at < space.states.len() {
@@ -74,7 +108,7 @@ impl Space {
             let mut steps = Vec::new();
             if standing == Standing::Unfinished {
                 for number in 0..model.transitions.len() {
-                    let Some((cost, new)) = allowed_step(model, number, &state) else {
+                    let Some((costs, new)) = allowed_step(model, number, &state) else {
                         continue;
                     };
                     let to = *index.entry(new.clone()).or_insert(space.states.len());
@@ -82,7 +116,7 @@ impl Space {
                         space.states.push(new);
                     }
                     let number = number as u8;
-                    steps.push(Step { number, cost, to });
+                    steps.push(Step { number, costs, to });
                 }
             }
             if space.states.len() > limit {
@@ -92,12 +126,13 @@ impl Space {
             space.steps.push(steps);
             at += 1;
         }
-        space.to_go = space.cheapest_to_go(model);
+        space.to_go = space.cheapest_to_go(model, Figures::High);
+        space.to_go_at_low = space.cheapest_to_go(model, Figures::Low);
         Some(space)
     }
 
     /// Lowers the cost from each state until nothing changes. Costs are not negative, so this ends.
-    fn cheapest_to_go(&self, model: &Model) -> Vec<Option<i64>> {
+    fn cheapest_to_go(&self, model: &Model, figures: Figures) -> Vec<Option<i64>> {
         let base = |standing: &Standing| (*standing == Standing::Base).then_some(0);
         let mut to_go: Vec<Option<i64>> = self.standing.iter().map(base).collect();
         loop {
@@ -105,7 +140,7 @@ impl Space {
             for (at, steps) in self.steps.iter().enumerate() {
                 for step in steps {
                     let Some(rest) = to_go[step.to] else { continue };
-                    let cost = model.join(step.cost, rest);
+                    let cost = model.join(figures.of(step.costs), rest);
                     if to_go[at].is_none_or(|old| cost < old) {
                         to_go[at] = Some(cost);
                         changed = true;
@@ -148,7 +183,7 @@ impl Space {
                     cheapest = Some(cheapest.map_or(*cost, |old| old.min(*cost)));
                 }
                 for step in &self.steps[*at] {
-                    let cost = model.join(*cost, step.cost);
+                    let cost = model.join(*cost, step.costs.high);
                     let least = next.entry(step.to).or_insert(cost);
                     *least = cost.min(*least);
                 }
@@ -158,28 +193,54 @@ impl Space {
         cheapest.filter(|_| self.admitted)
     }
 
-    /// The cost of a plan from the target, if the sequence is one.
-    pub fn plan_cost(&self, model: &Model, plan: &[u8]) -> Option<i64> {
+    /// The costs of the steps of a plan from the target, if the sequence is one.
+    pub fn plan_steps(&self, plan: &[u8]) -> Option<Vec<Costs>> {
         let mut at = 0;
-        let mut cost = 0;
+        let mut costs = Vec::new();
         for number in plan {
             let step = self.steps[at].iter().find(|step| step.number == *number)?;
-            cost = model.join(cost, step.cost);
+            costs.push(step.costs);
             at = step.to;
         }
-        (self.admitted && self.standing[at] == Standing::Base).then_some(cost)
+        (self.admitted && self.standing[at] == Standing::Base).then_some(costs)
     }
 
-    /// Whether h is at most the cost of every plan, in every reachable state where h has a value. The target is one of these
-    /// states, admitted or not.
-    pub fn bounds_true(&self, model: &Model) -> bool {
+    /// The costs of a plan from the target, if the sequence is one: each figure joined by itself.
+    pub fn plan_costs(&self, model: &Model, plan: &[u8]) -> Option<Costs> {
+        let steps = self.plan_steps(plan)?;
+        let joined = |figures: Figures| {
+            let costs = steps.iter().map(|costs| figures.of(*costs));
+            costs.fold(0, |cost, next| model.join(cost, next))
+        };
+        Some(Costs {
+            low: joined(Figures::Low),
+            high: joined(Figures::High),
+        })
+    }
+
+    /// Whether h is at most the cost of every plan at these figures, in every reachable state where h has a value. The target
+    /// is one of these states, admitted or not.
+    pub fn bounds_true(&self, model: &Model, figures: Figures) -> bool {
         let too_high = |state, to_go| model.h(state).is_ok_and(|h| h > to_go);
-        let pairs = self.states.iter().zip(&self.to_go);
+        let pairs = self.states.iter().zip(self.least_to_go(figures));
         let mut with_plans = pairs.filter_map(|(state, to_go)| Some((state, (*to_go)?)));
         !with_plans.any(|(state, to_go)| too_high(state, to_go))
     }
 
-    /// Whether a dominating state always has a plan costing no more.
+    /// The least cost at these figures from each state.
+    pub fn least_to_go(&self, figures: Figures) -> &[Option<i64>] {
+        match figures {
+            Figures::Low => &self.to_go_at_low,
+            Figures::High => &self.to_go,
+        }
+    }
+
+    /// Whether bounds and preferences are true of the high costs, on which every promise of a search rests.
+    pub fn declarations_true(&self, model: &Model) -> bool {
+        self.bounds_true(model, Figures::High) && self.preferences_true(model)
+    }
+
+    /// Whether a dominating state always has a plan costing no more, at high figures.
     pub fn preferences_true(&self, model: &Model) -> bool {
         let worse = |better: &Option<i64>, worse: &Option<i64>| match (better, worse) {
             (_, None) => false,
@@ -228,8 +289,9 @@ impl Space {
         if answer.refused {
             return None;
         }
-        if answer.flag && self.plan_cost(model, plan) != Some(cost) {
-            return Some("a plan given is a plan of the model, at the cost stated");
+        let low = answer.low as i64;
+        if answer.flag && self.plan_costs(model, plan) != Some(Costs { low, high: cost }) {
+            return Some("a plan given is a plan of the model, at the costs stated");
         }
         let least = self.cheapest();
         let broken = match answer.verdict {

@@ -68,7 +68,12 @@ fn counted(
     budget: u64,
 ) -> (Answer, Vec<u8>, Counts) {
     match admitted(model, ladder, length) {
-        Ok((program, ladder, length)) => Run::new(&program, ladder, length, budget).answer(),
+        Ok((program, ladder, length)) if program.ranged => {
+            Run::<true>::new(&program, ladder, length, budget).answer()
+        }
+        Ok((program, ladder, length)) => {
+            Run::<false>::new(&program, ladder, length, budget).answer()
+        }
         Err(refusal) => {
             let answer = Answer::refused_by_input(refusal);
             (answer, Vec::new(), Counts::default())

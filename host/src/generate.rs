@@ -1,6 +1,7 @@
 //! Seeded random models, well made and damaged, and random settings.
 
 pub mod loading;
+pub mod ranges;
 pub mod widths;
 
 use crate::build::*;
@@ -398,7 +399,7 @@ impl Names {
             ),
             6 => complement(self.set(random, objects, deeper)),
             _ if fitting.is_empty() || random.chance(15) => {
-                set_lit(objects, random.word() & ((1 << objects) - 1))
+                set_lit(objects, random.word() & (u64::MAX >> (64 - objects)))
             }
             _ => set(random.pick(&fitting)),
         }

@@ -37,14 +37,15 @@ pub fn answer_line(answer: &Answer, buffer: &[u8]) -> String {
 /// The fields behind the verdict, a colon and the steps.
 pub fn fields(answer: &Answer, buffer: &[u8]) -> String {
     let mut line = format!(
-        "{} {} {} {} {} {} {} :",
+        "{} {} {} {} {} {} {} {} :",
         u8::from(answer.flag),
         answer.cost,
         answer.bound,
         answer.length,
         answer.expansions,
         answer.rounds,
-        answer.width
+        answer.width,
+        answer.low
     );
     for number in &buffer[..answer.length as usize] {
         line += &format!(" {number}");

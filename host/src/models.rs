@@ -57,6 +57,39 @@ pub fn three_designs() -> Bytes {
     Designs::default().bytes()
 }
 
+/// Three designs in which each high cost is twice the low one.
+pub fn doubled_designs(designs: &Designs) -> Build {
+    let mut build = Build::new(designs.rule)
+        .set(4, designs.start)
+        .element(4, NONE, 0)
+        .table(4, 4, &HOURS);
+    for design in 1..=3 {
+        let hours = entry(0, elem(1), obj(design));
+        let range = (hours.clone(), product(lit(2), hours));
+        let effects = [(0, remove(obj(design), set(0))), (1, obj(design))];
+        build = build.ranged(&[member(obj(design), set(0))], range, &effects);
+    }
+    build.base(&[empty(set(0))])
+}
+
+/// A number that one transition counts from 0 to 3, with these low and high costs.
+pub fn counting(rule: u8, range: (Bytes, Bytes)) -> Build {
+    Build::new(rule)
+        .number(NONE, 0)
+        .ranged(&[], range, &[(0, sum(num(0), lit(1)))])
+        .base(&[equal(num(0), lit(3))])
+}
+
+/// Two ways from the target to one base state, each with its low and its high cost.
+pub fn two_ways(first: (i32, i32), second: (i32, i32)) -> Build {
+    let step = |build: Build, (low, high): (i32, i32)| {
+        let started = [same(elem(0), obj(0))];
+        build.ranged(&started, (lit(low), lit(high)), &[(0, obj(1))])
+    };
+    let build = Build::new(SUM).element(2, NONE, 0);
+    step(step(build, first), second).base(&[same(elem(0), obj(1))])
+}
+
 /// The TSPTW of source document 003, Listing 2: visits 1, 2, 3 are transitions 0, 1, 2, the return is 3.
 pub fn tsptw() -> Bytes {
     let travel = [0, 3, 4, 5, 3, 0, 5, 4, 4, 5, 0, 3, 5, 4, 3, 0];

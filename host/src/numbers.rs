@@ -1,7 +1,7 @@
 //! The numbers that document 01 fixes, under the names that the definitions give them (crates/model/specs/Numbers.antt,
 //! crates/search/specs/Answer.antt and Run.antt).
 
-/// Refusals: 1 to 9, 15 and 16 by the input, 11 to 14 by a state.
+/// Refusals: 1 to 9, 15 and 16 by the input, 11 to 14 and 17 by a state.
 pub mod refusal {
     pub const MODEL_TOO_LONG: u8 = 1;
     pub const BAD_SETTING: u8 = 2;
@@ -18,10 +18,11 @@ pub mod refusal {
     pub const NOT_A_PLAN: u8 = 14;
     pub const OUTSIDE_PROFILE: u8 = 15;
     pub const BAD_WIDTHS: u8 = 16;
+    pub const HIGH_BELOW_LOW: u8 = 17;
 
     /// Whether the refusal was met in a state of a search, so that a path leads to it.
     pub fn by_state(number: u8) -> bool {
-        (OUT_OF_RANGE..=NEGATIVE_COST).contains(&number)
+        (OUT_OF_RANGE..=NEGATIVE_COST).contains(&number) || number == HIGH_BELOW_LOW
     }
 }
 

@@ -14,6 +14,7 @@ struct Fields {
     expansions: u64,
     rounds: u64,
     width: u64,
+    low: u64,
 }
 
 impl Fields {
@@ -28,6 +29,7 @@ impl Fields {
             expansions: self.expansions,
             rounds: self.rounds,
             width: self.width,
+            low: self.low,
         }
     }
 }
@@ -84,6 +86,12 @@ extern "C" {
         plan_len: usize,
     ) -> u8;
     fn repgypsum_check_cost(
+        model: *const u8,
+        model_len: usize,
+        plan: *const u8,
+        plan_len: usize,
+    ) -> u64;
+    fn repgypsum_check_low(
         model: *const u8,
         model_len: usize,
         plan: *const u8,
@@ -187,13 +195,14 @@ pub fn load_widths(
     fields.answer()
 }
 
-/// The plan check's answer number, and the cost where it is 0.
-pub fn plan_check(model: &[u8], plan: &[u8]) -> (u8, u64) {
-    // Safety: as above; both functions only read.
+/// The plan check's answer number, and the cost and the low figure where it is 0.
+pub fn plan_check(model: &[u8], plan: &[u8]) -> (u8, u64, u64) {
+    // Safety: as above; the functions only read.
     unsafe {
         (
             repgypsum_check_answer(model.as_ptr(), model.len(), plan.as_ptr(), plan.len()),
             repgypsum_check_cost(model.as_ptr(), model.len(), plan.as_ptr(), plan.len()),
+            repgypsum_check_low(model.as_ptr(), model.len(), plan.as_ptr(), plan.len()),
         )
     }
 }

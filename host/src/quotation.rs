@@ -15,7 +15,10 @@ pub use reading::read;
 pub use writing::{mark, written};
 
 /// The first line of every quotation.
-pub const TITLE: &str = "repgypsum quotation, form 1";
+pub const TITLE: &str = "repgypsum quotation, form 2";
+
+/// The first line of a quotation from before costs could be ranges: its lines have no low figure, which is the cost then.
+const OLDER_TITLE: &str = "repgypsum quotation, form 1";
 
 /// The proof kit's own name for itself, which the repository is checked with.
 pub const KIT: &str = include_str!("../../kit");
@@ -23,7 +26,7 @@ pub const KIT: &str = include_str!("../../kit");
 pub const VERSION: &str = env!("CARGO_PKG_VERSION");
 
 /// The fields of an answer in the order of its line, by name.
-pub const FIELDS: [&str; 8] = [
+pub const FIELDS: [&str; 9] = [
     "verdict",
     "plan flag",
     "cost",
@@ -32,12 +35,13 @@ pub const FIELDS: [&str; 8] = [
     "expansions",
     "rounds",
     "width",
+    "low",
 ];
 
 /// What a line says: the answer's fields, and the plan.
 #[derive(Clone, PartialEq, Eq, Debug)]
 pub struct Said {
-    pub fields: [u64; 8],
+    pub fields: [u64; 9],
     pub plan: Vec<u8>,
 }
 
@@ -71,6 +75,7 @@ impl Said {
             answer.expansions,
             answer.rounds,
             answer.width,
+            answer.low,
         ];
         let plan = plan.to_vec();
         Some(Said { fields, plan })
@@ -78,7 +83,7 @@ impl Said {
 
     /// The line that the program prints.
     pub fn line(&self) -> String {
-        let [number, flag, cost, bound, length, expansions, rounds, width] = self.fields;
+        let [number, flag, cost, bound, length, expansions, rounds, width, low] = self.fields;
         let answer = Answer {
             refused: false,
             verdict: number as u8,
@@ -89,6 +94,7 @@ impl Said {
             expansions,
             rounds,
             width,
+            low,
         };
         answer_line(&answer, &self.plan)
     }

@@ -9,7 +9,7 @@ pub mod syntax;
 pub mod widths;
 
 pub use check::plan_check;
-pub use meaning::{State, Value};
+pub use meaning::{Costs, State, Value};
 pub use read::read_model;
 pub use search::{load, load_widths, search, search_widths};
 pub use syntax::Model;

@@ -1,4 +1,4 @@
-//! The bytes of a model that the reader accepts, changed: started in another state, or without its declarations.
+//! The bytes of a model that the reader accepts, changed: started in another state, without its declarations, or with one cost a step.
 
 use crate::reference::{State, Value};
 use std::ops::Range;
@@ -40,7 +40,7 @@ fn commands(model: &[u8]) -> Vec<Range<usize>> {
             0x04 => at + 6,
             0x05 => at + 3,
             0x06 => at + 5,
-            0x08 | 0x09 | 0x0C | 0x0D => expression_end(model, at + 1),
+            0x08 | 0x09 | 0x10 | 0x0C | 0x0D => expression_end(model, at + 1),
             0x0A => expression_end(model, at + 2),
             _ => at + 1,
         };
@@ -88,6 +88,33 @@ pub fn undeclared(model: &[u8]) -> Vec<u8> {
             }
             _ => bytes.extend_from_slice(&model[command]),
         }
+    }
+    bytes
+}
+
+/// The model whose costs are the low ones: it has no high cost.
+pub fn at_low(model: &[u8]) -> Vec<u8> {
+    let commands = commands(model).into_iter();
+    let kept = commands.filter(|command| model[command.start] != 0x10);
+    kept.flat_map(|command| model[command].to_vec()).collect()
+}
+
+/// The model whose costs are the high ones.
+pub fn at_high(model: &[u8]) -> Vec<u8> {
+    let mut bytes = Vec::new();
+    let mut cost = 0;
+    for command in commands(model) {
+        match model[command.start] {
+            0x09 => cost = bytes.len(),
+            0x10 => {
+                bytes.truncate(cost);
+                bytes.push(0x09);
+                bytes.extend_from_slice(&model[command.start + 1..command.end]);
+                continue;
+            }
+            _ => {}
+        }
+        bytes.extend_from_slice(&model[command]);
     }
     bytes
 }

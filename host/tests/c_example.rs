@@ -29,8 +29,27 @@ fn the_example_plans_and_checks() {
     let program = compiled("c-example");
     let model = host().join("../examples/three-designs.model");
     let output = Command::new(&program).arg(&model).output().unwrap();
-    let due = "verdict 0, bound 7, 14 expansions in 3 rounds\ncost 7\nplan: 0 1 2\nplan check: answer 0, cost 7\n";
+    let due = "verdict 0, bound 7, 14 expansions in 3 rounds\ncost 7\nplan: 0 1 2\nplan check: answer 0, cost 7, low 7\n";
     assert_eq!(left(&output), (Some(0), due.to_string()));
+}
+
+/// Where hours are ranges both ends are printed, by the search and by the plan check.
+#[test]
+fn the_example_prints_a_range() {
+    let program = compiled("c-example-range");
+    let model = host().join("../examples/reload-hours.model");
+    let output = Command::new(&program).arg(&model).output().unwrap();
+    let due = "verdict 0, bound 22, 41 expansions in 4 rounds\ncost 22, or down to 13 where steps take less than their high costs\nplan: 2 1 0 3\nplan check: answer 0, cost 22, low 13\n";
+    assert_eq!(left(&output), (Some(0), due.to_string()));
+    // The counting model with low cost x and high cost 1: refused at its third step, and the path is printed.
+    let below = built("below.model");
+    let bytes = b"\x01\x00\x04\x00\x00\x00\x00\x00\x07\x09\x21\x00\x10\x20\x01\x00\x00\x00\x0A\x00\x22\x21\x00\x20\x01\x00\x00\x00\x0B\x08\x50\x21\x00\x20\x03\x00\x00\x00\x0E";
+    std::fs::write(&below, bytes).unwrap();
+    let output = Command::new(&program).arg(&below).output().unwrap();
+    assert_eq!(
+        left(&output),
+        (Some(1), "refused 17\npath: 0 0\n".to_string())
+    );
 }
 
 /// A refused model, a missing file and a missing argument.

@@ -32,6 +32,8 @@ mod plan;
 mod quotation_texts;
 #[path = "command/quotations.rs"]
 mod quotations;
+#[path = "command/ranges.rs"]
+mod ranges;
 #[path = "command/refusals.rs"]
 mod refusals;
 #[path = "command/translate.rs"]
@@ -156,10 +158,11 @@ fn beam_option(beam: &Beam) -> String {
 }
 
 /// The names of the examples.
-const EXAMPLES: [&str; 7] = [
+const EXAMPLES: [&str; 8] = [
     "assembly-line",
     "loading-order",
     "open-stacks",
+    "reload-hours",
     "sop",
     "tardiness",
     "three-designs",

@@ -3,6 +3,7 @@
 use repgypsum_host::answer::Answer;
 use repgypsum_host::cases::FILL;
 use repgypsum_host::enumerate::Space;
+use repgypsum_host::generate::ranges::ranged;
 use repgypsum_host::generate::{settings, with_any_target, Random};
 use repgypsum_host::numbers::refusal::NOT_A_PLAN;
 use repgypsum_host::numbers::verdict::{
@@ -29,7 +30,7 @@ struct Tally {
     searches: usize,
     verdicts: [usize; 6],
     true_verdicts: [usize; 6],
-    refusals: [usize; 16],
+    refusals: [usize; 18],
     fitting: usize,
     broken: Vec<String>,
 }
@@ -42,11 +43,19 @@ fn searched(bytes: &[u8], (width, length, budget): (u64, u64, u64)) -> (Answer, 
     (answer, buffer)
 }
 
+/// A random model; every second one has ranges.
+fn any_model(random: &mut Random) -> Vec<u8> {
+    match random.below(2) {
+        0 => with_any_target(random).end(),
+        _ => ranged(random).end(),
+    }
+}
+
 fn run(models: usize) -> Tally {
     let mut tally = Tally::default();
     let mut random = Random::new(0x5EED);
     while tally.models < models {
-        let bytes = with_any_target(&mut random).end();
+        let bytes = any_model(&mut random);
         let read = read_model(&bytes).expect("a generated model is well made");
         let Some(space) = Space::of(&read, STATES) else {
             continue;
@@ -55,7 +64,7 @@ fn run(models: usize) -> Tally {
         let met = read.meets_constraints(&read.target());
         tally.broken_targets += usize::from(met == Ok(false));
         tally.troubled_targets += usize::from(met.is_err());
-        let declarations_true = space.bounds_true(&read) && space.preferences_true(&read);
+        let declarations_true = space.declarations_true(&read);
         tally.declarations_true += usize::from(declarations_true);
         tally.comparable_true += usize::from(declarations_true && space.some_dominance(&read));
         let mut troubled = false;
@@ -90,7 +99,7 @@ fn run(models: usize) -> Tally {
 
 fn agrees_with_plan_check(bytes: &[u8], answer: &Answer, plan: &[u8]) {
     if answer.flag {
-        assert_eq!(plan_check(bytes, plan), (0, answer.cost));
+        assert_eq!(plan_check(bytes, plan), (0, answer.cost, answer.low));
     }
 }
 
@@ -111,7 +120,7 @@ fn answers_of_the_target(met: Result<bool, u8>, bytes: &[u8], answer: &Answer, b
     assert_eq!(*answer, due, "{bytes:02x?}");
     assert!(buffer.iter().all(|byte| *byte == FILL));
     for plan in [&[][..], &[0], &[255, 0]] {
-        assert_eq!(plan_check(bytes, plan), (checked, 0), "{bytes:02x?}");
+        assert_eq!(plan_check(bytes, plan), (checked, 0, 0), "{bytes:02x?}");
     }
 }
 
@@ -141,11 +150,11 @@ fn demand_three_holds() {
         tally.broken_targets, tally.troubled_targets
     );
     println!(
-        "searches {}, verdicts 0 to 5 {:?}, with declarations true {:?}, refusals 11 to 13 {:?}, fitting {}",
+        "searches {}, verdicts 0 to 5 {:?}, with declarations true {:?}, refusals from 11 on {:?}, fitting {}",
         tally.searches,
         tally.verdicts,
         tally.true_verdicts,
-        &tally.refusals[11..14],
+        &tally.refusals[11..],
         tally.fitting
     );
     let (broken, first) = (tally.broken.len(), tally.broken.first());
@@ -154,7 +163,9 @@ fn demand_three_holds() {
     assert!(tally.comparable_true >= 100 && tally.fitting >= 1_000);
     assert!(tally.verdicts.iter().all(|met| *met >= 50));
     assert!(tally.broken_targets >= 100 && tally.troubled_targets >= 100);
-    assert!(tally.refusals[11..14].iter().all(|met| *met >= 20));
+    assert!([11, 12, 13, 17]
+        .iter()
+        .all(|number| tally.refusals[*number] >= 20));
 }
 
 /// Targets that break a constraint, or that have one without a value, at every setting.
@@ -196,6 +207,8 @@ fn false_answers(
     let verdict = |verdict: u8| Answer { verdict, ..*answer };
     let cost = answer.cost + 1;
     when(answer.flag, Answer { cost, ..*answer });
+    let low = answer.low + 1;
+    when(answer.flag, Answer { low, ..*answer });
     let least = space.cheapest().map(|least| least as u64);
     let not_cheapest = !answer.flag || least != Some(answer.cost);
     when(declarations_true && not_cheapest, verdict(CHEAPEST));
@@ -218,7 +231,7 @@ fn false_answers_break_demand_three() {
     let mut broken: BTreeMap<&str, usize> = BTreeMap::new();
     let mut random = Random::new(0x5EED);
     for _ in 0..1_500 {
-        let bytes = with_any_target(&mut random).end();
+        let bytes = any_model(&mut random);
         let settings = settings(&mut random);
         let read = read_model(&bytes).expect("a generated model is well made");
         let Some(space) = Space::of(&read, STATES) else {
@@ -229,7 +242,7 @@ fn false_answers_break_demand_three() {
             continue;
         }
         let plan = &buffer[..answer.length as usize];
-        let declarations_true = space.bounds_true(&read) && space.preferences_true(&read);
+        let declarations_true = space.declarations_true(&read);
         let settings = (settings.0, settings.1);
         for told in false_answers(&space, declarations_true, settings, &answer) {
             let sentence = space.broken(&read, declarations_true, settings, &told, plan);

@@ -1,6 +1,6 @@
 //! The example texts assemble to the models beside them, which plan to the lines stored beside them.
 
-use repgypsum_host::enumerate::Space;
+use repgypsum_host::enumerate::{Figures, Space};
 use repgypsum_host::line::line;
 use repgypsum_host::models::{sop, three_designs, tsptw};
 use repgypsum_host::reference::read_model;
@@ -40,6 +40,7 @@ fn examples_print_their_lines() {
         "assembly-line",
         "loading-order",
         "open-stacks",
+        "reload-hours",
         "sop",
         "tardiness",
         "three-designs",
@@ -79,13 +80,18 @@ fn examples_are_cheapest_by_enumeration() {
     for name in examples() {
         let read = read_model(&model(&name)).unwrap();
         let space = Space::of(&read, STATES).unwrap();
-        assert!(
-            space.bounds_true(&read) && space.preferences_true(&read),
-            "{name}"
-        );
+        assert!(space.declarations_true(&read), "{name}");
+        assert!(space.bounds_true(&read, Figures::Low), "{name}");
         let cheapest = space.to_go[0].unwrap();
         let due = format!("0 1 {cheapest} {cheapest} ");
-        assert!(line(&model(&name)).starts_with(&due), "{name}");
+        let line = line(&model(&name));
+        assert!(line.starts_with(&due), "{name}");
+        // At low figures the plan costs no less than the cheapest at those, and no more than at high ones.
+        let low: i64 = line.split(' ').nth(8).unwrap().parse().unwrap();
+        let least = space.least_to_go(Figures::Low)[0].unwrap();
+        assert!(least <= low && low <= cheapest, "{name}");
+        let ranges = text(&name).contains(" high ");
+        assert_eq!(low < cheapest, ranges, "{name}");
     }
 }
 

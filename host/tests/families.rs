@@ -1,6 +1,6 @@
 //! The families: accepted at all sizes, the same for the same seed, with true declarations and the cheapest cost of the enumeration.
 
-use repgypsum_host::enumerate::Space;
+use repgypsum_host::enumerate::{Figures, Space};
 use repgypsum_host::families::{families, family, Family};
 use repgypsum_host::numbers::{limit, verdict, words_needed};
 use repgypsum_host::reference::{plan_check, read_model, search, Model};
@@ -72,7 +72,7 @@ fn declarations_are_true() {
         let (mut states, mut comparable) = (0, 0);
         let models = tiny(&family);
         for Tiny { model, space, .. } in &models {
-            assert!(space.bounds_true(model), "{}", family.name);
+            assert!(space.bounds_true(model, Figures::High), "{}", family.name);
             assert!(space.preferences_true(model), "{}", family.name);
             states += space.states.len();
             comparable += usize::from(space.some_dominance(model));
@@ -119,7 +119,7 @@ fn cheapest_by_enumeration() {
                     assert_eq!(answer.verdict, verdict::CHEAPEST, "{}", family.name);
                     assert_eq!(answer.cost as i64, least, "{}", family.name);
                     let plan = &buffer[..answer.length as usize];
-                    assert_eq!(plan_check(&bytes, plan), (0, answer.cost));
+                    assert_eq!(plan_check(&bytes, plan), (0, answer.cost, answer.low));
                     assert_eq!(answer.length, steps(family.name, size, answer.cost));
                     with_plan += 1;
                 }

@@ -6,6 +6,7 @@ use repgypsum_host::build::*;
 use repgypsum_host::cases::{groups, Call, FILL};
 use repgypsum_host::families::families;
 use repgypsum_host::fast;
+use repgypsum_host::generate::ranges::ranged;
 use repgypsum_host::generate::{damaged, model, settings, with_any_target, Random};
 use repgypsum_host::numbers::{refusal, words_needed};
 use repgypsum_host::reference::search;
@@ -14,7 +15,7 @@ use repgypsum_host::reference::search;
 #[derive(Default, Debug)]
 struct Met {
     verdicts: [usize; 6],
-    refusals: [usize; 17],
+    refusals: [usize; 18],
 }
 
 impl Met {
@@ -153,15 +154,20 @@ fn first_trouble() {
 fn random_models() {
     let mut met = Met::default();
     let mut random = Random::new(0xFA57);
-    for _ in 0..6_000 {
-        let bytes = with_any_target(&mut random).end();
+    for turn in 0..6_000 {
+        let bytes = match turn % 2 {
+            0 => with_any_target(&mut random).end(),
+            _ => ranged(&mut random).end(),
+        };
         for _ in 0..8 {
             compare(&mut met, &bytes, settings(&mut random));
         }
     }
     println!("{} searches, {met:?}", met.total());
     assert!(met.verdicts.iter().all(|count| *count >= 100));
-    assert!(met.refusals[11..14].iter().all(|count| *count >= 50));
+    assert!([11, 12, 13, 17]
+        .iter()
+        .all(|number| met.refusals[*number] >= 50));
 }
 
 /// Longer and wider searches of the same models, where layers fill and are cut many times.

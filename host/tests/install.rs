@@ -137,10 +137,10 @@ fn installed_programs_run() {
             .arg("plan")
             .arg(&model),
     );
-    assert_eq!(text(&output.stdout), "0 1 7 7 3 14 3 4 : 0 1 2\n");
+    assert_eq!(text(&output.stdout), "0 1 7 7 3 14 3 4 7 : 0 1 2\n");
 
     let c = ["cc", "-std=c11"];
-    let due = "verdict 0, bound 7, 14 expansions in 3 rounds\ncost 7\nplan: 0 1 2\nplan check: answer 0, cost 7\n";
+    let due = "verdict 0, bound 7, 14 expansions in 3 rounds\ncost 7\nplan: 0 1 2\nplan check: answer 0, cost 7, low 7\n";
     for (shared, name) in [(false, "c-archive"), (true, "c-shared")] {
         let program = compiled(&c, &host().join("example.c"), &prefix, shared, name);
         let output = done(Command::new(&program).arg(&model));
@@ -151,7 +151,7 @@ fn installed_programs_run() {
         let several = ["c++", "-std=c++17"];
         for (shared, name) in [(false, "cpp-archive"), (true, "cpp-shared")] {
             let program = compiled(&several, &host().join("example.cpp"), &prefix, shared, name);
-            // Thirty-five threads at once, five for each example, each with the answer that one alone has.
+            // Forty threads at once, five for each example, each with the answer that one alone has.
             let (mut models, mut lines) = (Vec::new(), String::new());
             for _ in 0..5 {
                 for example in [
@@ -162,6 +162,7 @@ fn installed_programs_run() {
                     "open-stacks",
                     "assembly-line",
                     "loading-order",
+                    "reload-hours",
                 ] {
                     models.push(root().join(format!("examples/{example}.model")));
                     lines += &line(example);
@@ -185,9 +186,9 @@ fn line(example: &str) -> String {
         .expect("a stored line");
     let (fields, plan) = stored.trim_end().split_once(" :").expect("a plan");
     let fields: Vec<&str> = fields.split(' ').collect();
-    let (verdict, cost, bound) = (fields[0], fields[2], fields[3]);
+    let (verdict, cost, bound, low) = (fields[0], fields[2], fields[3], fields[8]);
     format!(
-        "verdict {verdict}, cost {cost}, bound {bound}, plan{plan}; plan check 0, cost {cost}\n"
+        "verdict {verdict}, cost {cost}, bound {bound}, low {low}, plan{plan}; plan check 0, cost {cost}, low {low}\n"
     )
 }
 
@@ -255,6 +256,7 @@ fn what_the_libraries_have() {
     let functions = [
         "repgypsum_check_answer",
         "repgypsum_check_cost",
+        "repgypsum_check_low",
         "repgypsum_load",
         "repgypsum_load_widths",
         "repgypsum_search",

@@ -65,7 +65,7 @@ fn no_length_stop_inside() {
             .iter()
             .any(|at| space.standing[*at] == Standing::Unfinished);
         assert!(!open, "{bytes:02x?}");
-        let declarations_true = space.bounds_true(&read) && space.preferences_true(&read);
+        let declarations_true = space.declarations_true(&read);
         for width in WIDTHS {
             for budget in BUDGETS {
                 let (answer, buffer) = loaded(&bytes, width, length, budget);

@@ -53,6 +53,8 @@ fn months_are_varied() {
         "refused 5",
         "refused 12",
         "refused 13",
+        "refused 17",
+        "0 1 14 14 3 14 3 4 7 : 0 1 2",
     ] {
         assert!(output.lines().any(|one| one == line), "{line}");
     }

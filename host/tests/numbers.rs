@@ -53,7 +53,7 @@ fn refusals_and_sizes() {
     let definitions = text("crates/model/specs/Numbers.antt");
     let (refusals, sizes) = definitions.split_once("---- sizes").expect("two parts");
     let refusals = equations(refusals, "");
-    assert_eq!(refusals.len(), 15);
+    assert_eq!(refusals.len(), 16);
     for (name, number) in refusals {
         assert!(in_rust(&name, number) && in_c(&name, number), "{name}");
     }
@@ -98,7 +98,7 @@ fn fields_of_an_answer() {
         "pub struct Fields",
         "pub ",
     );
-    assert_eq!(defined.len(), 9);
+    assert_eq!(defined.len(), 10);
     assert_eq!(
         fields("host/src/answer.rs", "pub struct Answer", "pub "),
         defined

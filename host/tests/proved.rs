@@ -145,8 +145,8 @@ fn stored_cases() {
     for (_, cases) in groups() {
         for case in cases {
             match (&case.call, case.call.run()) {
-                (Call::Check { model, plan }, Outcome::Check(answer, cost)) => {
-                    assert_eq!(proved::plan_check(model, plan), (answer, cost));
+                (Call::Check { model, plan }, Outcome::Check(answer, cost, low)) => {
+                    assert_eq!(proved::plan_check(model, plan), (answer, cost, low));
                     checks += 1;
                 }
                 (Call::Search(search), Outcome::Search(..)) => {
@@ -199,13 +199,16 @@ fn random_models() {
         }
         verdicts[usize::from(answer.verdict)] += 1;
         if answer.flag {
-            assert_eq!(proved::plan_check(&bytes, plan), (0, answer.cost));
+            assert_eq!(
+                proved::plan_check(&bytes, plan),
+                (0, answer.cost, answer.low)
+            );
         }
         let read = read_model(&bytes).expect("a generated model is well made");
         let Some(space) = Space::of(&read, STATES) else {
             continue;
         };
-        let all_true = space.bounds_true(&read) && space.preferences_true(&read);
+        let all_true = space.declarations_true(&read);
         let (width, length, _) = settings;
         let broken = space.broken(&read, all_true, (width, length), &answer, plan);
         assert_eq!(broken, None, "{settings:?} {bytes:02x?}");
@@ -295,7 +298,7 @@ fn random_table_sums() {
 #[test]
 fn damaged_calls() {
     let mut random = Random::new(0xDA3A);
-    let mut refusals = [0; 15];
+    let mut refusals = [0; 18];
     for _ in 0..models() {
         let build = with_any_target(&mut random);
         let bytes = if random.chance(80) {
@@ -353,7 +356,10 @@ fn random_loads() {
         verdicts[usize::from(answer.verdict)] += 1;
         if answer.flag {
             let plan = &plan[..answer.length as usize];
-            assert_eq!(proved::plan_check(&bytes, plan), (0, answer.cost));
+            assert_eq!(
+                proved::plan_check(&bytes, plan),
+                (0, answer.cost, answer.low)
+            );
         }
     }
     println!("verdicts 0 to 5 {verdicts:?}, refusals by number {refusals:?}");
@@ -446,7 +452,10 @@ fn random_widths() {
         *rounds.entry(answer.rounds.min(6)).or_insert(0) += 1;
         if answer.flag {
             let plan = &plan[..answer.length as usize];
-            assert_eq!(proved::plan_check(&bytes, plan), (0, answer.cost));
+            assert_eq!(
+                proved::plan_check(&bytes, plan),
+                (0, answer.cost, answer.low)
+            );
         }
     }
     println!("verdicts 0 to 5 {verdicts:?}, refusals by number {refusals:?}");
@@ -472,7 +481,7 @@ fn all_lists_to_seven() {
             continue;
         };
         enumerated += 1;
-        let all_true = space.bounds_true(&read) && space.preferences_true(&read);
+        let all_true = space.declarations_true(&read);
         let (_, length, budget) = settings(&mut random);
         for widths in rising_to(7) {
             let beam = Beam::Listed(widths);

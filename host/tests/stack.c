@@ -43,6 +43,7 @@ static void *load_widths(void *unused) {
 static void *check(void *unused) {
     repgypsum_check_answer(model, model_len, plan, LENGTH);
     repgypsum_check_cost(model, model_len, plan, LENGTH);
+    repgypsum_check_low(model, model_len, plan, LENGTH);
     return unused;
 }
 

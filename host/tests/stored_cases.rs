@@ -31,11 +31,11 @@ fn answers_are_as_stated() {
 #[test]
 fn searches_are_small_and_varied() {
     let mut verdicts = [0; 6];
-    let mut refusals = [0; 17];
+    let mut refusals = [0; 18];
     for (_, cases) in groups() {
         for case in cases {
             match case.call.run() {
-                Outcome::Check(answer, _) => refusals[usize::from(answer)] += 1,
+                Outcome::Check(answer, _, _) => refusals[usize::from(answer)] += 1,
                 Outcome::Search(answer, _) => {
                     assert!(answer.expansions <= 60);
                     if answer.refused {
@@ -49,7 +49,7 @@ fn searches_are_small_and_varied() {
     }
     println!("verdicts {verdicts:?}, refusals by number {refusals:?}");
     assert!(verdicts.iter().all(|met| *met >= 5));
-    assert!((1..17)
+    assert!((1..18)
         .filter(|number| *number != 10)
         .all(|number| refusals[number] >= 3));
 }
@@ -58,7 +58,9 @@ fn searches_are_small_and_varied() {
 fn module_names(directory: &Path) -> BTreeSet<String> {
     let entries = std::fs::read_dir(directory).expect("the directory can be listed");
     let names = entries.map(|entry| entry.unwrap().file_name().into_string().unwrap());
-    let groups = ["Reading", "Meaning", "Plans", "Searches", "Loads", "Widths"];
+    let groups = [
+        "Reading", "Meaning", "Plans", "Searches", "Loads", "Widths", "Ranges",
+    ];
     let of_a_group = |name: &String| groups.iter().any(|group| name.starts_with(group));
     names.filter(of_a_group).collect()
 }

@@ -18,6 +18,8 @@ mod listing;
 mod loops;
 #[path = "text/names.rs"]
 mod names;
+#[path = "text/ranges.rs"]
+mod ranges;
 #[path = "text/trips.rs"]
 mod trips;
 
@@ -61,6 +63,7 @@ fn example_texts() -> Vec<String> {
         "assembly-line",
         "open-stacks",
         "tardiness",
+        "reload-hours",
     ]
     .iter()
     .map(|name| std::fs::read_to_string(directory.join(format!("{name}.dp"))).unwrap())

@@ -58,7 +58,7 @@ fn all_lists_to_seven() {
             continue;
         };
         enumerated += 1;
-        let declarations_true = space.bounds_true(&read) && space.preferences_true(&read);
+        let declarations_true = space.declarations_true(&read);
         declarations += usize::from(declarations_true);
         let (_, length, budget) = settings(&mut random);
         for widths in &lists {

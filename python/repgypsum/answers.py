@@ -15,7 +15,8 @@ class Answer(Found):
     """The answer of a search.
 
     `number` is the verdict's number, or the refusal's where `refused`; `name` is it in words. `steps` are those of the plan,
-    or of the path to the state of a refusal 11 to 13; their costs and states are Python's own, outside the proofs.
+    or of the path to the state of a refusal 11 to 13 or 17; their costs and states are Python's own, outside the proofs. Where costs
+    are ranges, `cost` and `bound` are at high figures and `low` is the cost at low ones: the real cost lies between `low` and `cost`.
     """
 
     steps: Tuple[Step, ...]
@@ -26,7 +27,7 @@ class Answer(Found):
 
     @property
     def is_optimal(self) -> bool:
-        """Whether the mark is "cheapest": no plan costs less, if the model's declared bounds and preferences are true."""
+        """Whether the mark is "cheapest": no plan costs less (at high figures), if the declared bounds and preferences are true."""
         return not self.refused and self.number == CHEAPEST
 
     @property
@@ -54,7 +55,7 @@ class Answer(Found):
         """The line that the command line prints."""
         if self.refused:
             return f"refused {self.number}"
-        fields = (self.cost, self.bound, self.length, self.expansions, self.rounds, self.width)
+        fields = (self.cost, self.bound, self.length, self.expansions, self.rounds, self.width, self.low)
         numbers = [self.number, int(self.plan_given), *fields]
         return " ".join([*map(str, numbers), ":", *map(str, self.plan)])
 
@@ -63,15 +64,17 @@ class Answer(Found):
             return f"refused {self.number}, {self.name}"
         if not self.plan_given:
             return f"{self.name}, no plan is given, bound {self.bound}"
-        return f"{self.name}, cost {self.cost}, bound {self.bound}: " + ", ".join(self.transitions)
+        cost = f"cost {self.cost}" if self.low == self.cost else f"cost {self.cost}, low {self.low}"
+        return f"{self.name}, {cost}, bound {self.bound}: " + ", ".join(self.transitions)
 
 
 @dataclass(frozen=True)
 class Checked:
-    """The answer of the plan check: 0 with the cost exactly for a plan, else a refusal's number."""
+    """The answer of the plan check: 0 with the cost at high and at low figures exactly for a plan, else a refusal's number."""
 
     number: int
     cost: int
+    low: int
 
     @property
     def is_plan(self) -> bool:

@@ -6,7 +6,7 @@ class ModelError(ValueError):
 
 
 class Trouble(ArithmeticError):
-    """An expression without a value in a state; `number` is the refusal's number, 11 to 13."""
+    """An expression without a value in a state, or a cost that no step has; `number` is the refusal's number, 11 to 13 or 17."""
 
     def __init__(self, number: int, what: str) -> None:
         super().__init__(f"refusal {number}: {what}")

@@ -31,6 +31,7 @@ class Fields(ctypes.Structure):
         ("expansions", ctypes.c_uint64),
         ("rounds", ctypes.c_uint64),
         ("width", ctypes.c_uint64),
+        ("low", ctypes.c_uint64),
     ]
 
 
@@ -47,6 +48,7 @@ class Found:
     expansions: int
     rounds: int
     width: int
+    low: int
     plan: bytes
 
 
@@ -95,6 +97,8 @@ def _typed(found: ctypes.CDLL) -> ctypes.CDLL:
     found.repgypsum_check_answer.restype = ctypes.c_uint8
     found.repgypsum_check_cost.argtypes = [byte, size, byte, size]
     found.repgypsum_check_cost.restype = ctypes.c_uint64
+    found.repgypsum_check_low.argtypes = [byte, size, byte, size]
+    found.repgypsum_check_low.restype = ctypes.c_uint64
     return found
 
 
@@ -168,14 +172,15 @@ def _found(call: Callable[..., Fields], model: bytes, settings: Tuple[Any, ...],
     plan = (ctypes.c_uint8 * lent[0])()
     words = (ctypes.c_uint64 * lent[1])()
     got = call(model, len(model), *settings, plan, lent[0], words, lent[1])
-    same = ("cost", "bound", "length", "expansions", "rounds", "width")
+    same = ("cost", "bound", "length", "expansions", "rounds", "width", "low")
     fields = {name: getattr(got, name) for name in same}
     steps = bytes(plan[: got.length])
     return Found(refused=got.refused == 1, number=got.verdict, plan_given=got.flag == 1, plan=steps, **fields)
 
 
-def check(model: bytes, plan: bytes) -> Tuple[int, int]:
-    """The proved plan check: 0 exactly for a plan, else the refusal's number; and the plan's cost, else 0."""
+def check(model: bytes, plan: bytes) -> Tuple[int, int, int]:
+    """The proved plan check: 0 exactly for a plan, else the refusal's number; the plan's cost at high figures and at low ones, else 0."""
     found = library()
-    answer = found.repgypsum_check_answer(model, len(model), plan, len(plan))
-    return answer, found.repgypsum_check_cost(model, len(model), plan, len(plan))
+    given = (model, len(model), plan, len(plan))
+    answer = found.repgypsum_check_answer(*given)
+    return answer, found.repgypsum_check_cost(*given), found.repgypsum_check_low(*given)

@@ -11,7 +11,7 @@ WORD = re.compile(r"[A-Za-z_][A-Za-z0-9_]*\Z")
 DIGITS = re.compile(r"[0-9]+\Z")
 
 RESERVED = frozenset(
-    "and base bound constant constraint cost count element else empty exists for forall from if in include largest less max "
+    "and base bound constant constraint cost count element else empty exists for forall from high if in include largest less max "
     "min more not number object objects of or prefer set subset sum table then transition when".split()
 )
 

@@ -38,6 +38,7 @@ VERDICTS = {
 OUT_OF_RANGE = 11
 DIVISOR_ZERO = 12
 NEGATIVE_COST = 13
+HIGH_BELOW_LOW = 17
 
 REFUSALS = {
     1: "model too long",
@@ -55,6 +56,7 @@ REFUSALS = {
     14: "not a plan",
     15: "outside the loading profile",
     16: "bad widths",
+    HIGH_BELOW_LOW: "high cost below low cost",
 }
 
 

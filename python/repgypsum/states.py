@@ -2,10 +2,10 @@
 
 from __future__ import annotations
 
-from typing import FrozenSet, Iterable, Iterator, List, NamedTuple, Optional, Sequence, Union
+from typing import FrozenSet, Iterable, Iterator, List, NamedTuple, Optional, Sequence, Tuple, Union
 
 from .errors import Trouble
-from .numbers import NEGATIVE_COST
+from .numbers import HIGH_BELOW_LOW, NEGATIVE_COST
 from .objects import ObjectType
 from .transition import Transition
 from .variables import ElementVar, SetVar, Variable
@@ -61,13 +61,15 @@ class State:
 
 
 class Step(NamedTuple):
-    """A step of a plan or path: its transition, its own cost, the cost up to and with it, the state after it."""
+    """A step of a plan or path: its transition, its own cost, the cost up to and with it, the state after it; both costs at low figures."""
 
     number: int
     name: Optional[str]
     cost: int
     total: int
     state: State
+    low: int
+    low_total: int
 
     def __str__(self) -> str:
         return str(self.number) if self.name is None else f"{self.number} {self.name}"
@@ -84,13 +86,23 @@ def after(transition: Transition, state: State) -> State:
 def follow(transitions: Sequence[Transition], rule: str, target: State, plan: Iterable[int]) -> List[Step]:
     """The steps from the target, with their costs and states."""
     steps: List[Step] = []
-    state, total = target, 0
+    state, total, low_total = target, 0, 0
     for number in plan:
         transition = transitions[number]
-        cost = transition.cost.form.value(state.values)
-        if cost < 0:
-            raise Trouble(NEGATIVE_COST, "a step with a negative cost")
+        low, cost = costs(transition, state)
         total = total + cost if rule == "sum" else max(total, cost)
+        low_total = low_total + low if rule == "sum" else max(low_total, low)
         state = after(transition, state)
-        steps.append(Step(number, transition.name, cost, total, state))
+        steps.append(Step(number, transition.name, cost, total, state, low, low_total))
     return steps
+
+
+def costs(transition: Transition, state: State) -> Tuple[int, int]:
+    """The low and the high cost of a step."""
+    low = transition.cost.form.value(state.values)
+    if low < 0:
+        raise Trouble(NEGATIVE_COST, "a step with a negative cost")
+    high = low if transition.high is None else transition.high.form.value(state.values)
+    if high < low:
+        raise Trouble(HIGH_BELOW_LOW, "a step with a high cost below its low cost")
+    return low, high

@@ -1,4 +1,4 @@
-"""Transitions: conditions, a cost and effects."""
+"""Transitions: conditions, a cost or a range of costs, and effects."""
 
 from __future__ import annotations
 
@@ -33,6 +33,7 @@ class Transition:
     """A step that a plan can take.
 
     `cost` is the step's own cost, which the model's cost rule adds up or takes the largest of; there is no state cost in it.
+    Where it is known only within a range, `cost` is the low end and `high` the high one, which the search works on.
     All effects read the state before the step.
     """
 
@@ -42,9 +43,11 @@ class Transition:
         cost: Number = 0,
         preconditions: Iterable[Condition] = (),
         effects: Iterable[Effect] = (),
+        high: Optional[Number] = None,
     ) -> None:
         self.name = name
         self.cost: IntExpr = number(cost)
+        self.high: Optional[IntExpr] = None if high is None else number(high)
         self.preconditions: List[Condition] = [condition(one) for one in preconditions]
         self.effects: List[Tuple[Variable, Expr]] = []
         self.number: Optional[int] = None
@@ -62,19 +65,24 @@ class Transition:
         self.effects.append((variable, new))
 
     def expressions(self) -> List[Expr]:
-        return [*self.preconditions, self.cost, *(value for _, value in self.effects)]
+        return [*self.preconditions, *self.costs(), *(value for _, value in self.effects)]
+
+    def costs(self) -> List[IntExpr]:
+        """The cost, and the high cost if there is one."""
+        return [self.cost] if self.high is None else [self.cost, self.high]
 
     def code(self) -> bytes:
-        """The commands 07, 08, 09 and 0A."""
+        """The commands 07, 08, 09, 10 and 0A."""
         conditions = (b"\x08" + one.form.code for one in self.preconditions)
         effects = (bytes([0x0A, variable.index]) + value.form.code for variable, value in self.effects)
-        return b"\x07" + b"".join(conditions) + b"\x09" + self.cost.form.code + b"".join(effects)
+        costs = (byte + cost.form.code for byte, cost in zip([b"\x09", b"\x10"], self.costs()))
+        return b"\x07" + b"".join([*conditions, *costs, *effects])
 
     def text(self) -> str:
         """The transition as commands of the text form."""
         lines = ["transition:" if self.name is None else f"transition {self.name}:"]
         lines += [f"    when {one}" for one in self.preconditions]
-        lines.append(f"    cost {self.cost}")
+        lines += [f"    {word} {cost}" for word, cost in zip(["cost", "high"], self.costs())]
         lines += [f"    {variable} := {value}" for variable, value in self.effects]
         return "\n".join(lines)
 

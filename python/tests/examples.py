@@ -233,10 +233,35 @@ def rows(name: str) -> Dict[str, Dict[str, int]]:
     return {line[0]: dict(zip(lines[0][1:], map(int, line[1:]))) for line in lines[1:]}
 
 
+def reload_hours() -> Model:
+    model = Model(name="reload-hours")
+    design = model.add_object_type(objects=["none", "cpu", "ddr", "gpu", "npu"], name="design")
+    todo = model.add_set_var(design, range(1, 5), name="todo")
+    at = model.add_element_var(design, "none", name="at")
+    rows = [[0, 6, 5, 2, 4], [0, 0, 2, 3, 4], [0, 4, 0, 4, 6], [0, 3, 3, 0, 3], [0, 5, 3, 2, 0]]
+    hours = model.add_table(rows, name="hours", object_types=[design, design])
+    rows = [[0, 3, 6, 6, 3], [0, 0, 6, 6, 0], [0, 3, 0, 0, 3], [0, 3, 0, 0, 3], [0, 0, 6, 6, 0]]
+    drawer = model.add_table(rows, name="drawer", object_types=[design, design])
+    least = model.add_table([0, 3, 2, 2, 3], name="least", object_types=[design])
+    for d in ["cpu", "ddr", "gpu", "npu"]:
+        load = Transition(
+            f"load {d}",
+            cost=hours[at, d],
+            high=hours[at, d] + drawer[at, d],
+            preconditions=[todo.contains(d)],
+            effects=[(todo, todo.remove(d)), (at, d)],
+        )
+        model.add_transition(load)
+    model.add_base_case([todo.is_empty()])
+    model.add_dual_bound(least[todo])
+    return model
+
+
 EXAMPLES: Dict[str, Callable[[], Model]] = {
     "assembly-line": assembly_line,
     "loading-order": loading_order,
     "open-stacks": open_stacks,
+    "reload-hours": reload_hours,
     "sop": sop,
     "tardiness": tardiness,
     "three-designs": three_designs,

@@ -4,10 +4,10 @@ import json
 import subprocess
 import threading
 import unittest
-from typing import Dict, List, Tuple
+from typing import Any, Callable, Dict, List, Tuple
 
 import repgypsum as rg
-from repgypsum import Model, Transition, library, program
+from repgypsum import Model, Transition, library, program, states
 
 from .examples import EXAMPLES, three_designs
 from .surroundings import needs_library, needs_program
@@ -20,6 +20,15 @@ def stepping(bound: int = 0, cost: int = 1) -> Model:
     model.add_transition(Transition("one", cost=x * 0 + cost, preconditions=[x < 3], effects=[(x, x + 1)]))
     model.add_base_case([x == 3])
     model.add_dual_bound(bound)
+    return model
+
+
+def counting(low: Callable[[Any], Any], high: Callable[[Any], Any], rule: str = "sum") -> Model:
+    """From 0 to 3 by ones, at a range of costs each."""
+    model = Model(rule)
+    x = model.add_int_var(0, name="x")
+    model.add_transition(Transition("one", cost=low(x), high=high(x), effects=[(x, x + 1)]))
+    model.add_base_case([x == 3])
     return model
 
 
@@ -42,6 +51,8 @@ def answers() -> List[Tuple[Model, Dict[str, int]]]:
         (designs, {"length": 0}),
         (stepping(cost=-1), {}),
         (divided, {}),
+        (counting(lambda x: 2, lambda x: 5), {}),
+        (counting(lambda x: x, lambda x: 1), {}),
     ]
 
 
@@ -50,7 +61,7 @@ class Answers(unittest.TestCase):
     def test_verdicts_and_refusals(self) -> None:
         found = [(answer.refused, answer.number) for answer in (model.plan(**given) for model, given in answers())]
         verdicts = [(False, number) for number in range(6)]
-        self.assertEqual(found, verdicts + [(True, 2), (True, 2), (True, 13), (True, 12)])
+        self.assertEqual(found, verdicts + [(True, 2), (True, 2), (True, 13), (True, 12), (False, 0), (True, 17)])
 
     @needs_program
     def test_names_and_fields_are_those_of_the_program(self) -> None:
@@ -59,7 +70,7 @@ class Answers(unittest.TestCase):
             options = [f"--{name}={value}" for name, value in given.items()]
             line = [program.program(), "plan", "--json", *options]
             said = json.loads(subprocess.run(line, input=model.to_bytes(), capture_output=True, check=False).stdout)
-            for name in ["refused", "number", "name", "cost", "bound", "length", "expansions", "rounds", "width"]:
+            for name in ["refused", "number", "name", "cost", "bound", "length", "expansions", "rounds", "width", "low"]:
                 self.assertEqual(getattr(answer, name), said["answer"][name], name)
             self.assertEqual(answer.plan_given, said["answer"]["plan"])
             self.assertEqual(answer.line, said["line"])
@@ -69,9 +80,9 @@ class Answers(unittest.TestCase):
         """The length is chosen; the answer is that of the plain search with it."""
         designs = three_designs()
         self.assertEqual(designs.plan(loading=True), designs.plan(length=3))
-        self.assertEqual(designs.plan(loading=True).line, "0 1 7 7 3 14 3 4 : 0 1 2")
+        self.assertEqual(designs.plan(loading=True).line, "0 1 7 7 3 14 3 4 7 : 0 1 2")
         self.assertEqual(designs.plan(loading=True, width=1), designs.plan(width=1, length=3))
-        inside = {"loading-order", "open-stacks", "sop", "three-designs"}
+        inside = {"loading-order", "open-stacks", "reload-hours", "sop", "three-designs"}
         for name, build in EXAMPLES.items():
             answer = build().plan(loading=True)
             if name in inside:
@@ -90,13 +101,13 @@ class Answers(unittest.TestCase):
         """The rounds have the widths of the list; the built-in ones as a list give the same answer as the widest beam."""
         designs = three_designs()
         for widths, more, line in [
-            ([1, 200], {}, "0 1 7 7 3 9 2 200 : 0 1 2"),
-            ([3], {}, "0 1 7 7 3 13 2 3 : 0 1 2"),
-            ((200,), {}, "0 1 7 7 3 10 1 200 : 0 1 2"),
-            ([2], {}, "2 1 7 0 3 10 2 2 : 0 1 2"),
-            ([1, 2, 4], {"length": 2}, "2 0 0 2 0 9 3 4 :"),
-            ([1, 200], {"length": 2}, "3 0 0 5 0 6 2 200 :"),
-            ([1, 200], {"loading": True}, "0 1 7 7 3 9 2 200 : 0 1 2"),
+            ([1, 200], {}, "0 1 7 7 3 9 2 200 7 : 0 1 2"),
+            ([3], {}, "0 1 7 7 3 13 2 3 7 : 0 1 2"),
+            ((200,), {}, "0 1 7 7 3 10 1 200 7 : 0 1 2"),
+            ([2], {}, "2 1 7 0 3 10 2 2 7 : 0 1 2"),
+            ([1, 2, 4], {"length": 2}, "2 0 0 2 0 9 3 4 0 :"),
+            ([1, 200], {"length": 2}, "3 0 0 5 0 6 2 200 0 :"),
+            ([1, 200], {"loading": True}, "0 1 7 7 3 9 2 200 7 : 0 1 2"),
         ]:
             self.assertEqual(designs.plan(widths=widths, **more).line, line)
         for build in EXAMPLES.values():
@@ -119,6 +130,34 @@ class Answers(unittest.TestCase):
             with self.assertRaises(ValueError):
                 designs.plan(widths=[1, no_number])  # type: ignore[list-item]
 
+    def test_ranges(self) -> None:
+        """The cost at high figures and beside it that at low ones; a high cost below the low one is refused."""
+        model = counting(lambda x: 2, lambda x: 5)
+        due = "01 00 04 00 00000000 07 09 20 02000000 10 20 05000000 0A 00 22 21 00 20 01000000 0B 08 50 21 00 20 03000000 0E"
+        self.assertEqual(model.to_bytes(), bytes.fromhex(due))
+        answer = model.plan()
+        self.assertEqual(answer.line, "0 1 15 15 3 3 1 1 6 : 0 0 0")
+        self.assertEqual(str(answer), "cheapest, cost 15, low 6, bound 15: one, one, one")
+        costs = [(step.low, step.cost, step.low_total, step.total) for step in answer.steps]
+        self.assertEqual(costs, [(2, 5, 2, 5), (2, 5, 4, 10), (2, 5, 6, 15)])
+        self.assertEqual(model.check([0, 0, 0]), rg.Checked(0, 15, 6))
+        self.assertEqual(model.check([0, 0]), rg.Checked(14, 0, 0))
+        largest = counting(lambda x: 4 - x, lambda x: 5 + x, "largest")
+        self.assertEqual(largest.plan().line, "0 1 7 7 3 3 1 1 4 : 0 0 0")
+        below = counting(lambda x: x, lambda x: 1)
+        refused = below.plan()
+        self.assertEqual(str(refused), "refused 17, high cost below low cost")
+        fields = (refused.cost, refused.low, refused.bound, refused.length, refused.expansions, refused.plan)
+        self.assertEqual(fields, (2, 1, 2, 2, 3, bytes([0, 0])))
+        self.assertEqual([below.check([0] * n).number for n in (3, 2)], [17, 14])
+        self.assertEqual(counting(lambda x: -1, lambda x: 1 // (x * 0)).plan().number, 13)
+        self.assertEqual(counting(lambda x: 1, lambda x: 2**31 - 1 + (x * 0 + 1)).plan().number, 11)
+        with self.assertRaises(rg.ModelError):
+            Model().add_int_var(0, name="high")
+        with self.assertRaises(rg.Trouble) as trouble:
+            states.costs(below.transitions[0], rg.State(below.variables, [2]))
+        self.assertEqual(trouble.exception.number, 17)
+
     def test_settings_that_are_no_numbers(self) -> None:
         for wrong in [-1, 2**32, 1.5, True]:
             with self.assertRaises(ValueError):
@@ -140,9 +179,9 @@ class Answers(unittest.TestCase):
         model = three_designs()
         a, b, c = model.transitions
         for plan in [[0, 1, 2], ["load a", "load b", "load c"], [a, b, c], bytes([0, 1, 2]), [a, 1, "load c"]]:
-            self.assertEqual(model.check(plan), rg.Checked(0, 7))
+            self.assertEqual(model.check(plan), rg.Checked(0, 7, 7))
         wrong = model.check([0, 1])
-        self.assertEqual((wrong.is_plan, wrong.number, wrong.cost, wrong.name), (False, 14, 0, "not a plan"))
+        self.assertEqual((wrong.is_plan, wrong.number, wrong.cost, wrong.low, wrong.name), (False, 14, 0, 0, "not a plan"))
         self.assertFalse(model.check([9]))
         self.assertEqual(model.check([0] * 257).number, 2)
         for step in ["load z", 256, -1, three_designs().transitions[0], Transition("x")]:

@@ -1,4 +1,4 @@
-"""The seven examples: the same bytes as the text form's, the lines that they print, and their plans."""
+"""The examples: the same bytes as the text form's, the lines that they print, and their plans."""
 
 import subprocess
 import unittest
@@ -47,9 +47,10 @@ class Examples(unittest.TestCase):
             model = build()
             answer = model.plan()
             self.assertTrue(answer.is_optimal and answer.plan_given, name)
-            self.assertEqual(model.check(answer.plan), rg.Checked(0, answer.cost), name)
+            self.assertEqual(model.check(answer.plan), rg.Checked(0, answer.cost, answer.low), name)
             self.assertEqual(model.check(answer.transitions).cost, answer.cost, name)
-            self.assertEqual(answer.steps[-1].total, answer.cost, name)
+            last = answer.steps[-1]
+            self.assertEqual((last.total, last.low_total), (answer.cost, answer.low), name)
 
     @needs_library
     def test_states_of_the_three_designs(self) -> None:

@@ -38,7 +38,7 @@ class Page(unittest.TestCase):
                 self.assertTrue(os.path.exists("designs.html"))
             finally:
                 os.chdir(before)
-        self.assertEqual(pasted, 2)
+        self.assertEqual(pasted, 3)
 
     def test_names_of_the_page_are_there(self) -> None:
         """What the table of didppy's names calls the same is in the package."""

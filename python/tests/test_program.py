@@ -37,7 +37,8 @@ class Program(unittest.TestCase):
             said = program.ask("explain", [], "model.dp", model.to_text())
             self.assertEqual(len(said["steps"]), len(steps))
             for step, other in zip(steps, said["steps"]):
-                self.assertEqual((step.name, step.cost, step.total), (other["name"], other["cost"], other["total"]))
+                due = tuple(other[name] for name in ["name", "cost", "total", "low", "low_total"])
+                self.assertEqual((step.name, step.cost, step.total, step.low, step.low_total), due)
                 values = [frozenset(one) if isinstance(one, list) else one for one in (v["value"] for v in other["state"])]
                 self.assertEqual(list(step.state), values, name)
 

@@ -8,7 +8,7 @@ use native.Mathlib.Omega.{arith}
 use lib.ListN.{length, drop, length-drop}
 use lib.Dec.{eqb}
 use Rattle.model.specs.Numbers.{endsEarly, notDue, offLimits}
-use Rattle.model.specs.Readers.{Read, read, refused, Reader, after, continue, _>>=_, _>>_, give, refuse, require, peek, byte, word, one, two, three, integer, command, many, upTo}
+use Rattle.model.specs.Readers.{Read, read, refused, Reader, after, continue, _>>=_, _>>_, give, refuse, require, peek, byte, word, one, two, three, integer, command, optional, many, upTo}
 
 -- the numbers of the refusals that reading gives
 abbrev pub ReadingRefusal : ℕ → Type 0
@@ -125,6 +125,10 @@ integer-fair = one-fair _ (word-fair 4)
 pub command-fair : (c : ℕ) → Fair (command c)
 unfolding command
 command-fair c = then-fair byte-fair (λ b. require-fair _ notDue (omega arith))
+
+pub optional-fair : {A : Type 0} (c : ℕ) {r : Reader A} → Fair r → Fair (optional c r)
+unfolding optional
+optional-fair c f = then-fair peek-fair (λ b. cond-fair (eqb b c) (next-fair byte-fair (one-fair _ f)) (give-fair _))
 
 module _ {A B : Type 0} (due : ℕ → Bool) {head : ℕ → List B → Reader A} {body : A → Reader B} where
   pub many-fair : ((b : ℕ) (done : List B) → Fair (head b done)) → ((a : A) → Fair (body a)) → (room : ℕ) (done : List B) → Fair (many due head body room done)

@@ -7,6 +7,7 @@ pub mod Dominance
 pub mod Reach
 pub mod Outcomes
 pub mod Ranges
+pub mod Real
 pub mod Fair
 pub mod Reading
 pub mod Troubles

@@ -55,7 +55,7 @@ unfolding ofLists.any ofLists.filter ofLists.isEmpty ofHex.hex ofHex.zeros _bind
     ofSets.isMember ofSets.union ofSets.intersection ofSets.difference ofSets.complement ofSets.isSubset ofSets.consIf ofSets.membersFrom
     ofSets.members ofSyntax.elementCount ofSyntax.setCount ofSyntax.tableAt ofReaders.after ofReaders.continue _bindReaders_ _thenReaders_
     ofReaders.give ofReaders.refuse ofReaders.require ofReaders.peek ofReaders.byte ofReaders.word ofReaders.signed ofReaders.one ofReaders.two
-    ofReaders.three ofReaders.integer ofReaders.command ofReaders.many ofReaders.upTo ofExpressions.among ofExpressions.beginsExpression
+    ofReaders.three ofReaders.integer ofReaders.command ofReaders.optional ofReaders.many ofReaders.upTo ofExpressions.among ofExpressions.beginsExpression
     ofExpressions.formOf ofExpressions.noDepth ofExpressions.isCount ofExpressions.objectsAndMembers ofExpressions.objectNumber
     ofExpressions.kindNumber ofExpressions.declared ofExpressions.elementAndSet ofExpressions.twoSets ofExpressions.variable ofExpressions.tableNumber
     ofExpressions.inTable ofExpressions.element ofExpressions.set ofExpressions.number ofCommands.ruleOf ofCommands.costRule ofCommands.preferenceOf
@@ -63,10 +63,10 @@ unfolding ofLists.any ofLists.filter ofLists.isEmpty ofHex.hex ofHex.zeros _bind
     ofCommands.sides ofCommands.tableOf ofCommands.tables ofCommands.conditions ofCommands.effectTarget ofCommands.expressionFor ofCommands.effectOn
     ofCommands.costs ofCommands.transition ofCommands.nothingMore ofCommands.model ofMeaning.numberAt ofMeaning.naturalAt ofMeaning.elementValue ofMeaning.setValue
     ofMeaning.equalZ ofMeaning.entryAt ofMeaning.sumOver ofMeaning.two ofMeaning.fit ofMeaning.expressionValue ofMeaning.allHold ofMeaning.someHolds
-    ofMeaning.numberValue ofCosts.atMost ofCosts.join ofCosts.joinMoves ofCosts.combine ofCosts.costsOf ofSteps.target ofSteps.statusOf ofSteps.costOf ofSteps.noWorse ofSteps.noneWorse ofSteps.raise
-    ofSteps.admits ofSteps.status ofSteps.effects ofSteps.stepCost ofSteps.attempt ofSteps.constrained ofSteps.moveOf ofSteps.moveBy ofSteps.move ofSteps.greatest ofSteps.boundHours ofSteps.bound
+    ofMeaning.numberValue ofCosts.atMost ofCosts.join ofCosts.joinMoves ofCosts.combine ofCosts.costsOf ofSteps.target ofSteps.statusOf ofSteps.costOf ofSteps.notBelow ofSteps.noWorse ofSteps.noneWorse ofSteps.raise
+    ofSteps.admits ofSteps.status ofSteps.effects ofSteps.withHigh ofSteps.stepCost ofSteps.attempt ofSteps.constrained ofSteps.moveOf ofSteps.moveBy ofSteps.move ofSteps.greatest ofSteps.boundHours ofSteps.bound
     ofSteps.systemOf ofSteps.originOf ofCheck.final ofCheck.afterMove ofCheck.afterStatus ofCheck.follow ofCheck.afterConstraints ofCheck.followFrom ofCheck.checkModel
-    ofCheck.check ofCheck.answerNumber ofCheck.costGiven ofCheck.answerCost ofProfile.ofOnly ofProfile.isVariableZero ofProfile.objectBeside ofProfile.requiredObject ofProfile.removedBy
+    ofCheck.check ofCheck.answerNumber ofCheck.costGiven ofCheck.answerCost ofCheck.answerLow ofProfile.ofOnly ofProfile.isVariableZero ofProfile.objectBeside ofProfile.requiredObject ofProfile.removedBy
     ofProfile.removedObject ofProfile.sameObject ofProfile.loads ofProfile.beginsWithSet ofProfile.asksForEmpty ofProfile.endsEmpty ofProfile.inProfile ofProfile.loadingLength
     valueRead lengthRead
 opened (numberOf bytes) = valued (valueRead (ofExpressions.number [] [] mostNesting bytes))

@@ -8,19 +8,19 @@ use mathlib.Core.Option.{Option}
 use mathlib.Core.Option as O
 use native.Mathlib.Omega.{arith}
 use lib.ListN.{length, getElem?, set, length-set}
-use lib.Dec.{ltb}
+use lib.Dec.{leb, ltb}
 use lib.IntN.{ℤ, pos, negsuc}
 use lib.Signed.{mag}
-use borrow.Author.Tests.{ltb-true}
+use borrow.Author.Tests.{leb-true, ltb-true}
 use Rattle.laws.proofs.Bools.{by-cond}
-use Rattle.model.specs.Numbers.{divisorZero, negativeCost}
+use Rattle.model.specs.Numbers.{divisorZero, negativeCost, highBelowLow}
 use Rattle.model.specs.Values.{Value, value, trouble, _>>=_, inRange, floorQuotient}
 use Rattle.model.specs.System.{Status, base, unfinished, noStatus, Move, blocked, moved, troubleBefore, troubleAfter}
 use Rattle.model.specs.Syntax.{Number, literal, numberVariable, plus, minus, times, quotient, lesser, greater, entry, size, total, choice, Condition, equal, less, atMost, same, member, isEmpty, subset, negation, both, either, Expression, ofSet, ofElement, ofNumber, Table, Effect, StepCosts, Transition, Model}
 use Rattle.model.specs.declared.Cost.{Cost}
-use Rattle.model.specs.Costs.{CostUpTo, CostBelow}
+use Rattle.model.specs.Costs.{fixed, CostUpTo, CostBelow}
 use Rattle.model.specs.Meaning.{State, two, fit, numberValue, conditionValue, expressionValue, allHold, someHolds}
-use Rattle.model.specs.Steps.{statusOf, costOf, raise, Attempt, notTaken, taken, admits, status, effects, stepCost, attempt, constrained, moveOf, moveBy, move, greatest, boundHours, bound}
+use Rattle.model.specs.Steps.{statusOf, costOf, notBelow, raise, Attempt, notTaken, taken, admits, status, effects, withHigh, stepCost, attempt, constrained, moveOf, moveBy, move, greatest, boundHours, bound}
 
 -- ---- a value with P, or a trouble whose number has Q
 
@@ -29,9 +29,10 @@ module _ {A : Type 0} (P : A → Type 0) (Q : ℕ → Type 0) where
     a-value : {a : A} → P a → Outcome (value a)
     a-trouble : {t : ℕ} → Q t → Outcome (trouble t)
 
--- the numbers of the troubles that a state gives
-abbrev pub StateTrouble : ℕ → Type 0
-StateTrouble t = (11 ≤ t) × (t ≤ 13)
+-- the numbers of the troubles that a state gives: 11 to 13, and 17
+pub data StateTrouble (t : ℕ) : Type 0 where
+  by-value : 11 ≤ t → t ≤ 13 → StateTrouble t
+  by-range : t ≡ highBelowLow → StateTrouble t
 
 abbrev pub Anything : {A : Type 0} → A → Type 0
 Anything a = Unit {0}
@@ -75,11 +76,11 @@ module _ (end : ℕ) where
 
   in-range-outcome : (z : ℤ) → Outcome InRange StateTrouble (inRange end z)
   unfolding inRange
-  in-range-outcome z = by-cond (Outcome InRange StateTrouble) (ltb (mag z) end) (λ e. a-value (ltb-true (mag z) end e)) (λ e. a-trouble (omega arith))
+  in-range-outcome z = by-cond (Outcome InRange StateTrouble) (ltb (mag z) end) (λ e. a-value (ltb-true (mag z) end e)) (λ e. a-trouble (by-value (omega arith) (omega arith)))
 
 quotient-outcome : (a b : ℤ) → Outcome Anything StateTrouble (floorQuotient a b)
 unfolding floorQuotient
-quotient-outcome a (pos zero) = a-trouble {t = divisorZero} (omega arith)
+quotient-outcome a (pos zero) = a-trouble {t = divisorZero} (by-value (omega arith) (omega arith))
 quotient-outcome a (pos (suc m)) = a-value tt
 quotient-outcome a (negsuc m) = a-value tt
 
@@ -145,16 +146,22 @@ pub data StatusOutcome : Status → Type 0 where
   is-unfinished : StatusOutcome unfinished
   no-status : {t : ℕ} → StateTrouble t → StatusOutcome (noStatus t)
 
--- from a state of n values: each part of a step's cost is below the range's end, and the new state has n values
+-- what a step costs: each part is below the range's end, the low figure is at most the high one, and there are no moves
+pub record Priced (end : ℕ) (c : Cost) : Type 0 where
+  pub below : CostBelow end c
+  pub low-first : c .low ≤ c .high
+  pub no-moves : c .moves ≡ 0
+
+-- from a state of n values, the new state has n values
 pub data MoveOutcome (end n : ℕ) : Move State Cost → Type 0 where
   no-move : MoveOutcome end n blocked
-  a-move : {c : Cost} {u : State} → CostBelow end c → length u ≡ n → MoveOutcome end n (moved c u)
+  a-move : {c : Cost} {u : State} → Priced end c → length u ≡ n → MoveOutcome end n (moved c u)
   trouble-before : {t : ℕ} → StateTrouble t → MoveOutcome end n (troubleBefore t)
-  trouble-after : {c : Cost} {t : ℕ} → CostBelow end c → StateTrouble t → MoveOutcome end n (troubleAfter c t)
+  trouble-after : {c : Cost} {t : ℕ} → Priced end c → StateTrouble t → MoveOutcome end n (troubleAfter c t)
 
 data AttemptOutcome (end n : ℕ) : Attempt → Type 0 where
   not-taken : AttemptOutcome end n notTaken
-  is-taken : {c : Cost} {new : State} → CostBelow end c → length new ≡ n → AttemptOutcome end n (taken c new)
+  is-taken : {c : Cost} {new : State} → Priced end c → length new ≡ n → AttemptOutcome end n (taken c new)
 
 status-of-outcome : {x : Value Bool} → Outcome Anything StateTrouble x → StatusOutcome (statusOf x)
 unfolding statusOf
@@ -166,7 +173,12 @@ module _ (end : ℕ) where
   cost-outcome : (z : ℤ) → mag z < end → Outcome (λ c. c < end) StateTrouble (costOf z)
   unfolding costOf
   cost-outcome (pos c) h = a-value h
-  cost-outcome (negsuc c) h = a-trouble {t = negativeCost} (omega arith)
+  cost-outcome (negsuc c) h = a-trouble {t = negativeCost} (by-value (omega arith) (omega arith))
+
+  not-below-outcome : (low : ℕ) (z : ℤ) → mag z < end → Outcome (λ c. (low ≤ c) × (c < end)) StateTrouble (notBelow low z)
+  unfolding notBelow
+  not-below-outcome low (pos c) h = by-cond (Outcome (λ k. (low ≤ k) × (k < end)) StateTrouble) (leb low c) (λ e. a-value (leb-true low c e, h)) (λ e. a-trouble (by-range refl))
+  not-below-outcome low (negsuc c) h = a-trouble (by-range refl)
 
   raise-below : (h : ℕ) (z : ℤ) → h ≤ end - 1 → mag z < end → raise h z ≤ end - 1
   unfolding raise
@@ -187,9 +199,16 @@ module _ (end : ℕ) (m : Model) where
   effects-outcome [] s new e = a-value e
   effects-outcome (f ∷ fs) s new e = then-outcome (expression-outcome end (m .tables) (f .result) s) (λ z _. effects-outcome fs s (set new (f .target) z) (length-set new (f .target) z ∙ e))
 
-  step-cost-outcome : (k : StepCosts) (s : State) → Outcome (CostBelow end) StateTrouble (stepCost end m k s)
+  with-high-outcome : (o : Option Number) (low : ℕ) (s : State) → low < end → Outcome (Priced end) StateTrouble (withHigh end m o low s)
+  unfolding withHigh
+  with-high-outcome O.none low s p = a-value {a = fixed low} (record { below = record { high-below = p; low-below = p; moves-below = omega arith }; low-first = omega arith; no-moves = refl })
+  with-high-outcome (O.some x) low s p =
+      then-outcome (number-outcome end (m .tables) x s) (λ z h. then-outcome (not-below-outcome end low z h)
+      (λ high q. a-value (record { below = record { high-below = q .1; low-below = p; moves-below = omega arith }; low-first = q .0; no-moves = refl })))
+
+  step-cost-outcome : (k : StepCosts) (s : State) → Outcome (Priced end) StateTrouble (stepCost end m k s)
   unfolding stepCost
-  step-cost-outcome k s = then-outcome (number-outcome end (m .tables) (k .cost) s) (λ z h. then-outcome (cost-outcome end z h) (λ c p. a-value (record { high-below = p; low-below = p; moves-below = omega arith })))
+  step-cost-outcome k s = then-outcome (number-outcome end (m .tables) (k .cost) s) (λ z h. then-outcome (cost-outcome end z h) (λ low p. with-high-outcome (k .high) low s p))
 
   attempt-outcome : (t : Transition) (s : State) → Outcome (AttemptOutcome end (length s)) StateTrouble (attempt end m t s)
   unfolding attempt
@@ -197,7 +216,7 @@ module _ (end : ℕ) (m : Model) where
       (then-outcome (step-cost-outcome (t .costs) s) (λ c k. then-outcome (effects-outcome (t .effects) s s refl) (λ new e. a-value (is-taken k e))))
       (a-value not-taken))
 
-  constrained-outcome : (c : Cost) (new : State) {n : ℕ} {x : Value Bool} → CostBelow end c → length new ≡ n → Outcome Anything StateTrouble x → MoveOutcome end n (constrained end m c new x)
+  constrained-outcome : (c : Cost) (new : State) {n : ℕ} {x : Value Bool} → Priced end c → length new ≡ n → Outcome Anything StateTrouble x → MoveOutcome end n (constrained end m c new x)
   unfolding constrained
   constrained-outcome c new h e (a-value {a = true} p) = a-move h e
   constrained-outcome c new h e (a-value {a = false} p) = no-move

@@ -17,17 +17,17 @@ use Rattle.model.specs.declared.Cost.{Cost}
 use Rattle.model.specs.Steps.{systemOf, originOf, boundHours}
 use Rattle.model.proofs.Reach.{Reach, here, onward}
 use Rattle.model.proofs.Costs.{combine-up-to}
-use Rattle.model.proofs.Outcomes.{outcome-value, number-outcome, MoveOutcome, a-move, trouble-after, move-outcome, bound-hours-outcome, bound-outcome}
+use Rattle.model.proofs.Outcomes.{outcome-value, number-outcome, Priced, MoveOutcome, a-move, trouble-after, move-outcome, bound-hours-outcome, bound-outcome}
 
 -- every value of a number expression is in range
 pub number-in-range : (end : ℕ) (tables : List Table) (x : Number) (s : State) {z : ℤ} → numberValue end tables x s ≡ value z → mag z < end
 number-in-range end tables x s e = outcome-value (number-outcome end tables x s) e
 
-moved-below : {end n : ℕ} {c : Cost} {u : State} → MoveOutcome end n (moved c u) → CostBelow end c
-moved-below (a-move h e) = h
+moved-priced : {end n : ℕ} {c : Cost} {u : State} → MoveOutcome end n (moved c u) → Priced end c
+moved-priced (a-move h e) = h
 
-after-below : {end n t : ℕ} {c : Cost} → MoveOutcome end n (troubleAfter c t) → CostBelow end c
-after-below (trouble-after h q) = h
+after-priced : {end n t : ℕ} {c : Cost} → MoveOutcome end n (troubleAfter c t) → Priced end c
+after-priced (trouble-after h q) = h
 
 -- bounds of costs, part by part
 pub up-to-less : {n k : ℕ} {c : Cost} → CostUpTo n c → n ≤ k → CostUpTo k c
@@ -40,14 +40,20 @@ pub below-up-to : {end : ℕ} {c : Cost} → CostBelow end c → CostUpTo (end -
 below-up-to p = record { high-within = omega (arith, p .high-below); low-within = omega (arith, p .low-below); moves-within = omega (arith, p .moves-below) }
 
 module _ (end : ℕ) (m : Model) where
-  pub step-cost-below : (s : State) (t : ℕ) {c : Cost} {u : State} → systemOf end m .move s t ≡ moved c u → CostBelow end c
+  pub step-priced : (s : State) (t : ℕ) {c : Cost} {u : State} → systemOf end m .move s t ≡ moved c u → Priced end c
   unfolding systemOf
-  step-cost-below s t e = moved-below (subst (MoveOutcome end (length s)) e (move-outcome end m s t))
+  step-priced s t e = moved-priced (subst (MoveOutcome end (length s)) e (move-outcome end m s t))
 
   -- the step's cost where the new state's constraints give trouble
-  pub trouble-cost-below : (s : State) (t : ℕ) {c : Cost} {n : ℕ} → systemOf end m .move s t ≡ troubleAfter c n → CostBelow end c
+  pub trouble-priced : (s : State) (t : ℕ) {c : Cost} {n : ℕ} → systemOf end m .move s t ≡ troubleAfter c n → Priced end c
   unfolding systemOf
-  trouble-cost-below s t e = after-below (subst (MoveOutcome end (length s)) e (move-outcome end m s t))
+  trouble-priced s t e = after-priced (subst (MoveOutcome end (length s)) e (move-outcome end m s t))
+
+  pub step-cost-below : (s : State) (t : ℕ) {c : Cost} {u : State} → systemOf end m .move s t ≡ moved c u → CostBelow end c
+  step-cost-below s t e = step-priced s t e .below
+
+  pub trouble-cost-below : (s : State) (t : ℕ) {c : Cost} {n : ℕ} → systemOf end m .move s t ≡ troubleAfter c n → CostBelow end c
+  trouble-cost-below s t e = trouble-priced s t e .below
 
   bound-at-most : (s : State) {h : Cost} → systemOf end m .bound s ≡ value h → CostUpTo (end - 1) h
   unfolding systemOf

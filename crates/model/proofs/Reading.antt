@@ -14,7 +14,7 @@ use Rattle.model.specs.Readers.{read, refused, Reader, after, continue, 
 use Rattle.model.specs.Syntax.{Element, Set, Kind, aSet, anElement, aNumber, Variable, Table, Effect, Model}
 use Rattle.model.specs.Expressions.{Form, _⇒_, beginsExpression, formOf, noDepth, objectsAndMembers, objectNumber, declared, elementAndSet, twoSets, variable, tableNumber, inTable, element, set, number, condition}
 use Rattle.model.specs.Commands.{costRule, setVariable, elementVariable, numberVariable, variableOf, variables, entries, sides, tableOf, tables, conditions, effectTarget, expressionFor, effectOn, costs, transition, nothingMore, model}
-use Rattle.model.proofs.Fair.{ReadingRefusal, ReadBy, reads, refuses, Fair, Full, cond-fair, give-fair, refuse-fair, then-fair, next-fair, require-fair, require-give-fair, byte-fair, word-fair, one-fair, two-fair, three-fair, integer-fair, command-fair, many-fair, up-to-fair, then-full, next-full, used-by, refused-by}
+use Rattle.model.proofs.Fair.{ReadingRefusal, ReadBy, reads, refuses, Fair, Full, cond-fair, give-fair, refuse-fair, then-fair, next-fair, require-fair, require-give-fair, byte-fair, word-fair, one-fair, two-fair, three-fair, integer-fair, command-fair, optional-fair, many-fair, up-to-fair, then-full, next-full, used-by, refused-by}
 
 -- ---- expressions
 
@@ -176,7 +176,7 @@ module _ (vs : List Variable) (ts : List Table) where
 
   pub costs-fair : Fair (costs vs ts)
   unfolding costs
-  costs-fair = next-fair (command-fair 0x09) (then-fair (number-fair vs ts mostNesting) (λ c. give-fair _))
+  costs-fair = next-fair (command-fair 0x09) (then-fair (number-fair vs ts mostNesting) (λ c. then-fair (optional-fair 0x10 (number-fair vs ts mostNesting)) (λ h. give-fair _)))
 
   pub transition-fair : Fair (transition vs ts)
   unfolding transition

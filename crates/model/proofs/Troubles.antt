@@ -1,5 +1,5 @@
--- The numbers of troubles: evaluation, constraints, status, moves and h give 11 to 13, following a plan gives 14 besides.
--- So the plan check refuses by 1, 2, 4 to 9 and 11 to 14 only.
+-- The numbers of troubles: evaluation, constraints, status and h give 11 to 13, moves 17 besides, following a plan 14 as well.
+-- So the plan check refuses by 1, 2, 4 to 9, 11 to 14 and 17 only.
 use Prim.Native.Nat.{ℕ, _≤_, _<_}
 use mathlib.Core.Path.{_≡_, refl, subst}
 use mathlib.Core.Bool.{Bool, true, false}
@@ -18,7 +18,7 @@ use Rattle.model.specs.Costs.{free, costsOf}
 use Rattle.model.specs.declared.Cost.{Cost}
 use Rattle.model.specs.Steps.{target, systemOf}
 use Rattle.model.specs.Check.{final, afterMove, afterStatus, follow, afterConstraints, followFrom, checkModel, check}
-use Rattle.model.proofs.Outcomes.{Outcome, a-value, a-trouble, StateTrouble, Anything, outcome-trouble, trouble-outcome, number-outcome, condition-outcome, StatusOutcome, is-base, is-unfinished, no-status, status-outcome, admits-outcome, MoveOutcome, no-move, a-move, trouble-before, trouble-after, move-outcome, bound-outcome}
+use Rattle.model.proofs.Outcomes.{Outcome, a-value, a-trouble, StateTrouble, by-value, by-range, Anything, outcome-trouble, trouble-outcome, number-outcome, condition-outcome, StatusOutcome, is-base, is-unfinished, no-status, status-outcome, admits-outcome, MoveOutcome, no-move, a-move, trouble-before, trouble-after, move-outcome, bound-outcome}
 use Rattle.model.proofs.Fair.{ReadBy, reads, refuses}
 use Rattle.model.proofs.Reading.{model-full}
 
@@ -66,17 +66,18 @@ module _ (end : ℕ) (m : Model) where
 -- ---- following a plan
 
 -- the state's troubles and "not a plan"
-abbrev pub PlanTrouble : ℕ → Type 0
-PlanTrouble t = (11 ≤ t) × (t ≤ 14)
+pub data PlanTrouble (t : ℕ) : Type 0 where
+  no-plan : t ≡ notAPlan → PlanTrouble t
+  of-state : StateTrouble t → PlanTrouble t
 
 abbrev PlanOutcome : Value Cost → Type 0
 PlanOutcome = Outcome Anything PlanTrouble
 
 not-a-plan : PlanOutcome (trouble notAPlan)
-not-a-plan = a-trouble {t = notAPlan} (omega arith)
+not-a-plan = a-trouble {t = notAPlan} (no-plan refl)
 
 by-state : {t : ℕ} → StateTrouble t → PlanOutcome (trouble t)
-by-state q = a-trouble (q .0, omega arith)
+by-state q = a-trouble (of-state q)
 
 module _ (end : ℕ) (K : Costs Cost) (m : Model) where
   final-outcome : {x : Status} (g : Cost) → StatusOutcome x → PlanOutcome (final K (systemOf end m) x g)
@@ -120,7 +121,7 @@ pub data CheckRefusal (t : ℕ) : Type 0 where
   model-too-long : t ≡ modelTooLong → CheckRefusal t
   plan-too-long : t ≡ badSetting → CheckRefusal t
   by-reading : (4 ≤ t) × (t ≤ 9) → CheckRefusal t
-  by-following : (11 ≤ t) × (t ≤ 14) → CheckRefusal t
+  by-following : PlanTrouble t → CheckRefusal t
 
 check-model-outcome : {bytes : List ℕ} {x : Read Model} (plan : List ℕ) → ReadBy _≡_ bytes x → Outcome Anything CheckRefusal (checkModel x plan)
 unfolding checkModel
@@ -139,4 +140,6 @@ pub check-refusal-positive : {t : ℕ} → CheckRefusal t → 0 < t
 check-refusal-positive (model-too-long e) = omega arith
 check-refusal-positive (plan-too-long e) = omega arith
 check-refusal-positive (by-reading h) = omega arith
-check-refusal-positive (by-following h) = omega arith
+check-refusal-positive (by-following (no-plan e)) = omega arith
+check-refusal-positive (by-following (of-state (by-value h k))) = omega arith
+check-refusal-positive (by-following (of-state (by-range e))) = omega arith

@@ -59,7 +59,8 @@ checkModel (refused t) plan = trouble t
 unfoldable pub check : (bytes plan : List ℕ) → Value Cost
 check bytes plan = cond (ltb mostModelBytes (length bytes)) (trouble modelTooLong) (cond (ltb mostSteps (length plan)) (trouble badSetting) (checkModel (model bytes) plan))
 
--- the answer number; the cost, nothing at a refusal; and of that the hours
+-- the answer number; the cost, nothing at a refusal; and of that the high and the low figure: "The plan check gives both sums, or both
+-- largest values: its cost call the high one, a third call the low one"
 unfoldable pub answerNumber : Value Cost → ℕ
 answerNumber (value c) = 0
 answerNumber (trouble t) = t
@@ -70,6 +71,9 @@ costGiven (trouble t) = free
 
 unfoldable pub answerCost : Value Cost → ℕ
 answerCost x = costGiven x .high
+
+unfoldable pub answerLow : Value Cost → ℕ
+answerLow x = costGiven x .low
 
 -- the bytes are a model, and the plan, of at most 256 steps, is one of its plans from the target, which meets all constraints, at cost c
 pub record CheckedPlan (bytes plan : List ℕ) (c : Cost) : Type 0 where

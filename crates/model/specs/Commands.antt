@@ -8,7 +8,7 @@ use lib.Dec.{leb, ltb, eqb}
 use lib.IntN.{ℤ, pos}
 use Rattle.laws.specs.Lists.{any}
 use Rattle.model.specs.Numbers.{mismatch, offLimits, bytesAfterEnd, mostVariables, mostTables, mostTransitions, mostBaseCases, mostConstraints, mostBounds, mostConditions, mostNesting}
-use Rattle.model.specs.Readers.{read, refused, Reader, _>>=_, _>>_, give, require, word, integer, one, command, many, upTo}
+use Rattle.model.specs.Readers.{read, refused, Reader, _>>=_, _>>_, give, require, word, integer, one, command, optional, many, upTo}
 use Rattle.model.specs.Syntax.{Condition, elementCount, setCount, Expression, ofSet, ofElement, ofNumber, Kind, aSet, anElement, aNumber, Preference, none, less, more, Rule, sum, largest, Variable, Table, Effect, StepCosts, Transition, Model}
 use Rattle.model.specs.Expressions.{among, isCount, objectsAndMembers, declared, element, set, number, condition}
 
@@ -79,7 +79,7 @@ tableOf p = one (entries (p .0 * p .1)) (λ l. record { rows = p .0; columns = p
 unfoldable pub tables : Reader (List Table)
 tables = many (λ b. eqb b 0x05) (λ b done. sides) tableOf mostTables []
 
--- ---- 07 transition, 08 condition, 09 cost, 0A effect
+-- ---- 07 transition, 08 condition, 09 cost, 10 high cost, 0A effect
 
 module _ (vs : List Variable) (ts : List Table) where
   unfoldable pub conditions : Reader (List Condition)
@@ -108,11 +108,13 @@ module _ (vs : List Variable) (ts : List Table) where
   unfoldable pub effectOn : ℕ × Variable → Reader Effect
   effectOn p = one (expressionFor (p .1 .kind) (p .1 .objects)) (λ x. record { target = p .0; result = x })
 
+  -- 09, "one in each transition"; "Directly after command 09 a transition may carry command 10"
   unfoldable pub costs : Reader StepCosts
   costs = do
     command 0x09
     c ← number vs ts mostNesting
-    give (record { cost = c })
+    h ← optional 0x10 (number vs ts mostNesting)
+    give (record { cost = c; high = h })
 
   -- effects have no size of their own: one per variable is at most as many as there are variables
   unfoldable pub transition : Reader Transition

@@ -11,5 +11,6 @@ pub mod Commands
 pub mod Meaning
 pub mod Costs
 pub mod Steps
+pub mod Real
 pub mod Check
 pub mod Profile

@@ -58,6 +58,10 @@ negativeCost = 13
 abbrev pub notAPlan : ℕ
 notAPlan = 14
 
+-- document 02, §5
+abbrev pub highBelowLow : ℕ
+highBelowLow = 17
+
 -- ---- sizes
 
 abbrev pub mostModelBytes : ℕ

@@ -3,6 +3,7 @@
 use Prim.Native.Nat.{ℕ, zero, suc, _+_, _*_, _^_}
 use mathlib.Core.Bool.{Bool, true, false, cond}
 use mathlib.Core.List.{List, [], _∷_, reverse}
+use mathlib.Core.Option.{Option, none, some}
 use lib.ListN.{drop}
 use lib.Dec.{ltb, eqb}
 use lib.IntN.{ℤ, pos, _-ℤ_}
@@ -99,6 +100,12 @@ unfoldable pub command : ℕ → Reader (Unit {0})
 command c = do
   b ← byte
   require (eqb b c) notDue
+
+-- a command that may stand here, once; its byte decides
+unfoldable pub optional : {A : Type 0} → (c : ℕ) → Reader A → Reader (Option A)
+optional c r = do
+  b ← peek
+  cond (eqb b c) (byte >> one r some) (give none)
 
 -- commands whose byte passes `due`, up to `room` of them: each is its head, the fixed operands, then its body.
 -- One more is refused once its head is read. `done` are those read before, the last one first

@@ -6,10 +6,11 @@ use mathlib.Core.List.{List, [], _∷_, map}
 use mathlib.Core.Option.{Option}
 use mathlib.Core.Option as O
 use lib.ListN.{length, getElem?, set}
+use lib.Dec.{leb}
 use lib.IntN.{ℤ, pos, negsuc}
 use lib.Signed.{leZ}
 use Rattle.laws.specs.Lists.{any, isEmpty}
-use Rattle.model.specs.Numbers.{negativeCost}
+use Rattle.model.specs.Numbers.{negativeCost, highBelowLow}
 use Rattle.model.specs.Values.{Value, value, trouble, _>>=_}
 use Rattle.model.specs.System.{System, Origin, Status, base, unfinished, noStatus, Move, blocked, moved, troubleBefore, troubleAfter}
 use Rattle.model.specs.Syntax.{Number, Preference, none, less, more, Variable, Effect, StepCosts, Transition, Model}
@@ -28,6 +29,11 @@ statusOf (trouble t) = noStatus t
 unfoldable pub costOf : ℤ → Value ℕ
 costOf (pos c) = value c
 costOf (negsuc c) = trouble negativeCost
+
+-- "A step whose high cost … is below its low cost is not allowed"
+unfoldable pub notBelow : (low : ℕ) → ℤ → Value ℕ
+notBelow low (pos c) = cond (leb low c) (value c) (trouble highBelowLow)
+notBelow low (negsuc c) = trouble highBelowLow
 
 -- "no worse by preference on every preferred variable and equal on the rest"
 unfoldable pub noWorse : Preference → (t s : ℤ) → Bool
@@ -79,12 +85,20 @@ module _ (end : ℕ) (m : Model) where
     z ← expressionValue end (m .tables) (f .result) s
     effects fs s (set new (f .target) z)
 
-  -- the same hours at high and at low figures; a negative number is trouble
+  -- the cost with both figures: "without it the high cost is the same as the low"
+  unfoldable pub withHigh : Option Number → (low : ℕ) → State → Value Cost
+  withHigh O.none low s = value (fixed low)
+  withHigh (O.some x) low s = do
+    z ← numberValue end (m .tables) x s
+    high ← notBelow low z
+    value (record { high = high; low = low; moves = 0 })
+
+  -- "The high cost is evaluated after the low cost has passed 13"
   unfoldable pub stepCost : StepCosts → State → Value Cost
   stepCost k s = do
     z ← numberValue end (m .tables) (k .cost) s
-    c ← costOf z
-    value (fixed c)
+    low ← costOf z
+    withHigh (k .high) low s
 
   unfoldable pub attempt : Transition → State → Value Attempt
   attempt t s = do

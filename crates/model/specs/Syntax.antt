@@ -2,6 +2,7 @@
 -- docs/FORMAT.md, "Commands" and "Expressions".
 use Prim.Native.Nat.{ℕ, suc}
 use mathlib.Core.List.{List, []}
+use mathlib.Core.Option.{Option}
 use lib.ListN.{getD}
 use lib.IntN.{ℤ}
 
@@ -89,9 +90,10 @@ pub record Effect : Type 0 where
   pub target : ℕ
   pub result : Expression
 
--- what a step costs
+-- what a step costs: 09, a number; and 10, "a number, the high cost", where it is written
 pub record StepCosts : Type 0 where
   pub cost : Number
+  pub high : Option Number
 
 pub record Transition : Type 0 where
   pub conditions : List Condition

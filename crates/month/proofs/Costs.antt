@@ -21,7 +21,7 @@ use Rattle.model.proofs.Costs.{combine-up-to}
 use Rattle.model.proofs.Ranges.{up-to-less, below-up-to, step-cost-below}
 use Rattle.search.specs.Answer.{Verdict, cheapest, noPlan, widthStop, lengthStop, budgetSpent, contradicted, Outcome, verdict, byState, byInput, verdictNumber, outcomeNumber, isRefusal, Answer}
 use Rattle.search.specs.Demands.{Demands}
-use Rattle.search.specs.Run.{plain, Settings, Lent, refusedByInput, run, inHours}
+use Rattle.search.specs.Run.{plain, Settings, Lent, refusedByInput, run, shown}
 use Rattle.search.proofs.Source.{Source, input-refused, searched, run-source}
 use Rattle.search.proofs.Mission.{run-meets-demands}
 use Rattle.search_report.specs.Answers.{FieldsAre}
@@ -38,14 +38,14 @@ plan-cost-below end m (step {s} {u} {t} {ts} {c} {r} x rest) =
     up-to-less (combine-up-to (m .rule) (below-up-to (step-cost-below end m s t (x .allowed))) (plan-cost-below end m rest)) (omega (arith, suc-mul (length ts) (end - 1)))
 
 -- with a length limit that is given
-source-cost-within : {bytes : List ℕ} {q : Settings} {l : Lent} {a : Answer Cost} (limit : ℕ) → q .form ≡ plain limit → Source bytes q l a → Demands bytes q (inHours a) → a .flag ≡ true → a .cost .high ≤ limit * (rangeEnd - 1)
-unfolding refusedByInput inHours
+source-cost-within : {bytes : List ℕ} {q : Settings} {l : Lent} {a : Answer Cost} (limit : ℕ) → q .form ≡ plain limit → Source bytes q l a → Demands bytes q (shown a) → a .flag ≡ true → a .cost .high ≤ limit * (rangeEnd - 1)
+unfolding refusedByInput shown
 source-cost-within limit f (input-refused t r) D e = absurd (false≢true e)
 source-cost-within {a = a} limit f (searched m x) D e =
     let given = D .marked m (x .used) (x .reads) .plan-given e in
-    let below = plan-cost-below rangeEnd m (given .plan .plan) in
+    let below = plan-cost-below rangeEnd m (given .plan) in
     let steps : length (a .steps) * (rangeEnd - 1) ≤ limit * (rangeEnd - 1) = mul-le-mul (D .within-given limit f) (omega arith) in
-    omega (arith, below .high-within, given .in-hours)
+    omega (arith, below .high-within)
 
 -- "a run's cost": of every run with a plan, whatever its verdict
 pub run-cost-within : (most : ℕ) (bytes : List ℕ) (q : Settings) (l : Lent) (limit : ℕ) → q .form ≡ plain limit → run most bytes q l .flag ≡ true → run most bytes q l .cost .high ≤ limit * (rangeEnd - 1)
@@ -68,13 +68,12 @@ number-zero budgetSpent e = absurd (omega arith)
 number-zero contradicted e = absurd (omega arith)
 
 -- an answer marked cheapest has a plan
-source-cheapest-within : {bytes : List ℕ} {q : Settings} {l : Lent} {a : Answer Cost} (limit : ℕ) → q .form ≡ plain limit → Source bytes q l a → Demands bytes q (inHours a) → a .outcome ≡ verdict cheapest → a .cost .high ≤ limit * (rangeEnd - 1)
-unfolding refusedByInput inHours
+source-cheapest-within : {bytes : List ℕ} {q : Settings} {l : Lent} {a : Answer Cost} (limit : ℕ) → q .form ≡ plain limit → Source bytes q l a → Demands bytes q (shown a) → a .outcome ≡ verdict cheapest → a .cost .high ≤ limit * (rangeEnd - 1)
+unfolding refusedByInput shown
 source-cheapest-within limit f (input-refused t r) D e = let z : _≡_ {A = ℕ} 0 1 = cc in absurd (omega arith)
 source-cheapest-within limit f (searched m x) D e = source-cost-within limit f (searched m x) D (D .marked m (x .used) (x .reads) .cheapest-given e)
 
-pub cheapest-within : (bytes : List ℕ) → answerTo bytes .outcome ≡ verdict cheapest → answerTo bytes .cost ≤ mostCost
-unfolding inHours
+pub cheapest-within : (bytes : List ℕ) → answerTo bytes .outcome ≡ verdict cheapest → answerTo bytes .cost .high ≤ mostCost
 cheapest-within bytes e = source-cheapest-within 64 refl (run-source bytes _ _ 16384) (run-meets-demands 16384 bytes _ _) e
 
 -- in the list of answers, and in the numbers

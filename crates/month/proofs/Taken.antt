@@ -8,7 +8,7 @@ use lib.ListN.{length, length-append, length-map}
 use lib.Dec.{ltb}
 use borrow.Author.Tests.{ltb-true, ltb-false}
 use Rattle.laws.specs.Lists.{All, any, isEmpty}
-use Rattle.search.specs.Run.{run, inHours}
+use Rattle.search.specs.Run.{run}
 use Rattle.solver.specs.Searches.{settings, lentOf}
 use Rattle.search_report.specs.Answers.{FieldsAre, numbersOf}
 use Rattle.search_report.specs.declared.answers.Answer.{Answer}
@@ -52,8 +52,8 @@ line-goes-on l S =
 pub planned-numbers : (bytes plan plan′ : List ℕ) (a : Answer) {x : Fields} → Planned bytes plan plan′ a → length plan ≡ 64 → x ≡ numbersOf a → FieldsAre (answerTo bytes) x
 planned-numbers bytes plan plan′ a P room e =
     rw e
-    (subst (λ (n : ℕ). FieldsAre (inHours (run 16384 bytes (settings 16 64 100000) (lentOf n 2064))) (numbersOf a)) room
-    (subst (λ (n : ℕ). FieldsAre (inHours (run 16384 bytes (settings 16 64 100000) (lentOf (length plan) n))) (numbersOf a)) (P .lent) (P .searched .fields)))
+    (subst (λ (n : ℕ). FieldsAre (run 16384 bytes (settings 16 64 100000) (lentOf n 2064)) (numbersOf a)) room
+    (subst (λ (n : ℕ). FieldsAre (run 16384 bytes (settings 16 64 100000) (lentOf (length plan) n)) (numbersOf a)) (P .lent) (P .searched .fields)))
 
 module _ (name : List ℕ) (line : Line) (x : Fields) where
   pub line-usable : Usable line true → FileSays x → LineAnswer name line x

@@ -3,17 +3,18 @@ use Prim.Native.Nat.{ℕ}
 use mathlib.Core.Path.{_≡_}
 use mathlib.Core.Bool.{false}
 use mathlib.Core.List.{List, [], _∷_, _++_}
+use Rattle.model.specs.declared.Cost.{Cost}
 use Rattle.search.specs.Answer.{Answer}
-use Rattle.search.specs.Run.{run, inHours}
+use Rattle.search.specs.Run.{run}
 use Rattle.solver.specs.Searches.{settings, lentOf}
 use Rattle.month_names.specs.Names.{Name, named, unusable, namesOf}
 use Rattle.month_figures.specs.Closing.{Taken, answered, unread}
 use Rattle.month_figures.specs.Kept.{figuresOf}
 use Rattle.month.specs.declared.Month.{Month}
 
--- "with the settings of the one-model program"; 64 plan bytes and 2,064 words are its own. Costs are hours
-abbrev pub answerTo : (bytes : List ℕ) → Answer ℕ
-answerTo bytes = inHours (run 16384 bytes (settings 16 64 100000) (lentOf 64 2064))
+-- "with the settings of the one-model program"; 64 plan bytes and 2,064 words are its own
+abbrev pub answerTo : (bytes : List ℕ) → Answer Cost
+answerTo bytes = run 16384 bytes (settings 16 64 100000) (lentOf 64 2064)
 
 -- what a name comes to. No contract says what a file holds: the bytes are those that came
 pub data AnswerFor : Name → Taken → Type 0 where

@@ -3,11 +3,12 @@ use Prim.Native.Nat.{ℕ}
 use mathlib.Core.Path.{_≡_, refl}
 use mathlib.Core.Bool.{Bool, true, false}
 use mathlib.Core.List.{List, [], _∷_}
+use Rattle.model.specs.Costs.{hours, fixed}
 use Rattle.search.specs.Answer.{cheapest, noPlan, widthStop, lengthStop, budgetSpent, contradicted, Outcome, verdict, byState, byInput, verdictNumber, isRefusal}
 use Rattle.month_figures.specs.Closing.{Taken, answered, unread, isVerdict, gives, isRefused, costOf, boundOf, hasPlan, isOpen, countIn, refusedIn, cheapestIn, gapIn, gather, wholeOf, remainderOf, closing}
 
 abbrev pub one : Outcome → (plan : Bool) (cost bound : ℕ) → Taken
-one o plan cost bound = answered (record { outcome = o; flag = plan; cost = cost; bound = bound; steps = []; tally = record { expansions = 0; rounds = 1; width = 1 } })
+one o plan cost bound = answered (record { outcome = o; flag = plan; cost = fixed cost; bound = hours bound; steps = []; tally = record { expansions = 0; rounds = 1; width = 1 } })
 
 abbrev pub p1 : Taken
 p1 = one (verdict cheapest) true 7 7

@@ -5,6 +5,7 @@ use mathlib.Core.Bool.{Bool, true, false, cond, _&&_, _||_}
 use native.Mathlib.Omega.{arith}
 use lib.Dec.{eqb}
 use borrow.Author.Tests.{eq-eqb, ne-eqb}
+use Rattle.model.specs.declared.Cost.{Cost}
 use Rattle.search.specs.Answer.{Outcome, verdict, byState, byInput, outcomeNumber, isRefusal, Answer}
 use Rattle.search_report.specs.Answers.{FieldsAre}
 use Rattle.search_report.specs.declared.answers.Fields.{Fields}
@@ -14,7 +15,7 @@ use Rattle.month_figures.specs.Kept.{TakenIs, Tells}
 -- refused, with no verdict; or a verdict, whose number stands in the numbers
 pub data Seen (x : Fields) : Taken → Type 0 where
   refusal : {d : Taken} → x .refused ≡ 1 → isRefused d ≡ true → ((v : ℕ) → gives v d ≡ false) → Seen x d
-  a-verdict : {a : Answer ℕ} → x .refused ≡ 0 → isRefusal (a .outcome) ≡ false → ((v : ℕ) → isVerdict v (a .outcome) ≡ eqb (x .verdict) v) → FieldsAre a x → Seen x (answered a)
+  a-verdict : {a : Answer Cost} → x .refused ≡ 0 → isRefusal (a .outcome) ≡ false → ((v : ℕ) → isVerdict v (a .outcome) ≡ eqb (x .verdict) v) → FieldsAre a x → Seen x (answered a)
 
 pub seen : (x : Fields) (d : Taken) → TakenIs d x → Seen x d
 unfolding gives isRefused isVerdict isRefusal outcomeNumber

@@ -5,11 +5,12 @@ use mathlib.Core.Bool.{Bool, true, false, cond, _&&_, _||_}
 use mathlib.Core.List.{List, [], _∷_}
 use lib.ListN.{length}
 use lib.Dec.{eqb}
+use Rattle.model.specs.declared.Cost.{Cost}
 use Rattle.search.specs.Answer.{Outcome, verdict, byState, byInput, verdictNumber, isRefusal, Answer}
 
 -- what a name comes to: the answer to the model in its file; or no file is read by it, "refused 0"
 pub data Taken : Type 0 where
-  answered : Answer ℕ → Taken
+  answered : Answer Cost → Taken
   unread : Taken
 
 -- ---- of one answer
@@ -29,12 +30,13 @@ unfoldable pub isRefused : Taken → Bool
 isRefused (answered a) = isRefusal (a .outcome)
 isRefused unread = true
 
+-- cost and bound in hours, at high figures
 unfoldable pub costOf : Taken → ℕ
-costOf (answered a) = a .cost
+costOf (answered a) = a .cost .high
 costOf unread = 0
 
 unfoldable pub boundOf : Taken → ℕ
-boundOf (answered a) = a .bound
+boundOf (answered a) = a .bound .high
 boundOf unread = 0
 
 unfoldable pub hasPlan : Taken → Bool

@@ -10,7 +10,7 @@ use Rattle.month_figures.specs.declared.Share.{Share}
 
 -- no file: a refusal with the number 0, all fields 0
 abbrev pub unreadFields : Fields
-unreadFields = record { refused = 1; verdict = 0; flag = 0; cost = 0; bound = 0; length = 0; expansions = 0; rounds = 0; width = 0 }
+unreadFields = record { refused = 1; verdict = 0; flag = 0; cost = 0; bound = 0; length = 0; expansions = 0; rounds = 0; width = 0; low = 0 }
 
 -- these numbers are those of the answer
 abbrev pub TakenIs : Taken → Fields → Type 0

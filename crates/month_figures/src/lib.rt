@@ -67,6 +67,7 @@ pub fn unread() -> Fields
         expansions: 0,
         rounds: 0,
         width: 0,
+        low: 0,
     }
 }
 

@@ -1,4 +1,4 @@
--- Conditions one behind the other, each passed over by its first bytes.
+-- Conditions one behind the other, each passed over by its first bytes; and the costs behind them.
 use Prim.Native.Nat.{ℕ, _+_, _-_, _≤_}
 use mathlib.Core.Path.{_≡_, refl, sym, ap, _∙_}
 use mathlib.Core.Bool.{Bool, true, false, not}
@@ -10,14 +10,15 @@ use borrow.Author.Tests.{eq-eqb, ne-eqb}
 use Rattle.laws.specs.Lists.{any}
 use Rattle.model.specs.Numbers.{mostNesting}
 use Rattle.model.specs.Readers.{read}
-use Rattle.model.specs.Syntax.{Condition, Variable, Table}
+use Rattle.model.specs.Syntax.{Condition, StepCosts, Variable, Table}
+use Rattle.model.specs.Expressions.{number}
 use Rattle.model.specs.Commands.{conditions}
 use Rattle.model.specs.Profile.{ofOnly, requiredObject, asksForEmpty}
 use Rattle.outline.specs.Outline.{modelOf}
 use Rattle.eval_sets.specs.Forms.{span}
 use Rattle.eval_sets.proofs.Reading.{of-read}
 use Rattle.eval_sets.proofs.Spans.{span-within, number-ends, condition-ends, ends-span}
-use Rattle.steps.proofs.Readings.{Listed, stop, item, ConditionAt, conditions-listed, costs-at, first-of, none-of}
+use Rattle.steps.proofs.Readings.{Listed, stop, item, ConditionAt, conditions-listed, CostsAt, costs-at, first-of, none-of}
 use Rattle.profile.specs.Forms.{told, objectIn, emptyIn}
 use Rattle.profile.specs.Says.{BehindConditions, BehindCosts, RequiresSays, OnlyEmptySays}
 use Rattle.profile.proofs.Trees.{ConditionIn, condition-in}
@@ -43,10 +44,27 @@ module _ (bytes : List ℕ) where
   condition-form : {at next : ℕ} {x : Condition} → PartAt at x next → ConditionIn variablesIn tablesIn (drop at bytes) x
   condition-form {at} p = of-read (p .reads) (condition-in variablesIn tablesIn mostNesting (drop at bytes))
 
-  pub costs-end : (at : ℕ) → BehindCosts bytes at (at + 1 + span (drop (at + 1) bytes) 0 1)
-  costs-end at k n h =
-      let p = costs-at variablesIn tablesIn bytes at k n h in
-      omega (arith, p .ends, ends-span (drop (at + 1) bytes) (p .used) (of-read (p .reads) (number-ends variablesIn tablesIn mostNesting (drop (at + 1) bytes))))
+  -- where the costs that are read end: behind the number of 09, or that of 10
+  module _ (at : ℕ) where
+    abbrev pub behindLow : ℕ
+    behindLow = at + 1 + span (drop (at + 1) bytes) 0 1
+
+    low-end : {k : StepCosts} {next : ℕ} (p : CostsAt variablesIn tablesIn bytes at k next) → at + 1 + p .used ≡ behindLow
+    low-end p = omega (arith, ends-span (drop (at + 1) bytes) (p .used) (of-read (p .reads) (number-ends variablesIn tablesIn mostNesting (drop (at + 1) bytes))))
+
+    pub costs-end : (getD bytes behindLow 0 ≡ 0x10 → ⊥) → BehindCosts bytes at behindLow
+    costs-end other k n h =
+        let p = costs-at variablesIn tablesIn bytes at k n h in
+        let a = p .high .absent (rw (low-end p) other) in
+        omega (arith, a .1, low-end p)
+
+    pub costs-end-high : getD bytes behindLow 0 ≡ 0x10 → BehindCosts bytes at (behindLow + 1 + span (drop (behindLow + 1) bytes) 0 1)
+    costs-end-high there k n h =
+        let p = costs-at variablesIn tablesIn bytes at k n h in
+        let stands = low-end p in
+        let w = p .high .written (rw stands there) in
+        let reads : number variablesIn tablesIn mostNesting (drop (behindLow + 1) bytes) ≡ read (w .item) (w .used) = rw stands at (w .reads) in
+        omega (arith, w .ends, stands, ends-span (drop (behindLow + 1) bytes) (w .used) (of-read reads (number-ends variablesIn tablesIn mostNesting (drop (behindLow + 1) bytes))))
 
   -- the conditions from `at` on, those before `next` passed: v is the same of those that are left
   module _ {A : Type 0} (v : List Condition → A) where

@@ -28,12 +28,16 @@ fn behind_conditions(model: &[u8], at: usize) -> usize
     behind
 }
 
-// The place behind the costs of a transition, the first of which stands at a place.
+// The place behind the costs of a transition, 09 at a place and 10 where it is written.
 fn behind_costs(model: &[u8], at: usize) -> usize
     requires { ⌜ at ≤ length (now model) ⌝ }
     ensures { λ r. ⌜ BehindCosts (now (model .entry)) at r ⌝ }
 {
-    at + 1 + skip(after(model, at + 1))
+    let behind = at + 1 + skip(after(model, at + 1));
+    if byte_at(model, behind) == 0x10 {
+        return behind + 1 + skip(after(model, behind + 1));
+    }
+    behind
 }
 
 // Whether one of the conditions 08 from a place on requires the object.

@@ -3,8 +3,10 @@ use Prim.Native.Nat.{ℕ, zero, suc, _+_, _-_, _^_, _<_, _≤_}
 use mathlib.Core.Path.{_≡_, refl, sym, ap, _∙_}
 use mathlib.Core.Bool.{Bool, true, false, cond, _||_}
 use mathlib.Core.List.{List, [], _∷_, _++_, reverse}
+use mathlib.Core.Option.{Option, none, some}
 use mathlib.Core.Option as O
 use native.Mathlib.Omega.{arith}
+use native.Mathlib.Nat.{add-zero}
 use lib.ListN.{length, getD, getElem?, drop, set, length-drop, replicate}
 use lib.Seq.{getD-set-same, getD-set-other}
 use lib.Dec.{eqb, leb}
@@ -12,7 +14,7 @@ use borrow.Author.Tests.{eq-eqb, ne-eqb, eqb-true, eqb-false}
 use Rattle.laws.proofs.Lists.{byte-inside}
 use Rattle.laws.specs.Lists.{any}
 use Rattle.model.specs.Numbers.{endsEarly, mismatch, offLimits, mostVariables, mostNesting}
-use Rattle.model.specs.Readers.{Read, read, refused, Reader, after, continue, _>>=_, _>>_, give, refuse, require, one, word, byte, command}
+use Rattle.model.specs.Readers.{Read, read, refused, Reader, after, continue, _>>=_, _>>_, give, refuse, require, peek, one, word, byte, command, optional}
 use Rattle.model.specs.Syntax.{Number, Condition, Element, Set, elementCount, setCount, Kind, aSet, anElement, aNumber, ofSet, ofElement, Variable, Table, Effect, StepCosts, Transition}
 use Rattle.model.specs.Expressions as X
 use Rattle.model.specs.Expressions.{declared, element, number, condition}
@@ -29,7 +31,7 @@ use Rattle.read_transitions.specs.Transitions.{placeOfPart, movedBy, due
 use Rattle.read_declarations.specs.declared.Position.the-variants.{At, Refused}
 use Rattle.words.proofs.Literal.{word-one}
 use Rattle.read_expressions.proofs.Forms.{part-takes}
-use Rattle.read_declarations.proofs.Positions.{front, reads-at, refuses-at, give-at, given-at, position-read, position-refused, then-read, then-refused, next-read, next-refused, reverse-more, turn, turn-full, turn-head-refused, turn-body-refused, turn-end, turn-early}
+use Rattle.read_declarations.proofs.Positions.{front, nothing, reads-at, refuses-at, give-at, given-at, position-read, position-refused, then-read, then-refused, next-read, next-refused, reverse-more, turn, turn-full, turn-head-refused, turn-body-refused, turn-end, turn-early}
 
 -- ---- an expression at a position
 
@@ -288,19 +290,59 @@ module _ {vs : List Variable} {ts : List Table} {bytes : List ℕ} {start at n :
   pub effects-early : length bytes ≤ at → readAt (effectsBehind vs ts mostVariables []) start bytes ≡ refused endsEarly
   effects-early h = sym (s .goes-on) ∙ turn-early (λ b. eqb b 0x0a) (effectTarget vs ts) (effectOn vs ts) bytes mostVariables n (s .items) at h
 
--- ---- the whole transition
+-- ---- a command that may stand at a position, before any reader
+
+module _ {A : Type 0} (c : ℕ) (r : Reader A) (at : ℕ) (bytes : List ℕ) where
+  peek-at : at < length bytes → readAt peek at bytes ≡ read (getD bytes at 0) at
+  unfolding peek
+  peek-at h = reads-at peek at bytes {k = 0} (rw (front bytes at h)) ∙ ap (read (getD bytes at 0)) (add-zero at)
+
+  byte-at : at < length bytes → readAt byte at bytes ≡ read (getD bytes at 0) (at + 1)
+  unfolding byte
+  byte-at h = reads-at byte at bytes (rw (front bytes at h))
+
+  -- by the test of the byte that stands there
+  abbrev chosen : Bool → Reader (Option A)
+  chosen b = cond b (byte >> one r some) (give none)
+
+  by-test : at < length bytes → {b : Bool} → eqb (getD bytes at 0) c ≡ b → readAt (optional c r) at bytes ≡ readAt (chosen b) at bytes
+  unfolding optional
+  by-test h e = then-read peek at bytes (λ b. chosen (eqb b c)) (peek-at h) ∙ ap (λ (b : Bool). readAt (chosen b) at bytes) e
+
+  pub optional-there : getD bytes at 0 ≡ c → at < length bytes → positionOf (readAt r (at + 1) bytes) ≡ positionOf (readAt (optional c r) at bytes)
+  unfolding one
+  optional-there e h = sym (ap positionOf (by-test h (eq-eqb (getD bytes at 0) c e) ∙ next-read byte at bytes (one r some) (byte-at h)) ∙ given-at r (at + 1) bytes some)
+
+  pub optional-other : (getD bytes at 0 ≡ c → ⊥) → at < length bytes → readAt (optional c r) at bytes ≡ read none at
+  optional-other e h = by-test h (ne-eqb (getD bytes at 0) c e) ∙ give-at none at bytes
+
+  pub optional-early : length bytes ≤ at → readAt (optional c r) at bytes ≡ refused endsEarly
+  unfolding optional peek
+  optional-early h = then-refused peek at bytes (λ b. chosen (eqb b c)) (refuses-at peek at bytes (rw (nothing bytes at h)))
+
+-- ---- what a step costs, and the whole transition
 
 module _ (vs : List Variable) (ts : List Table) where
   module _ (at : ℕ) (bytes : List ℕ) where
-    pub costs-read : {p : ℕ} → At p ≡ positionOf (readAt (command 0x09) at bytes) → positionOf (readAt (number vs ts mostNesting) p bytes) ≡ positionOf (readAt (costs vs ts) at bytes)
-    unfolding costs
-    costs-read {p} q =
-        let c = position-read (readAt (command 0x09) at bytes) q in
-        sym (ap positionOf (next-read (command 0x09) at bytes (number vs ts mostNesting >>= λ x. give (record { cost = x })) (c .1)) ∙ given-at (number vs ts mostNesting) p bytes _)
+    abbrev behindNumber : Number → Reader StepCosts
+    behindNumber c = optional 0x10 (number vs ts mostNesting) >>= λ h. give (record { cost = c; high = h })
 
     pub costs-refused : {t : ℕ} → Refused t ≡ positionOf (readAt (command 0x09) at bytes) → Refused t ≡ positionOf (readAt (costs vs ts) at bytes)
     unfolding costs
-    costs-refused q = sym (ap positionOf (next-refused (command 0x09) at bytes (number vs ts mostNesting >>= λ x. give (record { cost = x })) (position-refused (readAt (command 0x09) at bytes) q)))
+    costs-refused q = sym (ap positionOf (next-refused (command 0x09) at bytes (number vs ts mostNesting >>= behindNumber) (position-refused (readAt (command 0x09) at bytes) q)))
+
+    module _ {p : ℕ} (first : At p ≡ positionOf (readAt (command 0x09) at bytes)) where
+      after-command : readAt (costs vs ts) at bytes ≡ readAt (number vs ts mostNesting >>= behindNumber) p bytes
+      unfolding costs
+      after-command = next-read (command 0x09) at bytes (number vs ts mostNesting >>= behindNumber) (position-read (readAt (command 0x09) at bytes) first .1)
+
+      pub costs-number-refused : {t : ℕ} → Refused t ≡ positionOf (readAt (number vs ts mostNesting) p bytes) → Refused t ≡ positionOf (readAt (costs vs ts) at bytes)
+      costs-number-refused q = sym (ap positionOf (after-command ∙ then-refused (number vs ts mostNesting) p bytes behindNumber (position-refused (readAt (number vs ts mostNesting) p bytes) q)))
+
+      pub costs-read : {q : ℕ} → At q ≡ positionOf (readAt (number vs ts mostNesting) p bytes) → positionOf (readAt (optional 0x10 (number vs ts mostNesting)) q bytes) ≡ positionOf (readAt (costs vs ts) at bytes)
+      costs-read {q} second =
+          let n = position-read (readAt (number vs ts mostNesting) p bytes) second in
+          sym (ap positionOf (after-command ∙ then-read (number vs ts mostNesting) p bytes behindNumber (n .1)) ∙ given-at (optional 0x10 (number vs ts mostNesting)) q bytes _)
 
     abbrev behindCosts : List Condition → StepCosts → Reader Transition
     behindCosts cs k = effectsBehind vs ts mostVariables [] >>= λ es. give (record { conditions = cs; costs = k; effects = es })

@@ -1,10 +1,11 @@
-// Reads transitions: conditions, 08, costs, 09, and effects, 0A; and conditions and numbers at a position.
+// Reads transitions: conditions, 08, costs, 09 and 10, and effects, 0A; and conditions and numbers at a position.
 
 ghost use mathlib.Core.Path.{_≡_};
 ghost use mathlib.Core.List.{[]};
 ghost use Prim.Native.Nat.{_-_, _^_, _≤_, _<_};
 ghost use lib.ListN.{length, getD, drop};
 ghost use Rattle.model.specs.Numbers.{mostVariables, mostNesting};
+ghost use Rattle.model.specs.Readers.{optional};
 ghost use Rattle.model.specs.Expressions as expressions;
 ghost use Rattle.model.specs.Commands as commands;
 ghost use Rattle.words.specs.Signature.{variableOf, variablesOf, tablesOf};
@@ -240,12 +241,29 @@ fn effects(model: &[u8], start: usize, kinds: &[u8], rows: &[u8], columns: &[u8]
     }
 }
 
-// What a step costs: 09 and a number.
+// The position behind the high cost, 10 and a number, where there is one.
+fn high_cost(model: &[u8], at: usize, kinds: &[u8], rows: &[u8], columns: &[u8]) -> Position
+    ensures { λ r. ⌜ r ≡ positionOf (readAt (optional 0x10 (expressions.number (variablesOf (now (kinds .entry))) (tablesOf (now (rows .entry)) (now (columns .entry))) mostNesting)) at (now (model .entry))) ⌝ }
+{
+    if byte_at(model, at) == 0x10 {
+        return number_at(model, at + 1, kinds, rows, columns);
+    }
+    if at < model.len() {
+        Position::At(at)
+    } else {
+        Position::Refused(ENDS_EARLY)
+    }
+}
+
+// What a step costs: 09 and a number, then the high cost.
 fn costs(model: &[u8], at: usize, kinds: &[u8], rows: &[u8], columns: &[u8]) -> Position
     ensures { λ r. ⌜ r ≡ positionOf (readAt (commands.costs (variablesOf (now (kinds .entry))) (tablesOf (now (rows .entry)) (now (columns .entry)))) at (now (model .entry))) ⌝ }
 {
     match command_at(model, at, 0x09) {
-        Position::At(p) => number_at(model, p, kinds, rows, columns),
+        Position::At(p) => match number_at(model, p, kinds, rows, columns) {
+            Position::At(q) => high_cost(model, q, kinds, rows, columns),
+            Position::Refused(t) => Position::Refused(t),
+        },
         Position::Refused(t) => Position::Refused(t),
     }
 }

@@ -4,7 +4,7 @@
 ghost use mathlib.Core.Path.{_≡_};
 ghost use mathlib.Core.Logic.{_↔_};
 ghost use Rattle.model.specs.Check as plans;
-ghost use Rattle.model.specs.Check.{IsPlan, answerNumber, answerCost};
+ghost use Rattle.model.specs.Check.{IsPlan, answerNumber, answerCost, answerLow};
 ghost use Rattle.solver.specs.Searches.{settings, loadingSettings, listSettings, listLoadingSettings, Searched};
 use plan_check::check;
 use search_report::answers::Fields;
@@ -87,7 +87,7 @@ pub extern "C" fn repgypsum_check_answer(model: &[u8], plan: &[u8]) -> u8
     check(model, plan).answer
 }
 
-// The plan's cost, 0 where the answer number is not 0.
+// The plan's cost at high figures, 0 where the answer number is not 0.
 #[no_mangle]
 pub extern "C" fn repgypsum_check_cost(model: &[u8], plan: &[u8]) -> u64
     ensures { λ r. ⌜ r ≡ answerCost (plans.check (now (model .entry)) (now (plan .entry))) ⌝ }
@@ -95,4 +95,14 @@ pub extern "C" fn repgypsum_check_cost(model: &[u8], plan: &[u8]) -> u64
     let checked = check(model, plan);
     let cost = checked.cost;
     cost.high
+}
+
+// The plan's cost at low figures, 0 where the answer number is not 0.
+#[no_mangle]
+pub extern "C" fn repgypsum_check_low(model: &[u8], plan: &[u8]) -> u64
+    ensures { λ r. ⌜ r ≡ answerLow (plans.check (now (model .entry)) (now (plan .entry))) ⌝ }
+{
+    let checked = check(model, plan);
+    let cost = checked.cost;
+    cost.low
 }

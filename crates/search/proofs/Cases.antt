@@ -38,9 +38,9 @@ abbrev pub planned : (bytes : List ℕ) (widest limit budget : ℕ) → Asked
 planned bytes widest limit budget = runOf bytes widest limit budget (filled limit) 1_314_816
 
 -- a line, with the plan and so many bytes of the buffer behind it as they were
-abbrev pub line : (verdict flag cost bound length expansions rounds width : ℕ) (plan : List ℕ) (rest : ℕ) → Told
-line verdict flag cost bound length expansions rounds width plan rest =
-    answer false (verdict ∷ flag ∷ cost ∷ bound ∷ length ∷ expansions ∷ rounds ∷ width ∷ []) (plan ++ filled rest)
+abbrev pub line : (verdict flag cost bound length expansions rounds width low : ℕ) (plan : List ℕ) (rest : ℕ) → Told
+line verdict flag cost bound length expansions rounds width low plan rest =
+    answer false (verdict ∷ flag ∷ cost ∷ bound ∷ length ∷ expansions ∷ rounds ∷ width ∷ low ∷ []) (plan ++ filled rest)
 
 abbrev asked : List Asked
 asked =
@@ -73,25 +73,25 @@ asked =
 abbrev told : List Told
 told =
     -- P1
-    line 0 1 7 7 3 14 3 4 (0 ∷ 1 ∷ 2 ∷ []) 61
+    line 0 1 7 7 3 14 3 4 7 (0 ∷ 1 ∷ 2 ∷ []) 61
     -- P2
-    ∷ line 0 1 7 7 3 14 3 4 (0 ∷ 1 ∷ 2 ∷ []) 0
+    ∷ line 0 1 7 7 3 14 3 4 7 (0 ∷ 1 ∷ 2 ∷ []) 0
     -- P3
-    ∷ line 2 1 7 0 3 8 2 2 (0 ∷ 1 ∷ 2 ∷ []) 0
+    ∷ line 2 1 7 0 3 8 2 2 7 (0 ∷ 1 ∷ 2 ∷ []) 0
     -- P4
-    ∷ line 2 1 7 0 3 6 2 1 (0 ∷ 1 ∷ 2 ∷ []) 0
+    ∷ line 2 1 7 0 3 6 2 1 7 (0 ∷ 1 ∷ 2 ∷ []) 0
     -- P5
-    ∷ line 3 0 0 5 0 13 4 8 [] 2
+    ∷ line 3 0 0 5 0 13 4 8 0 [] 2
     -- P6
-    ∷ line 4 0 0 0 0 0 1 1 [] 64
+    ∷ line 4 0 0 0 0 0 1 1 0 [] 64
     -- P7
-    ∷ line 0 1 0 0 0 0 1 1 [] 64
+    ∷ line 0 1 0 0 0 0 1 1 0 [] 64
     -- P8
-    ∷ line 5 1 7 8 3 3 1 1 (0 ∷ 1 ∷ 2 ∷ []) 61
+    ∷ line 5 1 7 8 3 3 1 1 7 (0 ∷ 1 ∷ 2 ∷ []) 61
     -- P9
-    ∷ line 1 0 0 0 0 8 2 2 [] 64
+    ∷ line 1 0 0 0 0 8 2 2 0 [] 64
     -- P10
-    ∷ line 0 1 3 3 3 5 2 2 (0 ∷ 1 ∷ 2 ∷ []) 61
+    ∷ line 0 1 3 3 3 5 2 2 3 (0 ∷ 1 ∷ 2 ∷ []) 61
     -- P11, −7 by 2
     ∷ valued (value (negsuc 3))
     -- P11, −2^31 by −1

@@ -15,7 +15,7 @@ loaded bytes planBytes words = loadOf bytes 16 100_000 (filled planBytes) words
 
 -- no other field, and the plan buffer as it was
 abbrev refusal : (number planBytes : ℕ) → Told
-refusal number planBytes = answer true (number ∷ 0 ∷ 0 ∷ 0 ∷ 0 ∷ 0 ∷ 0 ∷ 0 ∷ []) (filled planBytes)
+refusal number planBytes = answer true (number ∷ 0 ∷ 0 ∷ 0 ∷ 0 ∷ 0 ∷ 0 ∷ 0 ∷ 0 ∷ []) (filled planBytes)
 
 -- a byte behind the end command
 abbrev damaged : List ℕ
@@ -66,15 +66,15 @@ asked =
 
 abbrev told : List Told
 told =
-    line 0 1 7 7 3 14 3 4 (0 ∷ 1 ∷ 2 ∷ []) 0
+    line 0 1 7 7 3 14 3 4 7 (0 ∷ 1 ∷ 2 ∷ []) 0
     ∷ refusal 3 3
     ∷ refusal 3 2
-    ∷ line 0 1 7 7 3 14 3 4 (0 ∷ 1 ∷ 2 ∷ []) 2
-    ∷ line 0 1 0 0 0 0 1 1 [] 1
+    ∷ line 0 1 7 7 3 14 3 4 7 (0 ∷ 1 ∷ 2 ∷ []) 2
+    ∷ line 0 1 0 0 0 0 1 1 0 [] 1
     ∷ refusal 3 1
     ∷ refusal 3 0
-    ∷ line 2 1 7 0 3 6 2 1 (0 ∷ 1 ∷ 2 ∷ []) 0
-    ∷ line 4 0 0 0 0 0 1 1 [] 3
+    ∷ line 2 1 7 0 3 6 2 1 7 (0 ∷ 1 ∷ 2 ∷ []) 0
+    ∷ line 4 0 0 0 0 0 1 1 0 [] 3
     ∷ refusal 2 0
     ∷ refusal 2 0
     ∷ refusal 2 0
@@ -82,11 +82,11 @@ told =
     ∷ refusal 3 0
     ∷ refusal 15 0
     ∷ refusal 15 2
-    ∷ line 0 1 2 2 2 5 2 2 (0 ∷ 1 ∷ []) 0
-    ∷ line 0 1 2 2 2 5 2 2 (1 ∷ 3 ∷ []) 0
-    ∷ line 1 0 0 0 0 1 1 1 [] 2
+    ∷ line 0 1 2 2 2 5 2 2 2 (0 ∷ 1 ∷ []) 0
+    ∷ line 0 1 2 2 2 5 2 2 2 (1 ∷ 3 ∷ []) 0
+    ∷ line 1 0 0 0 0 1 1 1 0 [] 2
     ∷ refusal 15 2
-    ∷ line 1 0 0 0 0 0 1 1 [] 2
+    ∷ line 1 0 0 0 0 0 1 1 0 [] 2
     ∷ []
 
 pub profile-cases : allOpened asked ≡ told

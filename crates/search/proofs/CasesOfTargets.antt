@@ -73,25 +73,25 @@ asked =
 
 abbrev told : List Told
 told =
-    line 1 0 0 0 0 0 1 1 [] 64
-    ∷ checked 14 0
-    ∷ checked 14 0
-    ∷ answer true (12 ∷ 0 ∷ 0 ∷ 0 ∷ 0 ∷ 0 ∷ 1 ∷ 1 ∷ []) (filled 64)
-    ∷ checked 12 0
-    ∷ checked 12 0
-    ∷ checked 14 0
-    ∷ line 1 0 0 0 0 0 1 1 [] 64
-    ∷ checked 14 0
-    ∷ answer true (12 ∷ 0 ∷ 0 ∷ 0 ∷ 0 ∷ 0 ∷ 1 ∷ 1 ∷ []) (filled 64)
-    ∷ checked 12 0
-    ∷ line 1 0 0 0 0 0 1 1 [] 64
-    ∷ line 1 0 0 0 0 0 1 1 [] 64
-    ∷ checked 14 0
-    ∷ line 1 0 0 0 0 0 1 1 [] 64
-    ∷ line 1 0 0 0 0 0 1 1 [] 64
-    ∷ checked 14 0
-    ∷ line 0 1 7 7 3 7 2 2 (0 ∷ 1 ∷ 2 ∷ []) 61
-    ∷ checked 0 7
+    line 1 0 0 0 0 0 1 1 0 [] 64
+    ∷ checked 14 0 0
+    ∷ checked 14 0 0
+    ∷ answer true (12 ∷ 0 ∷ 0 ∷ 0 ∷ 0 ∷ 0 ∷ 1 ∷ 1 ∷ 0 ∷ []) (filled 64)
+    ∷ checked 12 0 0
+    ∷ checked 12 0 0
+    ∷ checked 14 0 0
+    ∷ line 1 0 0 0 0 0 1 1 0 [] 64
+    ∷ checked 14 0 0
+    ∷ answer true (12 ∷ 0 ∷ 0 ∷ 0 ∷ 0 ∷ 0 ∷ 1 ∷ 1 ∷ 0 ∷ []) (filled 64)
+    ∷ checked 12 0 0
+    ∷ line 1 0 0 0 0 0 1 1 0 [] 64
+    ∷ line 1 0 0 0 0 0 1 1 0 [] 64
+    ∷ checked 14 0 0
+    ∷ line 1 0 0 0 0 0 1 1 0 [] 64
+    ∷ line 1 0 0 0 0 0 1 1 0 [] 64
+    ∷ checked 14 0 0
+    ∷ line 0 1 7 7 3 7 2 2 7 (0 ∷ 1 ∷ 2 ∷ []) 61
+    ∷ checked 0 7 7
     ∷ []
 
 pub target-cases : allOpened asked ≡ told

@@ -15,7 +15,7 @@ withList bytes widths limit words = listedOf bytes widths limit 100_000 (filled 
 
 -- no other field, and the plan buffer as it was
 abbrev refusal : (number planBytes : ℕ) → Told
-refusal number planBytes = answer true (number ∷ 0 ∷ 0 ∷ 0 ∷ 0 ∷ 0 ∷ 0 ∷ 0 ∷ []) (filled planBytes)
+refusal number planBytes = answer true (number ∷ 0 ∷ 0 ∷ 0 ∷ 0 ∷ 0 ∷ 0 ∷ 0 ∷ 0 ∷ []) (filled planBytes)
 
 abbrev plan : List ℕ
 plan = 0 ∷ 1 ∷ 2 ∷ []
@@ -74,19 +74,19 @@ asked =
 
 abbrev told : List Told
 told =
-    line 0 1 7 7 3 9 2 200 plan 61
+    line 0 1 7 7 3 9 2 200 7 plan 61
     ∷ refusal 3 64
-    ∷ line 0 1 7 7 3 13 2 3 plan 61
-    ∷ line 0 1 7 7 3 10 1 200 plan 61
-    ∷ line 2 1 7 0 3 10 2 2 plan 61
-    ∷ line 2 0 0 2 0 9 3 4 [] 2
-    ∷ line 3 0 0 5 0 6 2 200 [] 2
-    ∷ answer true (12 ∷ 0 ∷ 0 ∷ 0 ∷ 0 ∷ 0 ∷ 1 ∷ 5 ∷ []) (filled 64)
-    ∷ line 1 0 0 0 0 0 1 200 [] 64
-    ∷ line 0 1 7 7 3 13 2 3 plan 0
+    ∷ line 0 1 7 7 3 13 2 3 7 plan 61
+    ∷ line 0 1 7 7 3 10 1 200 7 plan 61
+    ∷ line 2 1 7 0 3 10 2 2 7 plan 61
+    ∷ line 2 0 0 2 0 9 3 4 0 [] 2
+    ∷ line 3 0 0 5 0 6 2 200 0 [] 2
+    ∷ answer true (12 ∷ 0 ∷ 0 ∷ 0 ∷ 0 ∷ 0 ∷ 1 ∷ 5 ∷ 0 ∷ []) (filled 64)
+    ∷ line 1 0 0 0 0 0 1 200 0 [] 64
+    ∷ line 0 1 7 7 3 13 2 3 7 plan 0
     ∷ refusal 3 3
-    ∷ line 0 1 7 7 3 14 3 3 plan 61
-    ∷ line 0 1 7 7 3 9 2 4096 plan 0
+    ∷ line 0 1 7 7 3 14 3 3 7 plan 61
+    ∷ line 0 1 7 7 3 9 2 4096 7 plan 0
     ∷ refusal 16 3
     ∷ refusal 16 3
     ∷ refusal 16 3

@@ -13,7 +13,7 @@ use Rattle.model.specs.System.{Costs, CostLaws, System, Origin}
 use Rattle.model.specs.Numbers.{rangeEnd}
 use Rattle.model.specs.Costs.{atMost, costsOf}
 use Rattle.model.specs.Steps.{systemOf, originOf}
-use Rattle.model.proofs.Costs.{cost-laws, not-at-most-hours}
+use Rattle.model.proofs.Costs.{cost-laws}
 use Rattle.search.specs.Answer.{Verdict, cheapest, noPlan, widthStop, lengthStop, budgetSpent, contradicted, verdict, Answer}
 use Rattle.search.specs.Search.{Node, Route, Progress, Round, Ending, decided, refused, Stop, Result, on, over, less, belowBest, routeTo, counted, atLimit, improvedBy, leastF, raisedLow, layerEnd, nextLayer, root, freshRound, round, exhausted, afterRound, hasPlan, bestCost, boundAt, answerOf, answer, untouched, refusedAtStart, search}
 use Rattle.search.specs.Guarantee.{Stopped, by-width, by-length, by-budget, widest}
@@ -224,7 +224,3 @@ source-gap {q = q} (searched m x) s e =
 -- document 02, §7: "gap between cost and bound": in a stopped run the bound lies strictly below the cost of its plan
 pub stopped-bound-below-plan : (most : ℕ) (bytes : List ℕ) (q : Settings) (l : Lent) → Stopped (run most bytes q l .outcome) → run most bytes q l .flag ≡ true → atMost (run most bytes q l .cost) (run most bytes q l .bound) ≡ false
 stopped-bound-below-plan most bytes q l = source-gap (run-source bytes q l most)
-
--- so its hours are no more than the plan's
-pub stopped-hours-below-plan : (most : ℕ) (bytes : List ℕ) (q : Settings) (l : Lent) → Stopped (run most bytes q l .outcome) → run most bytes q l .flag ≡ true → run most bytes q l .bound .high ≤ run most bytes q l .cost .high
-stopped-hours-below-plan most bytes q l s e = not-at-most-hours (run most bytes q l .cost) (run most bytes q l .bound) (stopped-bound-below-plan most bytes q l s e)

@@ -5,6 +5,7 @@ pub mod CasesOfRules
 pub mod CasesOfTargets
 pub mod CasesOfProfile
 pub mod CasesOfWidths
+pub mod CasesOfRanges
 pub mod Settings
 pub mod Numbered
 pub mod Source

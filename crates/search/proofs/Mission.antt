@@ -17,21 +17,24 @@ use Rattle.model.specs.Values.{Value, value, trouble}
 use Rattle.model.specs.Readers.{Read, read, refused}
 use Rattle.model.specs.Syntax.{Model}
 use Rattle.model.specs.Commands.{model}
-use Rattle.model.specs.Costs.{free, atMost, costsOf}
+use Rattle.model.specs.Costs.{free, atMost, combine, costsOf}
 use Rattle.model.specs.Steps.{target, systemOf, originOf}
 use Rattle.model.proofs.Costs.{cost-laws, at-most-hours}
-use Rattle.model.specs.Check.{check, CheckedPlan}
+use Rattle.model.specs.Check.{check, costGiven, answerCost, answerLow, CheckedPlan}
 use Rattle.model.proofs.Dominance.{dominates-self}
-use Rattle.model.proofs.Outcomes.{StateTrouble}
+use Rattle.model.proofs.Outcomes.{StateTrouble, by-value, by-range}
+use Rattle.model.proofs.Ranges.{trouble-priced}
+use Rattle.model.specs.Real.{RealHours, TrueOfRanges}
+use Rattle.model.proofs.Real.{joined-no-moves, plan-no-moves, path-no-moves, real-cost-between, declared-true}
 use Rattle.model.specs.Profile.{inProfile, loadingLength}
 use Rattle.model.proofs.Profile.{loading-length-some, loading-length-within, none-open-in-profile}
 use Rattle.model.proofs.Troubles.{admits-trouble, status-trouble, move-trouble-before, move-trouble-after, bound-trouble, CheckRefusal, check-numbers}
 use Rattle.model.proofs.PlanCheck.{check-exact, broken-has-no-plan, check-of-broken-target, check-of-target-trouble}
 use Rattle.search.specs.Answer.{Verdict, cheapest, noPlan, widthStop, lengthStop, contradicted, Outcome, verdict, byState, byInput, Answer, bufferAfter, handedBack}
-use Rattle.search.specs.Guarantee.{Stopped, Guarantee}
-use Rattle.search.specs.Demands.{Ends, with-verdict, by-state, PlanAt, DeclarationsTrue, LayersFit, Marked, Demands}
+use Rattle.search.specs.Guarantee.{Stopped, TroubleAt, in-start, in-base-cases, in-transition, in-constraints, in-bound, Guarantee}
+use Rattle.search.specs.Demands.{Ends, with-verdict, by-state, high-below-low, PlanAt, DeclarationsTrue, LayersFit, Marked, Demands}
 use Rattle.search.specs.Search.{searchWithin}
-use Rattle.search.specs.Run.{Beam, upTo, listed, Form, plain, loading, Settings, Lent, widerUpTo, isWidth, rising, firstWidth, widerThan, widestOf, limitOf, beamFits, listFits, formFits, settingsFit, lentFits, refusedByInput, searchModel, runRead, runSet, run, inHours}
+use Rattle.search.specs.Run.{Beam, upTo, listed, Form, plain, loading, Settings, Lent, widerUpTo, isWidth, rising, firstWidth, widerThan, widestOf, limitOf, beamFits, listFits, formFits, settingsFit, lentFits, refusedByInput, searchModel, runRead, runSet, run, shown}
 use Rattle.search.proofs.Settings.{beam-fits, widest-is-last, built-in-last, built-in-rises}
 use Rattle.search.proofs.Source.{Accepted, Source, input-refused, searched, run-source, run-holds, run-bad-widths, run-accepted}
 use Rattle.search.proofs.Targets.{broken-start, troubled-start}
@@ -41,6 +44,10 @@ use Rattle.search.proofs.Budget.{any-bound-of-run, run-budget-spent-mea
 use Rattle.search.proofs.Counts.{Troubles, expansions-within-budget, refusals-from-system, never-by-input}
 
 -- ---- demand 1
+
+ends-at-state : {q : Settings} {t : ℕ} → StateTrouble t → Ends q (byState t)
+ends-at-state (by-value h k) = by-state h k
+ends-at-state (by-range e) = rw e high-below-low
 
 search-ends : (m : Model) (q : Settings) (x : Outcome) → searchModel m q .outcome ≡ x → Ends q x
 unfolding searchModel
@@ -54,8 +61,7 @@ search-ends m q (byState t) e =
       of-move-after = λ s t n c lt e. move-trouble-after rangeEnd m s t e;
       of-bound = λ s n e. bound-trouble rangeEnd m s e;
     } in
-    let range = refusals-from-system (costsOf (m .rule)) (systemOf rangeEnd m) (originOf m) (q .budget) (limitOf (q .form) m) (firstWidth (q .beam)) (widerThan (q .beam)) StateTrouble known t e in
-    by-state (range .0) (range .1)
+    ends-at-state (refusals-from-system (costsOf (m .rule)) (systemOf rangeEnd m) (originOf m) (q .budget) (limitOf (q .form) m) (firstWidth (q .beam)) (widerThan (q .beam)) StateTrouble known t e)
 search-ends m q (byInput t) e = absurd (never-by-input (costsOf (m .rule)) (systemOf rangeEnd m) (originOf m) (q .budget) (limitOf (q .form) m) (firstWidth (q .beam)) (widerThan (q .beam)) t e)
 
 source-ends : {bytes : List ℕ} {q : Settings} {l : Lent} {a : Answer Cost} → Source bytes q l a → Ends q (a .outcome)
@@ -67,7 +73,7 @@ source-ends {q = q} (searched m x) = search-ends m q (searchModel m q .outcome) 
 pub every-run-ends : (most : ℕ) (bytes : List ℕ) (q : Settings) (l : Lent) → Ends q (run most bytes q l .outcome)
 every-run-ends most bytes q l = source-ends (run-source bytes q l most)
 
--- the same of the plan check: 0 and the cost, or one of 1, 2, 4 to 9, 11 to 14
+-- the same of the plan check: 0 and the cost, or one of 1, 2, 4 to 9, 11 to 14 and 17
 pub every-plan-check-ends : (bytes plan : List ℕ) {t : ℕ} → check bytes plan ≡ trouble t → CheckRefusal t
 every-plan-check-ends bytes plan e = check-numbers bytes plan e
 
@@ -86,6 +92,11 @@ refusal-changes-no-buffer most bytes q l buffer e = source-keeps-buffer buffer (
 -- "A sequence of at most 256 steps passes the plan check exactly if it is a plan by that definition, and with its cost"
 pub plan-check-exact : (bytes plan : List ℕ) (c : Cost) → (check bytes plan ≡ value c) ↔ CheckedPlan bytes plan c
 plan-check-exact bytes plan c = check-exact bytes plan c
+
+-- document 02, §5: "The plan check gives both sums, or both largest values"
+pub plan-check-gives-both : (bytes plan : List ℕ) {c : Cost} → CheckedPlan bytes plan c → (answerCost (check bytes plan) ≡ c .high) × (answerLow (check bytes plan) ≡ c .low)
+unfolding costGiven answerCost answerLow
+plan-check-gives-both bytes plan {c} h = let passes = check-exact bytes plan c .1 h in (rw passes, rw passes)
 
 -- the definition's count of expansions never passes the budget; that the code counts as the definition does is a field of its contract, `Searched`
 source-within-budget : {bytes : List ℕ} {q : Settings} {l : Lent} {a : Answer Cost} → Source bytes q l a → a .tally .expansions ≤ q .budget
@@ -170,6 +181,22 @@ search-model-guarantee m q e =
     subst (λ w. Guarantee (costsOf (m .rule)) (systemOf rangeEnd m) (originOf m) w (limitOf (q .form) m) (searchModel m q)) (widest-is-last (q .beam) (beam-fits q e))
     (search-guarantee (costsOf (m .rule)) (cost-laws (m .rule)) (systemOf rangeEnd m) (dominates-self rangeEnd m) (originOf m) (q .budget) (limitOf (q .form) m) (firstWidth (q .beam)) (widerThan (q .beam)))
 
+-- a cost without moves is its two figures
+no-more-than-figures : (high low : ℕ) {moves : ℕ} → moves ≡ 0 → _≡_ {A = Cost} (record { high = high; low = low; moves = 0 }) (record { high = high; low = low; moves = moves })
+no-more-than-figures high low e = rw e
+
+figures-are : (c : Cost) → c .moves ≡ 0 → record { high = c .high; low = c .low; moves = 0 } ≡ c
+figures-are c e = no-more-than-figures (c .high) (c .low) e
+
+-- where trouble is met, the path there has no moves
+trouble-no-moves : (m : Model) {t : ℕ} {steps : List ℕ} {g : Cost} → TroubleAt (costsOf (m .rule)) (systemOf rangeEnd m) (originOf m) t steps g → g .moves ≡ 0
+unfolding originOf costsOf combine
+trouble-no-moves m (in-start e) = refl
+trouble-no-moves m (in-base-cases path e) = path-no-moves rangeEnd m path refl
+trouble-no-moves m (in-transition path open-state lt e) = path-no-moves rangeEnd m path refl
+trouble-no-moves m (in-constraints {s = s} {g = g} {c = c} {i = i} path open-state lt e) = joined-no-moves (m .rule) g c (path-no-moves rangeEnd m path refl) (trouble-priced rangeEnd m s i e .no-moves)
+trouble-no-moves m (in-bound path e) = path-no-moves rangeEnd m path refl
+
 module _ (most : ℕ) (bytes : List ℕ) (q : Settings) (l : Lent) (m : Model) (n : ℕ) (reads : model bytes ≡ read m n) where
   pub run-guarantee : GuaranteeOf m q (run most bytes q l)
   run-guarantee = run-holds bytes q l m n reads (GuaranteeOf m q) (refusal-guarantee m q) (λ x. search-model-guarantee m q (x .fit)) most
@@ -218,22 +245,56 @@ module _ (most : ℕ) (bytes : List ℕ) (q : Settings) (l : Lent) (m : Model) (
   pub no-stop-where-layers-fit : LayersFit m q → (run most bytes q l .outcome ≡ verdict widthStop → ⊥) × (run most bytes q l .outcome ≡ verdict lengthStop → ⊥)
   no-stop-where-layers-fit f = no-stop-where-fits (costsOf (m .rule)) (systemOf rangeEnd m) (originOf m) (widestOf (q .beam)) (limitOf (q .form) m) (run most bytes q l) run-guarantee f
 
-  -- all that is said of the model, in hours
-  run-marked : Marked m q (inHours (run most bytes q l))
-  unfolding inHours
+  -- ---- document 02, §5: hours known only within a range
+
+  -- "For every choice of step costs inside the ranges, the plan's real cost lies between the two figures"
+  pub real-cost-between-the-figures : run most bytes q l .flag ≡ true → (r : ℕ) → RealHours m (target m) (run most bytes q l .steps) r → (run most bytes q l .cost .low ≤ r) × (r ≤ run most bytes q l .cost .high)
+  real-cost-between-the-figures e r real = real-cost-between m (a-plan-given-is-a-plan e .plan) real
+
+  -- "no plan has a smaller high cost, if bounds are true of the low costs and preferences of the high ones"
+  pub cheapest-hours-least-in-ranges : run most bytes q l .outcome ≡ verdict cheapest → TrueOfRanges m → (p : List ℕ) (c : Cost) → PlanAt m p c → run most bytes q l .cost .high ≤ c .high
+  cheapest-hours-least-in-ranges e t p c plan = at-most-hours (run most bytes q l .cost) c (cheapest-costs-no-more e .1 (declared-true m t) p c plan)
+
+  pub no-plan-means-none-in-ranges : run most bytes q l .outcome ≡ verdict noPlan → TrueOfRanges m → (p : List ℕ) (c : Cost) → PlanAt m p c → ⊥
+  no-plan-means-none-in-ranges e t = no-plan-means-none e (declared-true m t)
+
+  -- "The bound in a stopped answer is for high costs"
+  pub stopped-bound-is-for-high-costs : Stopped (run most bytes q l .outcome) → TrueOfRanges m → (p : List ℕ) (c : Cost) → PlanAt m p c → run most bytes q l .bound .high ≤ c .high
+  stopped-bound-is-for-high-costs s t p c plan = at-most-hours (run most bytes q l .bound) c (stopped-bound-below-every-plan s (declared-true m t) p c plan)
+
+  pub contradicted-only-if-false-of-ranges : run most bytes q l .outcome ≡ verdict contradicted → TrueOfRanges m → ⊥
+  contradicted-only-if-false-of-ranges e t = contradicted-only-if-false e (declared-true m t)
+
+  -- ---- all that is said of the model
+
+  plan-shown : run most bytes q l .flag ≡ true → PlanAt m (run most bytes q l .steps) (shown (run most bytes q l) .cost)
+  unfolding shown
+  plan-shown e =
+      let given = a-plan-given-is-a-plan e in
+      subst (λ c. PlanAt m (run most bytes q l .steps) c) (sym (figures-are (run most bytes q l .cost) (plan-no-moves rangeEnd m (given .plan)))) given
+
+  trouble-shown : (t : ℕ) → run most bytes q l .outcome ≡ byState t → TroubleAt (costsOf (m .rule)) (systemOf rangeEnd m) (originOf m) t (run most bytes q l .steps) (shown (run most bytes q l) .cost)
+  unfolding shown
+  trouble-shown t e =
+      let there = run-refusal-path most bytes q l m n reads e in
+      subst (λ c. TroubleAt (costsOf (m .rule)) (systemOf rangeEnd m) (originOf m) t (run most bytes q l .steps) c) (sym (figures-are (run most bytes q l .cost) (trouble-no-moves m there))) there
+
+  run-marked : Marked m q (shown (run most bytes q l))
+  unfolding shown
   run-marked =
       let answer = run most bytes q l in
       record {
         within-limit = steps-never-pass-limit most bytes q l m n reads;
-        plan-given = λ e. record { cost = answer .cost; plan = a-plan-given-is-a-plan e; in-hours = refl };
+        plan-given = plan-shown;
+        real-between = real-cost-between-the-figures;
         cheapest-given = λ e. cheapest-costs-no-more e .0;
-        cheapest-least = λ e d p h x. omega (arith, at-most-hours (answer .cost) (x .cost) (cheapest-costs-no-more e .1 d p (x .cost) (x .plan)), x .in-hours);
-        no-plan = λ e d p h x. no-plan-means-none e d p (x .cost) (x .plan);
-        bound-below = λ s d p h x. omega (arith, at-most-hours (answer .bound) (x .cost) (stopped-bound-below-every-plan s d p (x .cost) (x .plan)), x .in-hours);
+        cheapest-least = λ e d p c plan. at-most-hours (answer .cost) c (cheapest-costs-no-more e .1 d p c plan);
+        no-plan = no-plan-means-none;
+        bound-below = λ s d p c plan. at-most-hours (answer .bound) c (stopped-bound-below-every-plan s d p c plan);
         declaration-false = contradicted-only-if-false;
         no-width-stop = λ f. no-stop-where-layers-fit f .0;
         no-length-stop = λ f. no-stop-where-layers-fit f .1;
-        trouble-there = λ t e. record { cost = answer .cost; trouble = run-refusal-path most bytes q l m n reads e; in-hours = refl };
+        trouble-there = trouble-shown;
       }
 
 -- ---- document 02, §1: the target must meet the constraints too
@@ -347,8 +408,8 @@ module _ (bytes : List ℕ) (q : Settings) (l : Lent) (w : ℕ) (width : isWidth
 -- ---- all of them
 
 -- every demand, of every run
-pub run-meets-demands : (most : ℕ) (bytes : List ℕ) (q : Settings) (l : Lent) → Demands bytes q (inHours (run most bytes q l))
-unfolding inHours
+pub run-meets-demands : (most : ℕ) (bytes : List ℕ) (q : Settings) (l : Lent) → Demands bytes q (shown (run most bytes q l))
+unfolding shown
 run-meets-demands most bytes q l =
     record {
       ends = every-run-ends most bytes q l;

@@ -1,10 +1,11 @@
 -- The answer of a search: its fields, document 01's number for its outcome, and what the plan buffer holds afterwards.
 -- docs/FORMAT.md, "Answer" and "Verdicts".
 use Prim.Native.Nat.{ℕ}
-use mathlib.Core.Bool.{Bool, true, false, cond, _&&_}
+use mathlib.Core.Bool.{Bool, true, false, cond, _&&_, _||_}
 use mathlib.Core.List.{List, [], _∷_, _++_}
 use lib.ListN.{length, take, drop, getD}
 use lib.Dec.{leb, eqb}
+use Rattle.model.specs.Numbers.{highBelowLow}
 
 pub data Verdict : Type 0 where
   cheapest noPlan widthStop lengthStop budgetSpent contradicted : Verdict
@@ -34,12 +35,13 @@ isRefusal (verdict v) = false
 isRefusal (byState t) = true
 isRefusal (byInput t) = true
 
--- the verdict of a number, and the outcome that a number stands for, given whether it is a refusal's: 11 to 13 are by the state, the others by the input
+-- the verdict of a number, and the outcome that a number stands for, given whether it is a refusal's: 11 to 13 and 17 are by the state, the
+-- others by the input
 unfoldable pub verdictNumbered : ℕ → Verdict
 verdictNumbered n = getD (cheapest ∷ noPlan ∷ widthStop ∷ lengthStop ∷ budgetSpent ∷ []) n contradicted
 
 unfoldable pub outcomeNumbered : (refused number : ℕ) → Outcome
-outcomeNumbered r n = cond (eqb r 0) (verdict (verdictNumbered n)) (cond (leb 11 n && leb n 13) (byState n) (byInput n))
+outcomeNumbered r n = cond (eqb r 0) (verdict (verdictNumbered n)) (cond ((leb 11 n && leb n 13) || eqb n highBelowLow) (byState n) (byInput n))
 
 -- "One tally record of expansions, rounds and width"
 pub record Tally : Type 0 where

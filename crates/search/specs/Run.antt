@@ -10,7 +10,7 @@ use Rattle.model.specs.Numbers.{modelTooLong, badSetting, tooLittleLent, outsid
 use Rattle.model.specs.Readers.{Read, read, refused}
 use Rattle.model.specs.Syntax.{Model}
 use Rattle.model.specs.Commands.{model}
-use Rattle.model.specs.Costs.{free, costsOf}
+use Rattle.model.specs.Costs.{free, hours, costsOf}
 use Rattle.model.specs.Steps.{systemOf, originOf}
 use Rattle.model.specs.declared.Cost.{Cost}
 use Rattle.model.specs.Profile.{inProfile, loadingLength}
@@ -142,12 +142,21 @@ run most bytes q l =
     (cond (not (listFits (q .beam))) (refusedByInput badWidths)
     (runSet bytes q l)))
 
--- the answer as its reader has it: costs by their hours
-unfoldable pub inHours : Answer Cost → Answer ℕ
-inHours a = record { outcome = a .outcome; flag = a .flag; cost = a .cost .high; bound = a .bound .high; steps = a .steps; tally = a .tally }
+-- the answer as its reader has it: the cost at both figures; the bound, which "is for high costs", in hours
+unfoldable pub shown : Answer Cost → Answer Cost
+shown a =
+    record {
+      outcome = a .outcome;
+      flag = a .flag;
+      cost = record { high = a .cost .high; low = a .cost .low; moves = 0 };
+      bound = hours (a .bound .high);
+      steps = a .steps;
+      tally = a .tally;
+    }
 
--- its fields in document 01's order, as the program's line has them in front of the colon
+-- its fields in document 01's order, then document 02's: "the plan's cost at low figures, filled wherever the cost is and printed after the
+-- width". The program's line has them in front of the colon
 unfoldable pub fields : Answer Cost → List ℕ
 fields a =
     outcomeNumber (a .outcome) ∷ cond (a .flag) 1 0 ∷ a .cost .high ∷ a .bound .high ∷ length (a .steps)
-    ∷ a .tally .expansions ∷ a .tally .rounds ∷ a .tally .width ∷ []
+    ∷ a .tally .expansions ∷ a .tally .rounds ∷ a .tally .width ∷ a .cost .low ∷ []

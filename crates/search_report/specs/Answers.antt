@@ -7,9 +7,11 @@ use lib.ListN.{length, getD}
 use lib.Dec.{eqb}
 use Rattle.model.specs.declared.Cost.{Cost}
 use Rattle.model.specs.Numbers.{mostSteps}
+use Rattle.model.specs.Costs.{hours}
 use Rattle.search.specs.Answer as A
 use Rattle.search.specs.Answer.{verdict, byState, byInput, outcomeNumber, isRefusal, outcomeNumbered, bufferAfter, handedBack}
 use Rattle.search.specs.Search.{answerOf}
+use Rattle.search.specs.Run.{fields}
 use Rattle.steps.specs.InBytes.{systemIn}
 use Rattle.steps.specs.Follow.{costsIn}
 use Rattle.search_paths.specs.Routes.{pathBy}
@@ -36,17 +38,22 @@ pub record AnswerIs (a : A.Answer Cost) (x : Answer) : Type 0 where
   pub rounds : x .tally .rounds ≡ a .tally .rounds
   pub width : x .tally .width ≡ a .tally .width
 
--- the same in numbers, a's costs being in hours
-pub record FieldsAre (a : A.Answer ℕ) (x : Fields) : Type 0 where
+-- the same in numbers: the cost at both figures, the bound in hours
+pub record FieldsAre (a : A.Answer Cost) (x : Fields) : Type 0 where
   pub refused : x .refused ≡ cond (isRefusal (a .outcome)) 1 0
   pub verdict-number : x .verdict ≡ outcomeNumber (a .outcome)
   pub flag : x .flag ≡ cond (a .flag) 1 0
-  pub cost : x .cost ≡ a .cost
-  pub bound : x .bound ≡ a .bound
+  pub cost : x .cost ≡ a .cost .high
+  pub bound : x .bound ≡ a .bound .high
   pub length-of : x .length ≡ length (a .steps)
   pub expansions : x .expansions ≡ a .tally .expansions
   pub rounds : x .rounds ≡ a .tally .rounds
   pub width : x .width ≡ a .tally .width
+  pub low : x .low ≡ a .cost .low
+
+-- these numbers are the definition's fields, in their order
+pub record LineOf (x : Answer) (numbers : List ℕ) : Type 0 where
+  pub same : (a : A.Answer Cost) → AnswerIs a x → numbers ≡ fields a
 
 -- the answer's numbers in their order: the one list that the line and the C struct are made from
 abbrev pub inLine : Answer → List ℕ
@@ -59,6 +66,7 @@ inLine x =
     ∷ x .tally .expansions
     ∷ x .tally .rounds
     ∷ x .tally .width
+    ∷ x .cost .low
     ∷ []
 
 -- the C struct: whether it is a refusal, then the list
@@ -75,16 +83,17 @@ numbersOf x =
       expansions = getD n 5 0;
       rounds = getD n 6 0;
       width = getD n 7 0;
+      low = getD n 8 0;
     }
 
 -- the answer that stands in the numbers and in the plan buffer
-abbrev pub answerIn : Fields → (plan : List ℕ) → A.Answer ℕ
+abbrev pub answerIn : Fields → (plan : List ℕ) → A.Answer Cost
 answerIn x plan =
     record {
       outcome = outcomeNumbered (x .refused) (x .verdict);
       flag = eqb (x .flag) 1;
-      cost = x .cost;
-      bound = x .bound;
+      cost = record { high = x .cost; low = x .low; moves = 0 };
+      bound = hours (x .bound);
       steps = handedBack (x .length) plan;
       tally = record { expansions = x .expansions; rounds = x .rounds; width = x .width };
     }

@@ -33,4 +33,5 @@ pub struct Fields {
     pub expansions: u64,
     pub rounds: u64,
     pub width: u64,
+    pub low: u64,
 }

@@ -4,7 +4,7 @@ ghost use mathlib.Core.Path.{_≡_};
 ghost use mathlib.Core.Bool.{cond};
 ghost use Rattle.search.specs.Answer.{verdictNumber, outcomeNumber, isRefusal};
 ghost use Rattle.search_visits.specs.Work.{verdictOf};
-ghost use Rattle.search_report.specs.Answers.{outcomeOf, inLine, numbersOf};
+ghost use Rattle.search_report.specs.Answers.{outcomeOf, LineOf, inLine, numbersOf};
 use crate::answers::Answer;
 use crate::answers::Fields;
 use crate::answers::Outcome;
@@ -54,11 +54,12 @@ pub fn flag_number(flag: bool) -> u64
 }
 
 // How many numbers there are in an answer's line.
-pub const NUMBERS: usize = 8;
+pub const NUMBERS: usize = 9;
 
 // The answer's numbers, in their order: the one list that the line and the C struct are made from.
 pub fn numbers(answer: Answer) -> [u64; NUMBERS]
-    ensures { λ r. ⌜ r ≡ inLine answer ⌝ }
+    ensures order { λ r. ⌜ r ≡ inLine answer ⌝ }
+    ensures line { λ r. ⌜ LineOf answer r ⌝ }
 {
     let outcome = answer.outcome;
     let verdict = outcome_number(outcome);
@@ -72,6 +73,7 @@ pub fn numbers(answer: Answer) -> [u64; NUMBERS]
         answer.tally.expansions,
         answer.tally.rounds,
         answer.tally.width,
+        answer.cost.low,
     ]
 }
 
@@ -92,5 +94,6 @@ pub fn fields(answer: Answer) -> Fields
         expansions: n[5],
         rounds: n[6],
         width: n[7],
+        low: n[8],
     }
 }

@@ -25,7 +25,7 @@ use Rattle.search.specs.Answer.{noPlan, verdict, byState, byInput, bufferAfter}
 use Rattle.search.specs.Search as S
 use Rattle.search.specs.Search.{root, search, searchWithin, enter, begin}
 use Rattle.search.specs.Demands.{Demands}
-use Rattle.search.specs.Run.{Beam, upTo, listed, Form, plain, Settings, widerUpTo, rising, widestOf, limitOf, beamFits, formFits, settingsFit, wordsNeeded, lentFits, lentBefore, accepts, refusedByInput, searchModel, runSet, inHours}
+use Rattle.search.specs.Run.{Beam, upTo, listed, Form, plain, Settings, widerUpTo, rising, widestOf, limitOf, beamFits, formFits, settingsFit, wordsNeeded, lentFits, lentBefore, accepts, refusedByInput, searchModel, runSet, shown}
 use Rattle.search.proofs.Settings.{built-in-rises, last-fits, limit-within}
 use Rattle.search.proofs.Source.{run-bad-setting, run-bad-widths, run-set, set-lent-behind, set-searched}
 use Rattle.search.proofs.Targets.{broken-start, troubled-start, unbounded-start}
@@ -225,7 +225,7 @@ module _ (most : ℕ) (bytes plan words : List ℕ) (q : Settings) where
       let meets = run-meets-demands most bytes q (lent plan words) in
       let fields = in-numbers (runOf most bytes plan words q) x is in
       let same = read-back (runOf most bytes plan words q) (numbersOf x) plan plan′ (every-run-ends most bytes q (lent plan words)) (steps-fit-buffer most bytes q (lent plan words)) fields after in
-      let outcome : answerIn (numbersOf x) plan′ .outcome ≡ runOf most bytes plan words q .outcome = ap (λ (a : A.Answer ℕ). a .outcome) same ∙ (unfold inHours in refl) in
+      let outcome : answerIn (numbersOf x) plan′ .outcome ≡ runOf most bytes plan words q .outcome = ap (λ (a : A.Answer Cost). a .outcome) same ∙ (unfold shown in refl) in
       record {
         fields = fields;
         plan-after = after;

@@ -11,7 +11,7 @@ use Rattle.model.specs.Values.{Value, value, trouble}
 use Rattle.search.specs.Answer as A
 use Rattle.search.specs.Answer.{byInput, bufferAfter}
 use Rattle.search.specs.Search.{search}
-use Rattle.search.specs.Run.{Settings, upTo, listed, plain, loading, Lent, rising, widestOf, runSet, run, inHours}
+use Rattle.search.specs.Run.{Settings, upTo, listed, plain, loading, Lent, rising, widestOf, runSet, run}
 use Rattle.search.specs.Demands.{Demands}
 use Rattle.steps.specs.InBytes.{Outlined, systemIn, originIn}
 use Rattle.steps.specs.Follow.{costsIn}
@@ -89,7 +89,7 @@ runOf most bytes plan words q = run most bytes q (lent plan words)
 -- what a caller of the search is given, x being the answer in numbers
 pub record Searched (most : ℕ) (bytes plan plan′ words words′ : List ℕ) (q : Settings) (x : Fields) : Type 0 where
   -- "the answer and the plan buffer are as document 01's rules give them"
-  pub fields : FieldsAre (inHours (runOf most bytes plan words q)) x
+  pub fields : FieldsAre (runOf most bytes plan words q) x
   pub plan-after : plan′ ≡ bufferAfter (runOf most bytes plan words q) plan
   -- "Refusing a model or a setting changes no lent buffer"
   pub kept : (t : ℕ) → answerIn x plan′ .outcome ≡ byInput t → (plan′ ≡ plan) × (words′ ≡ words)

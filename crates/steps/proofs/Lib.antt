@@ -9,6 +9,7 @@ pub mod Evaluated
 pub mod Holding
 pub mod Trials
 pub mod Signs
+pub mod Costing
 pub mod Writing
 pub mod Moving
 pub mod Promises

@@ -30,23 +30,14 @@ use Rattle.steps.specs.declared.answers.AttemptAnswer.the-variants as A
 use Rattle.steps.specs.declared.answers.MoveAnswer.{MoveAnswer}
 use Rattle.steps.specs.declared.answers.MoveAnswer.the-variants as M
 use Rattle.steps.specs.InBytes.{Outlined, stateIn, systemIn}
-use Rattle.steps.specs.Answers.{heldAnswer, costAnswer, effectsAnswer, attemptAnswer, moveAnswer}
+use Rattle.steps.specs.Answers.{heldAnswer, effectsAnswer, attemptAnswer, moveAnswer}
 use Rattle.steps.specs.Says.{HeldSays, CostsSay, EffectsRead, EffectsSays, AttemptSay, TakenSays, TakenRead, TransitionRead, AttemptSays, Tried, AllowedSays, MoveSays}
 use Rattle.prepare.proofs.Items.{Nth, nth-of, none-beyond}
 use Rattle.steps.proofs.Readings.{costs-at, PartsAt, parts-at}
+use Rattle.steps.proofs.Costing.{costs-told, costs-troubles}
 use Rattle.steps.proofs.Trials.{constraintsIn, all-held, one-fails, one-troubles}
 
 -- ---- answers taken apart
-
-cost-is : (v : Value Cost) (n : ℕ) {c : Cost} {k : ℕ} → costAnswer v n ≡ C.Costs c k → (v ≡ value c) × (n ≡ k)
-unfolding costAnswer
-cost-is (value a) n e = (cc, cc)
-cost-is (trouble t) n e = let z : _≡_ {A = ℕ} 0 1 = cc in absurd (omega arith)
-
-cost-troubles : (v : Value Cost) (n : ℕ) {t : ℕ} → costAnswer v n ≡ C.Trouble t → v ≡ trouble t
-unfolding costAnswer
-cost-troubles (value a) n e = let z : _≡_ {A = ℕ} 0 1 = cc in absurd (omega arith)
-cost-troubles (trouble t) n e = cc
 
 effects-done : (v : Value State) → effectsAnswer v ≡ E.Done → (u : State) × (v ≡ value u)
 unfolding effectsAnswer
@@ -104,25 +95,25 @@ stops next e = rw e
 
 module _ (bytes : List ℕ) (at : ℕ) (state : List ℕ) (q : CostAnswer) (says : CostsSay bytes at state q) where
   pub take-stops : {t : ℕ} (child : List ℕ) → q ≡ C.Trouble t → TakenSays bytes at state child (A.Trouble t)
-  take-stops child e x n l k h g = says-trouble bytes child _ (stops _ (cost-troubles _ n (sym (says x n h) ∙ e)))
+  take-stops child e x n l k h g = says-trouble bytes child _ (stops _ (costs-troubles _ n (sym (says x n h) ∙ e)))
 
   module _ {c : Cost} {used : ℕ} (e : q ≡ C.Costs c used) where
     -- where the effects begin
     pub effects-begin : TakenRead bytes at → EffectsRead bytes (at + used)
-    effects-begin r = let p = cost-is _ (r .costs-read .used) (sym (says (r .costs-read .item) (r .costs-read .used) (r .costs-read .reads)) ∙ e) in rw (p .1) at (r .effects-read)
+    effects-begin r = let p = costs-told _ (r .costs-read .used) (sym (says (r .costs-read .item) (r .costs-read .used) (r .costs-read .reads)) ∙ e) in rw (p .1) at (r .effects-read)
 
     -- the effects go into a copy of the state
     module _ (child : List ℕ) (r : EffectsAnswer) (effected : EffectsSays bytes (at + used) state state child r) where
       pub take-done : r ≡ E.Done → TakenSays bytes at state child (A.Taken c)
       take-done d x n l k h g =
-          let p = cost-is _ n (sym (says x n h) ∙ e) in
+          let p = costs-told _ n (sym (says x n h) ∙ e) in
           let s = effected l k (rw (p .1) at g) in
           let w = effects-done _ (sym (s .answer) ∙ d) in
           says-taken bytes child _ (goes-on _ (p .0) ∙ goes-on _ (w .1)) (s .written (w .0) (w .1))
 
       pub take-troubles : {t : ℕ} → r ≡ E.Trouble t → TakenSays bytes at state child (A.Trouble t)
       take-troubles d x n l k h g =
-          let p = cost-is _ n (sym (says x n h) ∙ e) in
+          let p = costs-told _ n (sym (says x n h) ∙ e) in
           let s = effected l k (rw (p .1) at g) in
           let w = effects-trouble _ (sym (s .answer) ∙ d) in
           says-trouble bytes child _ (goes-on _ (p .0) ∙ stops _ w)

@@ -1,4 +1,4 @@
--- What readers read, by the positions of its parts: commands one behind the other, and the parts of a transition.
+-- What readers read, by the positions of its parts: commands one behind the other, a command that may stand there, and the parts of a transition.
 use Prim.Native.Nat.{ℕ, zero, suc, _+_, _*_, _<_}
 use mathlib.Core.Path.{_≡_, refl, sym, ap, _∙_}
 use mathlib.Core.Bool.{Bool, true, false, cond}
@@ -11,7 +11,7 @@ use lib.Seq.{getD-drop, drop-drop}
 use lib.Dec.{eqb}
 use borrow.Author.Tests.{eqb-true, eqb-false}
 use Rattle.model.specs.Numbers.{offLimits, mismatch, mostConditions, mostNesting, mostVariables}
-use Rattle.model.specs.Readers.{read, Reader, after, continue, _>>=_, _>>_, give, refuse, require, peek, byte, word, one, command, many, upTo}
+use Rattle.model.specs.Readers.{read, Reader, after, continue, _>>=_, _>>_, give, refuse, require, peek, byte, word, one, command, optional, many, upTo}
 use Rattle.model.specs.Syntax.{Element, Set, Condition, Number, Expression, ofSet, ofElement, ofNumber, aSet, anElement, aNumber, Variable, Table, Effect, StepCosts, Transition}
 use Rattle.model.specs.Expressions.{declared, element, set, number, condition}
 use Rattle.model.specs.Commands.{conditions, costs, effectTarget, expressionFor, effectOn, transition}
@@ -132,6 +132,56 @@ module _ {A B : Type 0} (c : ℕ) (head : ℕ → List B → Reader A) (body : A
   pub many-listed : (room at : ℕ) (l : List B) (u : ℕ) → loop room [] (drop at bytes) ≡ read l u → Listed c P bytes at l (at + u)
   many-listed room at l u h = let r = many-rest room [] at l u h in rw (r .whole) (r .listed)
 
+-- ---- a command that may stand at a place
+
+module _ {A : Type 0} (c : ℕ) (r : Reader A) (bytes : List ℕ) (at : ℕ) where
+  -- what is read behind its byte
+  pub record Written (o : Option A) (next : ℕ) : Type 0 where
+    pub item : A
+    pub used : ℕ
+    pub whole : o ≡ some item
+    pub reads : r (drop (at + 1) bytes) ≡ read item used
+    pub ends : next ≡ at + 1 + used
+
+  -- the byte that stands there decides
+  pub record OptionalAt (o : Option A) (next : ℕ) : Type 0 where
+    pub written : getD bytes at 0 ≡ c → Written o next
+    pub absent : (getD bytes at 0 ≡ c → ⊥) → (o ≡ O.none) × (next ≡ at)
+
+  is-written : {o : Option A} {next : ℕ} → getD bytes at 0 ≡ c → Written o next → OptionalAt o next
+  is-written e w = record { written = λ _. w; absent = λ h. absurd (h e) }
+
+  is-absent : {o : Option A} {next : ℕ} → (getD bytes at 0 ≡ c → ⊥) → (o ≡ O.none) × (next ≡ at) → OptionalAt o next
+  is-absent e w = record { written = λ h. absurd (e h); absent = λ _. w }
+
+  -- by the test of the byte; n bytes of the look at it, m of what is read
+  by-test : (o : Option A) (b n m u : ℕ) (t : Bool) → eqb b c ≡ t → getD bytes at 0 ≡ b → n ≡ 0 → u ≡ n + m → cond t (byte >> one r some) (give O.none) (drop n (drop at bytes)) ≡ read o m → OptionalAt o (at + u)
+  unfolding _>>=_ _>>_ one
+  by-test o b n m u false e f z v h =
+      let g = given O.none (drop n (drop at bytes)) o m h in
+      is-absent (λ i. eqb-false b c e (sym f ∙ i)) (sym (g .0), omega (arith, g .1))
+  by-test o b n m u true e f z v h =
+      let c1 = chain (byte (drop n (drop at bytes))) (λ _. one r some) (drop n (drop at bytes)) o m h in
+      let one-used = byte-used (drop n (drop at bytes)) (c1 .first) (c1 .used) (c1 .reads-first) in
+      let behind : drop (c1 .used) (drop n (drop at bytes)) ≡ drop (at + 1) bytes = rw (one-used .0, z) (drop-drop 1 at bytes) in
+      let c2 = chain (r (drop (c1 .used) (drop n (drop at bytes)))) (λ x. give (some x)) (drop (c1 .used) (drop n (drop at bytes))) o (c1 .left) (c1 .reads-next) in
+      let g = given (some (c2 .first)) _ o (c2 .left) (c2 .reads-next) in
+      is-written (f ∙ eqb-true b c e)
+      (record {
+        item = c2 .first;
+        used = c2 .used;
+        whole = sym (g .0);
+        reads = ap r (sym behind) ∙ c2 .reads-first;
+        ends = omega (arith, one-used .0, c1 .uses, c2 .uses, g .1);
+      })
+
+  pub optional-at : (o : Option A) (n : ℕ) → optional c r (drop at bytes) ≡ read o n → OptionalAt o (at + n)
+  unfolding optional _>>=_
+  optional-at o n h =
+      let p = chain (peek (drop at bytes)) (λ b. cond (eqb b c) (byte >> one r some) (give O.none)) (drop at bytes) o n h in
+      let q = peeked (drop at bytes) (p .first) (p .used) (p .reads-first) in
+      by-test o (p .first) (p .used) (p .left) n (eqb (p .first) c) refl (sym (front-byte bytes at) ∙ q .1) (q .0) (p .uses) (p .reads-next)
+
 -- ---- conditions and effects
 
 module _ (vs : List Variable) (ts : List Table) (bytes : List ℕ) where
@@ -208,12 +258,12 @@ module _ (vs : List Variable) (ts : List Table) (bytes : List ℕ) where
 
   -- ---- a step's costs
 
-  -- 09, then the number
+  -- 09, then the number; 10 and its number, where they are written
   pub record CostsAt (at : ℕ) (k : StepCosts) (next : ℕ) : Type 0 where
     pub used : ℕ
     pub there : getD bytes at 0 ≡ 0x09
     pub reads : number vs ts mostNesting (drop (at + 1) bytes) ≡ read (k .cost) used
-    pub ends : next ≡ at + 1 + used
+    pub high : OptionalAt 0x10 (number vs ts mostNesting) bytes (at + 1 + used) (k .high) next
 
   pub costs-at : (at : ℕ) (k : StepCosts) (n : ℕ) → costs vs ts (drop at bytes) ≡ read k n → CostsAt at k (at + n)
   unfolding costs _>>=_ _>>_
@@ -222,13 +272,17 @@ module _ (vs : List Variable) (ts : List Table) (bytes : List ℕ) where
       let c1 = chain (command 0x09 e) _ e k n h in
       let w = commanded 0x09 e (c1 .first) (c1 .used) (c1 .reads-first) in
       let c2 = chain (number vs ts mostNesting (drop (c1 .used) e)) _ (drop (c1 .used) e) k (c1 .left) (c1 .reads-next) in
-      let g = given _ _ k (c2 .left) (c2 .reads-next) in
+      let c3 = chain (optional 0x10 (number vs ts mostNesting) (drop (c2 .used) (drop (c1 .used) e))) _ (drop (c2 .used) (drop (c1 .used) e)) k (c2 .left) (c2 .reads-next) in
+      let g = given _ _ k (c3 .left) (c3 .reads-next) in
       let behind : drop (c1 .used) e ≡ drop (at + 1) bytes = rw (w .0) (drop-drop 1 at bytes) in
+      let further : drop (c2 .used) (drop (c1 .used) e) ≡ drop (at + 1 + c2 .used) bytes = ap (drop (c2 .used)) behind ∙ drop-drop (c2 .used) (at + 1) bytes in
+      let ends : at + 1 + c2 .used + c3 .used ≡ at + n = omega (arith, w .0, c1 .uses, c2 .uses, c3 .uses, g .1) in
+      let reads-high : optional 0x10 (number vs ts mostNesting) (drop (at + 1 + c2 .used) bytes) ≡ read (k .high) (c3 .used) = ap (optional 0x10 (number vs ts mostNesting)) (sym further) ∙ c3 .reads-first ∙ ap (λ (i : StepCosts). read (i .high) (c3 .used)) (g .0) in
       record {
         used = c2 .used;
         there = sym (front-byte bytes at) ∙ w .1;
         reads = ap (number vs ts mostNesting) (sym behind) ∙ c2 .reads-first ∙ ap (λ (i : StepCosts). read (i .cost) (c2 .used)) (g .0);
-        ends = omega (arith, w .0, c1 .uses, c2 .uses, g .1);
+        high = rw ends at (optional-at 0x10 (number vs ts mostNesting) bytes (at + 1 + c2 .used) (k .high) (c3 .used) reads-high);
       }
 
   -- ---- a transition

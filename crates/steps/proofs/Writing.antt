@@ -9,12 +9,10 @@ use lib.IntN.{ℤ, pos, _+ℤ_}
 use Rattle.model.specs.Numbers.{rangeEnd}
 use Rattle.model.specs.Values.{Value, value, trouble, _>>=_}
 use Rattle.model.specs.Readers.{read}
-use Rattle.model.specs.Syntax.{Kind, aSet, anElement, aNumber, Expression, Variable, Effect, StepCosts}
-use Rattle.model.specs.Commands.{costs, expressionFor}
-use Rattle.model.specs.Meaning.{State, numberValue, expressionValue}
-use Rattle.model.specs.declared.Cost.{Cost}
-use Rattle.model.specs.Costs.{fixed}
-use Rattle.model.specs.Steps.{costOf, stepCost, effects}
+use Rattle.model.specs.Syntax.{Kind, aSet, anElement, aNumber, Expression, Variable, Effect}
+use Rattle.model.specs.Commands.{expressionFor}
+use Rattle.model.specs.Meaning.{State, expressionValue}
+use Rattle.model.specs.Steps.{effects}
 use Rattle.words.specs.States.{valueOf}
 use Rattle.words.specs.Signature.{Objects, kindByteOf, kindByte}
 use Rattle.words.proofs.Integers.{word-back}
@@ -23,46 +21,22 @@ use Rattle.eval_sets.specs.declared.answers.NumberValue.{NumberValue}
 use Rattle.eval_sets.specs.declared.answers.NumberValue.the-variants as N
 use Rattle.eval_sets.specs.declared.answers.ElementValue.{ElementValue}
 use Rattle.eval_sets.specs.declared.answers.SetValue.{SetValue}
-use Rattle.eval_sets.specs.Answers.{numberAnswer, setAnswer}
+use Rattle.eval_sets.specs.Answers.{setAnswer}
 use Rattle.quick.specs.Sets.{ChangedForm, changedIn}
 use Rattle.quick.proofs.Changes.{changed-says}
-use Rattle.steps.specs.declared.answers.CostAnswer.{CostAnswer}
-use Rattle.steps.specs.declared.answers.CostAnswer.the-variants as C
 use Rattle.steps.specs.declared.answers.WordAnswer.{WordAnswer}
 use Rattle.steps.specs.declared.answers.WordAnswer.the-variants as W
 use Rattle.steps.specs.declared.answers.EffectsAnswer.the-variants as E
 use Rattle.steps.specs.InBytes.{Outlined, stateIn}
-use Rattle.steps.specs.Answers.{costAnswer, effectsAnswer}
-use Rattle.steps.specs.Says.{effectList, NumberSays, ElementSays, SetSays, CostsSay, CostWithin, WordIs, WordWithin, NumberWordSays, WordSays, EffectsRead, EffectsSays}
+use Rattle.steps.specs.Answers.{effectsAnswer}
+use Rattle.steps.specs.Says.{effectList, NumberSays, ElementSays, SetSays, WordIs, WordWithin, NumberWordSays, WordSays, EffectsRead, EffectsSays}
 use Rattle.laws.proofs.Lists.{found-below}
 use Rattle.steps.proofs.StateWords.{state-set}
-use Rattle.steps.proofs.Readings.{Listed, costs-at, EffectAt, effects-listed, First, first-of, none-of, set-for, element-for, number-for}
+use Rattle.steps.proofs.Readings.{Listed, EffectAt, effects-listed, First, first-of, none-of, set-for, element-for, number-for}
 use Rattle.quick.proofs.Totals.{number-is}
 use Rattle.steps.proofs.Trials.{number-troubles}
 
--- ---- costs and numbers, from the evaluator's answer
-
--- the costs at a place, whose number stands behind 09
-module _ (bytes : List ℕ) (at : ℕ) (state : List ℕ) (q : NumberValue) (says : NumberSays bytes (at + 1) state q) where
-  told : (k : StepCosts) (n : ℕ) → costs (modelOf bytes .variables) (modelOf bytes .tables) (drop at bytes) ≡ read k n
-      → (used : ℕ) × (n ≡ used + 1) × (numberAnswer (numberValue rangeEnd (modelOf bytes .tables) (k .cost) (stateIn bytes state)) used ≡ q)
-  told k n h = let p = costs-at _ _ bytes at k n h in (p .used, omega (arith, p .ends), sym (says (k .cost) (p .used) (p .reads)))
-
-  pub costs-say : {z : ℤ} {n c : ℕ} → q ≡ N.Value z n → costOf z ≡ value c → CostsSay bytes at state (C.Costs (fixed c) (n + 1))
-  unfolding costAnswer stepCost _>>=_
-  costs-say {n = n} e f k m h =
-      let t = told k m h in
-      let p = number-is _ (t .0) (t .2 ∙ e) in
-      let used : m ≡ n + 1 = omega (arith, t .1, p .1) in
-      rw (p .0, f, used)
-
-  pub costs-refused : {z : ℤ} {n t : ℕ} → q ≡ N.Value z n → costOf z ≡ trouble t → CostsSay bytes at state (C.Trouble t)
-  unfolding costAnswer stepCost _>>=_
-  costs-refused e f k m h = let t = told k m h in let p = number-is _ (t .0) (t .2 ∙ e) in rw (p .0, f)
-
-  pub costs-trouble : {t : ℕ} → q ≡ N.Trouble t → CostsSay bytes at state (C.Trouble t)
-  unfolding costAnswer stepCost _>>=_
-  costs-trouble e k m h = let t = told k m h in let p = number-troubles _ (t .0) (t .2 ∙ e) in rw p
+-- ---- a number's word, from the evaluator's answer
 
 module _ (bytes : List ℕ) (at : ℕ) (state : List ℕ) (q : NumberValue) (says : NumberSays bytes at state q) where
   pub number-word-says : {z : ℤ} {n w : ℕ} → q ≡ N.Value z n → (pos w ≡ z +ℤ pos rangeEnd) × (w < 2 ^ 32) → NumberWordSays bytes at state (W.Word w n)
@@ -135,9 +109,6 @@ module _ (bytes : List ℕ) (at : ℕ) (state : List ℕ) where
 
 pub word-within : (l : ℕ) {r : WordAnswer} {w n : ℕ} → r ≡ W.Word w n → WordWithin l r → n ≤ l
 word-within l e h = rw e at h
-
-pub cost-within : (l : ℕ) {r : CostAnswer} {c : Cost} {n : ℕ} → r ≡ C.Costs c n → CostWithin l r → n ≤ l
-cost-within l e h = rw e at h
 
 word-is : (k : Kind) (v : Value ℤ) (n : ℕ) {r : WordAnswer} {w i : ℕ} → WordIs k v n r → r ≡ W.Word w i → (v ≡ value (valueOf k w)) × (n ≡ i)
 word-is k (value z) n {r} {w} {i} s e =

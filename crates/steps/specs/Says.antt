@@ -17,7 +17,7 @@ use Rattle.model.specs.declared.Cost.{Cost}
 use Rattle.model.specs.Expressions as reading
 use Rattle.model.specs.Commands.{conditions, costs, effectTarget, effectOn, expressionFor, transition}
 use Rattle.model.specs.Meaning.{State, elementValue, setValue, numberValue, conditionValue, expressionValue, allHold}
-use Rattle.model.specs.Steps.{stepCost, effects, Attempt, taken, attempt}
+use Rattle.model.specs.Steps.{withHigh, stepCost, effects, Attempt, taken, attempt}
 use Rattle.words.specs.States.{valueOf}
 use Rattle.eval_sets.specs.declared.answers.NumberValue.{NumberValue}
 use Rattle.eval_sets.specs.declared.answers.ConditionValue.{ConditionValue}
@@ -105,7 +105,12 @@ module _ (bytes : List ℕ) where
     HeldSays r = (l : List Condition) (n : ℕ) → conditions variablesIn tablesIn (drop at bytes) ≡ read l n
         → r ≡ heldAnswer (allHold rangeEnd tablesIn l (stateIn bytes state)) (at + n)
 
-    -- what a step costs, 09 and its number
+    -- what a step of this low cost costs, 10 and its number
+    abbrev pub RangeSays : (low : ℕ) → CostAnswer → Type 0
+    RangeSays low r = (x : Number) (n : ℕ) → reading.number variablesIn tablesIn mostNesting (drop (at + 1) bytes) ≡ read x n
+        → r ≡ costAnswer (withHigh rangeEnd (modelOf bytes) (some x) low (stateIn bytes state)) (n + 1)
+
+    -- what a step costs, 09 and its number, and 10 and its number where they are written
     abbrev pub CostsSay : CostAnswer → Type 0
     CostsSay r = (k : StepCosts) (n : ℕ) → costs variablesIn tablesIn (drop at bytes) ≡ read k n → r ≡ costAnswer (stepCost rangeEnd (modelOf bytes) k (stateIn bytes state)) n
 

@@ -9,10 +9,11 @@ ghost use Rattle.outline.specs.Outline.{modelOf};
 ghost use Rattle.eval_sets.specs.Bounds.{NumberWithin};
 ghost use Rattle.steps.specs.InBytes.{Outlined, StateRoom, stateIn, systemIn};
 ghost use Rattle.steps.specs.Answers.{moveAnswer};
-ghost use Rattle.steps.specs.Says.{NumberSays, CostsSay, CostWithin, NumberWordSays, WordSays, WordWithin, EffectsRead, EffectsSays, TakenRead, TakenSays, TransitionRead, AttemptSays, Tried, AllowedSays, MoveSays};
+ghost use Rattle.steps.specs.Says.{NumberSays, RangeSays, CostsSay, CostWithin, NumberWordSays, WordSays, WordWithin, EffectsRead, EffectsSays, TakenRead, TakenSays, TransitionRead, AttemptSays, Tried, AllowedSays, MoveSays};
 use crate::answers::AttemptAnswer;
 use crate::answers::CostAnswer;
 use crate::answers::EffectsAnswer;
+use crate::answers::HIGH_BELOW_LOW;
 use crate::answers::HeldAnswer;
 use crate::answers::MoveAnswer;
 use crate::answers::NEGATIVE_COST;
@@ -65,7 +66,38 @@ fn cost_number(
     number_near(model, at, outline, state)
 }
 
-// What a step costs, from 09 on; a negative number is trouble.
+// What a step costs whose low cost is known, from 10 on; a high cost below the low one is trouble.
+fn range_at(
+    model: &[u8],
+    at: usize,
+    outline: &[u64; PREPARED_WORDS],
+    state: &[u64; STATE_WORDS],
+    low: u64,
+) -> CostAnswer
+    requires { ⌜ Outlined (now model) (now outline) × (at < length (now model)) ⌝ }
+    ensures { λ r. ⌜ RangeSays (now (model .entry)) at (now (state .entry)) low r × CostWithin (length (now (model .entry)) - at) r ⌝ }
+{
+    match number_near(model, at + 1, outline, state) {
+        NumberValue::Value(z, used) => {
+            if z < 0 {
+                return CostAnswer::Trouble(HIGH_BELOW_LOW);
+            }
+            let high = z as u64;
+            if high < low {
+                return CostAnswer::Trouble(HIGH_BELOW_LOW);
+            }
+            let cost = Cost {
+                high: high,
+                low: low,
+                moves: 0,
+            };
+            CostAnswer::Costs(cost, used + 1)
+        }
+        NumberValue::Trouble(t) => CostAnswer::Trouble(t),
+    }
+}
+
+// What a step costs, from 09 on: the low cost, then the high one where it is written. A negative number is trouble.
 fn costs_at(
     model: &[u8],
     at: usize,
@@ -80,7 +112,15 @@ fn costs_at(
             if z < 0 {
                 return CostAnswer::Trouble(NEGATIVE_COST);
             }
-            let cost = fixed(z as u64);
+            let low = z as u64;
+            let next = at + 1 + used;
+            if byte_at(model, next) == 0x10 {
+                return match range_at(model, next, outline, state, low) {
+                    CostAnswer::Costs(cost, more) => CostAnswer::Costs(cost, used + 1 + more),
+                    CostAnswer::Trouble(t) => CostAnswer::Trouble(t),
+                };
+            }
+            let cost = fixed(low);
             CostAnswer::Costs(cost, used + 1)
         }
         NumberValue::Trouble(t) => CostAnswer::Trouble(t),

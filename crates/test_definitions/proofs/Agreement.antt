@@ -29,6 +29,11 @@ use Rattle.test_definitions.specs.Loads3 as Loads3
 use Rattle.test_definitions.specs.Widths1 as Widths1
 use Rattle.test_definitions.specs.Widths2 as Widths2
 use Rattle.test_definitions.specs.Widths3 as Widths3
+use Rattle.test_definitions.specs.Ranges1 as Ranges1
+use Rattle.test_definitions.specs.Ranges2 as Ranges2
+use Rattle.test_definitions.specs.Ranges3 as Ranges3
+use Rattle.test_definitions.specs.Ranges4 as Ranges4
+use Rattle.test_definitions.specs.Ranges5 as Ranges5
 
 unfoldable pub sameList : List ℕ → List ℕ → Bool
 sameList [] [] = true
@@ -39,7 +44,7 @@ sameList (x ∷ xs) (y ∷ ys) = eqb x y && sameList xs ys
 -- what the definitions tell is these fields, and this buffer afterwards
 unfoldable pub isTold : Told → (fields after : List ℕ) → Bool
 isTold (answer refusal fields after) fields′ after′ = sameList (cond refusal 1 0 ∷ fields) fields′ && sameList after after′
-isTold (checked number cost) fields′ after′ = sameList (number ∷ cost ∷ []) fields′
+isTold (checked number cost low) fields′ after′ = sameList (number ∷ cost ∷ low ∷ []) fields′
 isTold (valued v) fields′ after′ = false
 
 unfoldable pub agrees : Case → Bool
@@ -47,7 +52,7 @@ agrees (searched model widest limit budget buffer words fields after) = isTold (
 agrees (loaded model widest budget buffer words fields after) = isTold (opened (loadOf model widest budget buffer words)) fields after
 agrees (searchedListed model widths limit budget buffer words fields after) = isTold (opened (listedOf model widths limit budget buffer words)) fields after
 agrees (loadedListed model widths budget buffer words fields after) = isTold (opened (loadListedOf model widths budget buffer words)) fields after
-agrees (Case.checked model plan number cost) = isTold (opened (checkOf model plan)) (number ∷ cost ∷ []) []
+agrees (Case.checked model plan number cost low) = isTold (opened (checkOf model plan)) (number ∷ cost ∷ low ∷ []) []
 
 -- the places, counted from k, of the cases that disagree
 unfoldable pub disagreeing : (k : ℕ) → List Case → List ℕ
@@ -137,3 +142,23 @@ widths-2 = refl
 pub widths-3 : disagreeing 1 Widths3.cases ≡ []
 unfolding disagreeing agrees isTold sameList opened hex zeros
 widths-3 = refl
+
+pub ranges-1 : disagreeing 1 Ranges1.cases ≡ []
+unfolding disagreeing agrees isTold sameList opened hex zeros
+ranges-1 = refl
+
+pub ranges-2 : disagreeing 1 Ranges2.cases ≡ []
+unfolding disagreeing agrees isTold sameList opened hex zeros
+ranges-2 = refl
+
+pub ranges-3 : disagreeing 1 Ranges3.cases ≡ []
+unfolding disagreeing agrees isTold sameList opened hex zeros
+ranges-3 = refl
+
+pub ranges-4 : disagreeing 1 Ranges4.cases ≡ []
+unfolding disagreeing agrees isTold sameList opened hex zeros
+ranges-4 = refl
+
+pub ranges-5 : disagreeing 1 Ranges5.cases ≡ []
+unfolding disagreeing agrees isTold sameList opened hex zeros
+ranges-5 = refl

@@ -22,6 +22,11 @@ use Rattle.test_definitions.specs.Loads3 as Loads3
 use Rattle.test_definitions.specs.Widths1 as Widths1
 use Rattle.test_definitions.specs.Widths2 as Widths2
 use Rattle.test_definitions.specs.Widths3 as Widths3
+use Rattle.test_definitions.specs.Ranges1 as Ranges1
+use Rattle.test_definitions.specs.Ranges2 as Ranges2
+use Rattle.test_definitions.specs.Ranges3 as Ranges3
+use Rattle.test_definitions.specs.Ranges4 as Ranges4
+use Rattle.test_definitions.specs.Ranges5 as Ranges5
 
 abbrev pub cases : List Case
-cases = Reading1.cases ++ Reading2.cases ++ Reading3.cases ++ Reading4.cases ++ Reading5.cases ++ Reading6.cases ++ Meaning1.cases ++ Meaning2.cases ++ Plans1.cases ++ Plans2.cases ++ Searches1.cases ++ Searches2.cases ++ Searches3.cases ++ Searches4.cases ++ Searches5.cases ++ Loads1.cases ++ Loads2.cases ++ Loads3.cases ++ Widths1.cases ++ Widths2.cases ++ Widths3.cases
+cases = Reading1.cases ++ Reading2.cases ++ Reading3.cases ++ Reading4.cases ++ Reading5.cases ++ Reading6.cases ++ Meaning1.cases ++ Meaning2.cases ++ Plans1.cases ++ Plans2.cases ++ Searches1.cases ++ Searches2.cases ++ Searches3.cases ++ Searches4.cases ++ Searches5.cases ++ Loads1.cases ++ Loads2.cases ++ Loads3.cases ++ Widths1.cases ++ Widths2.cases ++ Widths3.cases ++ Ranges1.cases ++ Ranges2.cases ++ Ranges3.cases ++ Ranges4.cases ++ Ranges5.cases

@@ -11,5 +11,5 @@ pub data Case : Type 0 where
   searchedListed : (model widths : List ℕ) (limit budget : ℕ) (buffer : List ℕ) (words : ℕ) (fields after : List ℕ) → Case
   -- the same in the loading profile
   loadedListed : (model widths : List ℕ) (budget : ℕ) (buffer : List ℕ) (words : ℕ) (fields after : List ℕ) → Case
-  -- a plan check: model, plan; then the answer number and the cost
-  checked : (model plan : List ℕ) (answer cost : ℕ) → Case
+  -- a plan check: model, plan; then the answer number, the cost and the low cost
+  checked : (model plan : List ℕ) (answer cost low : ℕ) → Case

@@ -21,4 +21,9 @@ pub mod Loads3
 pub mod Widths1
 pub mod Widths2
 pub mod Widths3
+pub mod Ranges1
+pub mod Ranges2
+pub mod Ranges3
+pub mod Ranges4
+pub mod Ranges5
 pub mod All

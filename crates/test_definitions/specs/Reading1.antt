@@ -7,109 +7,109 @@ use Rattle.test_definitions.specs.Case.{Case, searched, checked}
 abbrev pub cases : List Case
 cases =
     -- empty input
-    checked (hex 0 0x00) (hex 0 0x00) 4 0
+    checked (hex 0 0x00) (hex 0 0x00) 4 0 0
     -- 01 with its operand cut
-    ∷ checked (hex 1 0x01) (hex 0 0x00) 4 0
+    ∷ checked (hex 1 0x01) (hex 0 0x00) 4 0 0
     -- cost rule 2
-    ∷ checked (hex 3 0x01_02_0e) (hex 0 0x00) 7 0
+    ∷ checked (hex 3 0x01_02_0e) (hex 0 0x00) 7 0 0
     -- no end command
-    ∷ checked (hex 2 0x01_00) (hex 0 0x00) 4 0
+    ∷ checked (hex 2 0x01_00) (hex 0 0x00) 4 0 0
     -- the shortest model
-    ∷ checked (hex 3 0x01_00_0e) (hex 0 0x00) 14 0
+    ∷ checked (hex 3 0x01_00_0e) (hex 0 0x00) 14 0 0
     -- the shortest model, largest rule
-    ∷ checked (hex 3 0x01_01_0e) (hex 0 0x00) 14 0
+    ∷ checked (hex 3 0x01_01_0e) (hex 0 0x00) 14 0 0
     -- no 01: the end command first
-    ∷ checked (hex 1 0x0e) (hex 0 0x00) 5 0
+    ∷ checked (hex 1 0x0e) (hex 0 0x00) 5 0 0
     -- no 01: a variable first
-    ∷ checked (hex 7 0x04_00_00_00_00_00_0e) (hex 0 0x00) 5 0
+    ∷ checked (hex 7 0x04_00_00_00_00_00_0e) (hex 0 0x00) 5 0 0
     -- byte FF first
-    ∷ checked (hex 1 0xff) (hex 0 0x00) 5 0
+    ∷ checked (hex 1 0xff) (hex 0 0x00) 5 0 0
     -- a second 01
-    ∷ checked (hex 5 0x01_00_01_00_0e) (hex 0 0x00) 5 0
+    ∷ checked (hex 5 0x01_00_01_00_0e) (hex 0 0x00) 5 0 0
     -- a byte after the end
-    ∷ checked (hex 4 0x01_00_0e_00) (hex 0 0x00) 9 0
+    ∷ checked (hex 4 0x01_00_0e_00) (hex 0 0x00) 9 0 0
     -- a second end command
-    ∷ checked (hex 4 0x01_00_0e_0e) (hex 0 0x00) 9 0
+    ∷ checked (hex 4 0x01_00_0e_0e) (hex 0 0x00) 9 0 0
     -- a fault before bytes after the end
-    ∷ checked (hex 5 0x01_00_06_0e_00) (hex 0 0x00) 5 0
+    ∷ checked (hex 5 0x01_00_06_0e_00) (hex 0 0x00) 5 0 0
     -- an 06 without a table
-    ∷ checked (hex 8 0x01_00_06_00_00_00_00_0e) (hex 0 0x00) 5 0
+    ∷ checked (hex 8 0x01_00_06_00_00_00_00_0e) (hex 0 0x00) 5 0 0
     -- an 08 without a transition
-    ∷ checked (hex 4 0x01_00_08_0e) (hex 0 0x00) 5 0
+    ∷ checked (hex 4 0x01_00_08_0e) (hex 0 0x00) 5 0 0
     -- an 09 without a transition
-    ∷ checked (hex 4 0x01_00_09_0e) (hex 0 0x00) 5 0
+    ∷ checked (hex 4 0x01_00_09_0e) (hex 0 0x00) 5 0 0
     -- an 0A without a transition
-    ∷ checked (hex 4 0x01_00_0a_0e) (hex 0 0x00) 5 0
+    ∷ checked (hex 4 0x01_00_0a_0e) (hex 0 0x00) 5 0 0
     -- byte 0F where a command is due
-    ∷ checked (hex 4 0x01_00_0f_0e) (hex 0 0x00) 5 0
+    ∷ checked (hex 4 0x01_00_0f_0e) (hex 0 0x00) 5 0 0
     -- exactly 65,536 bytes are read
-    ∷ checked (zeros 65536) (hex 0 0x00) 5 0
+    ∷ checked (zeros 65536) (hex 0 0x00) 5 0 0
     -- 65,537 bytes
-    ∷ checked (zeros 65537) (hex 0 0x00) 1 0
+    ∷ checked (zeros 65537) (hex 0 0x00) 1 0 0
     -- 02 without operands
-    ∷ checked (hex 3 0x01_00_02) (hex 0 0x00) 4 0
+    ∷ checked (hex 3 0x01_00_02) (hex 0 0x00) 4 0 0
     -- 02 with its members cut
-    ∷ checked (hex 11 0x01_00_02_04_00_00_00_00_00_00_00) (hex 0 0x00) 4 0
+    ∷ checked (hex 11 0x01_00_02_04_00_00_00_00_00_00_00) (hex 0 0x00) 4 0 0
     -- 02 with count 0 and its members cut
-    ∷ checked (hex 4 0x01_00_02_00) (hex 0 0x00) 4 0
+    ∷ checked (hex 4 0x01_00_02_00) (hex 0 0x00) 4 0 0
     -- a set of no objects
-    ∷ checked (hex 13 0x01_00_02_00_00_00_00_00_00_00_00_00_0e) (hex 0 0x00) 7 0
+    ∷ checked (hex 13 0x01_00_02_00_00_00_00_00_00_00_00_00_0e) (hex 0 0x00) 7 0 0
     -- a set of 64 objects, all in it
-    ∷ checked (hex 13 0x01_00_02_40_ff_ff_ff_ff_ff_ff_ff_ff_0e) (hex 0 0x00) 14 0
+    ∷ checked (hex 13 0x01_00_02_40_ff_ff_ff_ff_ff_ff_ff_ff_0e) (hex 0 0x00) 14 0 0
     -- a set of 65 objects
-    ∷ checked (hex 13 0x01_00_02_41_00_00_00_00_00_00_00_00_0e) (hex 0 0x00) 7 0
+    ∷ checked (hex 13 0x01_00_02_41_00_00_00_00_00_00_00_00_0e) (hex 0 0x00) 7 0 0
     -- a start member at the count
-    ∷ checked (hex 13 0x01_00_02_03_08_00_00_00_00_00_00_00_0e) (hex 0 0x00) 7 0
+    ∷ checked (hex 13 0x01_00_02_03_08_00_00_00_00_00_00_00_0e) (hex 0 0x00) 7 0 0
     -- every object a start member
-    ∷ checked (hex 13 0x01_00_02_03_07_00_00_00_00_00_00_00_0e) (hex 0 0x00) 14 0
+    ∷ checked (hex 13 0x01_00_02_03_07_00_00_00_00_00_00_00_0e) (hex 0 0x00) 14 0 0
     -- start member 63 of 63 objects
-    ∷ checked (hex 13 0x01_00_02_3f_00_00_00_00_00_00_00_80_0e) (hex 0 0x00) 7 0
+    ∷ checked (hex 13 0x01_00_02_3f_00_00_00_00_00_00_00_80_0e) (hex 0 0x00) 7 0 0
     -- 03 with its operands cut
-    ∷ checked (hex 5 0x01_00_03_00_03) (hex 0 0x00) 4 0
+    ∷ checked (hex 5 0x01_00_03_00_03) (hex 0 0x00) 4 0 0
     -- an element of no objects
-    ∷ checked (hex 7 0x01_00_03_00_00_00_0e) (hex 0 0x00) 7 0
+    ∷ checked (hex 7 0x01_00_03_00_00_00_0e) (hex 0 0x00) 7 0 0
     -- an element of 64 objects, start 63
-    ∷ checked (hex 7 0x01_00_03_40_01_3f_0e) (hex 0 0x00) 14 0
+    ∷ checked (hex 7 0x01_00_03_40_01_3f_0e) (hex 0 0x00) 14 0 0
     -- an element of 65 objects
-    ∷ checked (hex 7 0x01_00_03_41_00_00_0e) (hex 0 0x00) 7 0
+    ∷ checked (hex 7 0x01_00_03_41_00_00_0e) (hex 0 0x00) 7 0 0
     -- an element start at its count
-    ∷ checked (hex 7 0x01_00_03_04_00_04_0e) (hex 0 0x00) 7 0
+    ∷ checked (hex 7 0x01_00_03_04_00_04_0e) (hex 0 0x00) 7 0 0
     -- element preference 3
-    ∷ checked (hex 7 0x01_00_03_04_03_00_0e) (hex 0 0x00) 7 0
+    ∷ checked (hex 7 0x01_00_03_04_03_00_0e) (hex 0 0x00) 7 0 0
     -- element preference 2
-    ∷ checked (hex 7 0x01_00_03_04_02_03_0e) (hex 0 0x00) 14 0
+    ∷ checked (hex 7 0x01_00_03_04_02_03_0e) (hex 0 0x00) 14 0 0
     -- 04 with its operands cut
-    ∷ checked (hex 7 0x01_00_04_03_00_00_00) (hex 0 0x00) 4 0
+    ∷ checked (hex 7 0x01_00_04_03_00_00_00) (hex 0 0x00) 4 0 0
     -- number preference 3
-    ∷ checked (hex 9 0x01_00_04_03_00_00_00_00_0e) (hex 0 0x00) 7 0
+    ∷ checked (hex 9 0x01_00_04_03_00_00_00_00_0e) (hex 0 0x00) 7 0 0
     -- number starts at both ends of the range
-    ∷ checked (hex 15 0x01_00_04_01_00_00_00_80_04_02_ff_ff_ff_7f_0e) (hex 0 0x00) 14 0
+    ∷ checked (hex 15 0x01_00_04_01_00_00_00_80_04_02_ff_ff_ff_7f_0e) (hex 0 0x00) 14 0 0
     -- 05 with its operands cut
-    ∷ checked (hex 4 0x01_00_05_00) (hex 0 0x00) 4 0
+    ∷ checked (hex 4 0x01_00_05_00) (hex 0 0x00) 4 0 0
     -- a table of no rows
-    ∷ checked (hex 6 0x01_00_05_00_01_0e) (hex 0 0x00) 7 0
+    ∷ checked (hex 6 0x01_00_05_00_01_0e) (hex 0 0x00) 7 0 0
     -- a table of 65 columns
-    ∷ checked (hex 6 0x01_00_05_01_41_0e) (hex 0 0x00) 7 0
+    ∷ checked (hex 6 0x01_00_05_01_41_0e) (hex 0 0x00) 7 0 0
     -- a table of 64 rows
-    ∷ checked (hex 326 0x01_00_05_40_01_06_ff_ff_ff_ff_06_ff_ff_ff_ff_06_ff_ff_ff_ff_06_ff_ff_ff_ff_06_ff_ff_ff_ff_06_ff_ff_ff_ff_06_ff_ff_ff_ff_06_ff_ff_ff_ff_06_ff_ff_ff_ff_06_ff_ff_ff_ff_06_ff_ff_ff_ff_06_ff_ff_ff_ff_06_ff_ff_ff_ff_06_ff_ff_ff_ff_06_ff_ff_ff_ff_06_ff_ff_ff_ff_06_ff_ff_ff_ff_06_ff_ff_ff_ff_06_ff_ff_ff_ff_06_ff_ff_ff_ff_06_ff_ff_ff_ff_06_ff_ff_ff_ff_06_ff_ff_ff_ff_06_ff_ff_ff_ff_06_ff_ff_ff_ff_06_ff_ff_ff_ff_06_ff_ff_ff_ff_06_ff_ff_ff_ff_06_ff_ff_ff_ff_06_ff_ff_ff_ff_06_ff_ff_ff_ff_06_ff_ff_ff_ff_06_ff_ff_ff_ff_06_ff_ff_ff_ff_06_ff_ff_ff_ff_06_ff_ff_ff_ff_06_ff_ff_ff_ff_06_ff_ff_ff_ff_06_ff_ff_ff_ff_06_ff_ff_ff_ff_06_ff_ff_ff_ff_06_ff_ff_ff_ff_06_ff_ff_ff_ff_06_ff_ff_ff_ff_06_ff_ff_ff_ff_06_ff_ff_ff_ff_06_ff_ff_ff_ff_06_ff_ff_ff_ff_06_ff_ff_ff_ff_06_ff_ff_ff_ff_06_ff_ff_ff_ff_06_ff_ff_ff_ff_06_ff_ff_ff_ff_06_ff_ff_ff_ff_06_ff_ff_ff_ff_06_ff_ff_ff_ff_06_ff_ff_ff_ff_06_ff_ff_ff_ff_06_ff_ff_ff_ff_06_ff_ff_ff_ff_06_ff_ff_ff_ff_06_ff_ff_ff_ff_06_ff_ff_ff_ff_06_ff_ff_ff_ff_0e) (hex 0 0x00) 14 0
+    ∷ checked (hex 326 0x01_00_05_40_01_06_ff_ff_ff_ff_06_ff_ff_ff_ff_06_ff_ff_ff_ff_06_ff_ff_ff_ff_06_ff_ff_ff_ff_06_ff_ff_ff_ff_06_ff_ff_ff_ff_06_ff_ff_ff_ff_06_ff_ff_ff_ff_06_ff_ff_ff_ff_06_ff_ff_ff_ff_06_ff_ff_ff_ff_06_ff_ff_ff_ff_06_ff_ff_ff_ff_06_ff_ff_ff_ff_06_ff_ff_ff_ff_06_ff_ff_ff_ff_06_ff_ff_ff_ff_06_ff_ff_ff_ff_06_ff_ff_ff_ff_06_ff_ff_ff_ff_06_ff_ff_ff_ff_06_ff_ff_ff_ff_06_ff_ff_ff_ff_06_ff_ff_ff_ff_06_ff_ff_ff_ff_06_ff_ff_ff_ff_06_ff_ff_ff_ff_06_ff_ff_ff_ff_06_ff_ff_ff_ff_06_ff_ff_ff_ff_06_ff_ff_ff_ff_06_ff_ff_ff_ff_06_ff_ff_ff_ff_06_ff_ff_ff_ff_06_ff_ff_ff_ff_06_ff_ff_ff_ff_06_ff_ff_ff_ff_06_ff_ff_ff_ff_06_ff_ff_ff_ff_06_ff_ff_ff_ff_06_ff_ff_ff_ff_06_ff_ff_ff_ff_06_ff_ff_ff_ff_06_ff_ff_ff_ff_06_ff_ff_ff_ff_06_ff_ff_ff_ff_06_ff_ff_ff_ff_06_ff_ff_ff_ff_06_ff_ff_ff_ff_06_ff_ff_ff_ff_06_ff_ff_ff_ff_06_ff_ff_ff_ff_06_ff_ff_ff_ff_06_ff_ff_ff_ff_06_ff_ff_ff_ff_06_ff_ff_ff_ff_06_ff_ff_ff_ff_06_ff_ff_ff_ff_06_ff_ff_ff_ff_06_ff_ff_ff_ff_06_ff_ff_ff_ff_06_ff_ff_ff_ff_06_ff_ff_ff_ff_0e) (hex 0 0x00) 14 0 0
     -- bytes end where an 06 is due
-    ∷ checked (hex 5 0x01_00_05_01_01) (hex 0 0x00) 4 0
+    ∷ checked (hex 5 0x01_00_05_01_01) (hex 0 0x00) 4 0 0
     -- an 06 with its operand cut
-    ∷ checked (hex 9 0x01_00_05_01_01_06_00_00_00) (hex 0 0x00) 4 0
+    ∷ checked (hex 9 0x01_00_05_01_01_06_00_00_00) (hex 0 0x00) 4 0 0
     -- one 06 too few
-    ∷ checked (hex 21 0x01_00_05_02_02_06_01_00_00_00_06_02_00_00_00_06_03_00_00_00_0e) (hex 0 0x00) 5 0
+    ∷ checked (hex 21 0x01_00_05_02_02_06_01_00_00_00_06_02_00_00_00_06_03_00_00_00_0e) (hex 0 0x00) 5 0 0
     -- one 06 too many
-    ∷ checked (hex 21 0x01_00_05_02_01_06_01_00_00_00_06_02_00_00_00_06_03_00_00_00_0e) (hex 0 0x00) 5 0
+    ∷ checked (hex 21 0x01_00_05_02_01_06_01_00_00_00_06_02_00_00_00_06_03_00_00_00_0e) (hex 0 0x00) 5 0 0
     -- one 06 too many, its operand cut
-    ∷ checked (hex 12 0x01_00_05_01_01_06_01_00_00_00_06_00) (hex 0 0x00) 5 0
+    ∷ checked (hex 12 0x01_00_05_01_01_06_01_00_00_00_06_00) (hex 0 0x00) 5 0 0
     -- a table where an 06 is due
-    ∷ checked (hex 14 0x01_00_05_01_01_05_01_01_06_01_00_00_00_0e) (hex 0 0x00) 5 0
+    ∷ checked (hex 14 0x01_00_05_01_01_05_01_01_06_01_00_00_00_0e) (hex 0 0x00) 5 0 0
     -- a variable after a table
-    ∷ checked (hex 17 0x01_00_05_01_01_06_01_00_00_00_04_00_00_00_00_00_0e) (hex 0 0x00) 5 0
+    ∷ checked (hex 17 0x01_00_05_01_01_06_01_00_00_00_04_00_00_00_00_00_0e) (hex 0 0x00) 5 0 0
     -- a table after a transition
-    ∷ checked (hex 21 0x01_00_04_00_00_00_00_00_07_09_21_00_05_01_01_06_01_00_00_00_0e) (hex 0 0x00) 5 0
+    ∷ checked (hex 21 0x01_00_04_00_00_00_00_00_07_09_21_00_05_01_01_06_01_00_00_00_0e) (hex 0 0x00) 5 0 0
     -- a transition after a base case
-    ∷ checked (hex 14 0x01_00_04_00_00_00_00_00_0b_07_09_21_00_0e) (hex 0 0x00) 5 0
+    ∷ checked (hex 14 0x01_00_04_00_00_00_00_00_0b_07_09_21_00_0e) (hex 0 0x00) 5 0 0
     -- a base case after a constraint
-    ∷ checked (hex 16 0x01_00_04_00_00_00_00_00_0c_51_21_00_21_00_0b_0e) (hex 0 0x00) 5 0
+    ∷ checked (hex 16 0x01_00_04_00_00_00_00_00_0c_51_21_00_21_00_0b_0e) (hex 0 0x00) 5 0 0
     ∷ []

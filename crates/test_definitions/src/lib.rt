@@ -9,5 +9,5 @@ ghost use Rattle.test_definitions.specs.All.{cases};
 pub fn count() -> u64
     ensures { λ r. ⌜ r ≡ length cases ⌝ }
 {
-    1078
+    1353
 }

@@ -1,5 +1,5 @@
-// Checks the plans on standard input and writes a line for each: the answer number and the cost. A case is the length of its
-// model and of its plan, two bytes each, then the model and the plan.
+// Checks the plans on standard input and writes a line for each: the answer number, the cost and the low cost. A case is the length
+// of its model and of its plan, two bytes each, then the model and the plan.
 
 use libc::STDIN_FILENO;
 use libc::STDOUT_FILENO;
@@ -20,6 +20,8 @@ fn write_check(model: &[u8], plan: &[u8]) {
     io::write_all(STDOUT_FILENO, b" ");
     let cost = checked.cost;
     io::print_decimal(STDOUT_FILENO, cost.high);
+    io::write_all(STDOUT_FILENO, b" ");
+    io::print_decimal(STDOUT_FILENO, cost.low);
     io::write_all(STDOUT_FILENO, b"\n");
 }
 

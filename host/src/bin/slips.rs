@@ -46,6 +46,21 @@ fn copy(from: &Path, to: &Path) -> io::Result<()> {
     Ok(())
 }
 
+/// The structs that a crate's code declares, each from its first line to the brace that closes it.
+fn structs(code: &str) -> String {
+    let mut found = String::new();
+    let mut inside = false;
+    for line in code.lines() {
+        inside |= line.starts_with("pub struct ");
+        if inside {
+            found += line;
+            found += "\n";
+        }
+        inside &= line != "}";
+    }
+    found
+}
+
 /// A kind of slips, by the copy in which they are planted.
 trait Kind {
     fn name(&self) -> &'static str;
@@ -64,13 +79,16 @@ impl Kind for Definitions {
         "definitions"
     }
 
-    /// The definitions without the code and the theorems above them, what opens them for computing, and the cases.
+    /// The definitions without the code, but for its structs, which they name, and without the theorems above them; what opens them for
+    /// computing; and the cases.
     fn prepare(&self, root: &Path, copied: &Path) -> io::Result<()> {
         let (from, to) = (root.join("crates"), copied.join("crates"));
         for name in ["laws", "model", "search"] {
             copy(&from.join(name).join("specs"), &to.join(name).join("specs"))?;
             fs::create_dir_all(to.join(name).join("src"))?;
-            fs::write(to.join(name).join("src/lib.rt"), "// Definitions alone.\n")?;
+            let code = Path::new(name).join("src/lib.rt");
+            let structs = structs(&fs::read_to_string(from.join(&code))?);
+            fs::write(to.join(code), format!("// Definitions alone.\n{structs}"))?;
         }
         for name in ["model", "search"] {
             let proofs = to.join(name).join("proofs");

@@ -45,7 +45,7 @@ fn due(width: u64, length: u64) -> (usize, u64) {
 
 /// The fields of a refusal by the input.
 fn refused(number: u8) -> String {
-    format!("1 {number} 0 0 0 0 0 0 0")
+    format!("1 {number} 0 0 0 0 0 0 0 0")
 }
 
 /// Objects that are loaded one by one at cost 1, so many of them at the start.
@@ -67,7 +67,7 @@ fn adding() -> Build {
 }
 
 fn lengths(cases: &mut Cases) {
-    let p1 = "0 0 1 7 7 3 14 3 4";
+    let p1 = "0 0 1 7 7 3 14 3 4 7";
     let three = refused(3);
     cases.load("loading P1", three_designs(), USUAL, (3, 1_088), p1);
     cases.load(
@@ -93,7 +93,7 @@ fn lengths(cases: &mut Cases) {
     );
     cases.load("loading P1 at W 4", three_designs(), (4, 14), due(4, 3), p1);
     let start = |start| Designs { start, ..designs() }.bytes();
-    let none = "0 0 1 0 0 0 0 1 1";
+    let none = "0 0 1 0 0 0 0 1 1 0";
     cases.load(
         "loading from an empty start",
         start(0),
@@ -115,7 +115,7 @@ fn lengths(cases: &mut Cases) {
         (0, 1_056),
         &three,
     );
-    let one = "0 0 1 5 5 1 1 1 1";
+    let one = "0 0 1 5 5 1 1 1 1 5";
     cases.load("loading one design", start(0b100), USUAL, due(16, 1), one);
     let last = loads(64, 1 << 63, &[63]).end();
     cases.load(
@@ -123,7 +123,7 @@ fn lengths(cases: &mut Cases) {
         last,
         (1, 9),
         due(1, 1),
-        "0 0 1 1 1 1 1 1 1",
+        "0 0 1 1 1 1 1 1 1 1",
     );
     let all = || loads(64, u64::MAX, &[]).end();
     cases.load(
@@ -131,7 +131,7 @@ fn lengths(cases: &mut Cases) {
         all(),
         (1, 9),
         due(1, 64),
-        "0 1 0 0 0 0 1 1 1",
+        "0 1 0 0 0 0 1 1 1 0",
     );
     cases.load(
         "loading 64 objects, a byte less",
@@ -151,7 +151,7 @@ fn lengths(cases: &mut Cases) {
 
 fn verdicts(cases: &mut Cases) {
     let lent = due(16, 3);
-    let stopped = "0 2 1 7 0 3 6 2 1";
+    let stopped = "0 2 1 7 0 3 6 2 1 7";
     cases.load(
         "loading P4",
         three_designs(),
@@ -164,39 +164,45 @@ fn verdicts(cases: &mut Cases) {
         three_designs(),
         (2, 100_000),
         due(2, 3),
-        "0 2 1 7 0 3 8 2 2",
+        "0 2 1 7 0 3 8 2 2 7",
     );
     cases.load(
         "loading P6",
         three_designs(),
         (16, 0),
         lent,
-        "0 4 0 0 0 0 0 1 1",
+        "0 4 0 0 0 0 0 1 1 0",
     );
     let p8 = Designs {
         bound: Some(8),
         ..designs()
     };
-    cases.load("loading P8", p8.bytes(), USUAL, lent, "0 5 1 7 8 3 3 1 1");
+    cases.load("loading P8", p8.bytes(), USUAL, lent, "0 5 1 7 8 3 3 1 1 7");
     let p9 = Designs {
         constraint: Some(not(same(elem(1), obj(2)))),
         ..designs()
     };
-    cases.load("loading P9", p9.bytes(), USUAL, lent, "0 1 0 0 0 0 _ _ _");
+    cases.load("loading P9", p9.bytes(), USUAL, lent, "0 1 0 0 0 0 _ _ _ 0");
     let p10 = Designs {
         rule: LARGEST,
         ..designs()
     };
-    cases.load("loading P10", p10.bytes(), USUAL, lent, "0 0 1 3 3 3 _ _ _");
+    cases.load(
+        "loading P10",
+        p10.bytes(),
+        USUAL,
+        lent,
+        "0 0 1 3 3 3 _ _ _ 3",
+    );
     cases.load(
         "loading the SOP of 004",
         sop(),
         USUAL,
         due(16, 4),
-        "0 0 1 6 6 4 8 2 2",
+        "0 0 1 6 6 4 8 2 2 6",
     );
     let broken = |build: Build| build.constraint(empty(set(0))).end();
-    let none = "0 1 0 0 0 0 0 1 1";
+    let none = "0 1 0 0 0 0 0 1 1 0";
     cases.load(
         "loading from a broken target",
         broken(loads(2, 3, &[0, 1])),
@@ -317,7 +323,7 @@ fn troubles(cases: &mut Cases) {
         negative,
         (1, 9),
         due(1, 2),
-        "1 13 0 4 0 1 2 1 1",
+        "1 13 0 4 0 1 2 1 1 4",
     );
     let by_zero = costing(later(quotient(lit(1), lit(0)))).end();
     cases.load(
@@ -325,7 +331,7 @@ fn troubles(cases: &mut Cases) {
         by_zero,
         (1, 9),
         due(1, 2),
-        "1 12 0 4 0 1 2 1 1",
+        "1 12 0 4 0 1 2 1 1 4",
     );
     let bound = loads(2, 3, &[0, 1]).bound(quotient(lit(1), lit(0))).end();
     cases.load(
@@ -333,12 +339,12 @@ fn troubles(cases: &mut Cases) {
         bound,
         USUAL,
         due(16, 2),
-        "1 12 0 0 0 0 0 1 1",
+        "1 12 0 0 0 0 0 1 1 0",
     );
 }
 
 fn small(cases: &mut Cases) {
-    let two = "0 0 1 2 2 2 5 2 2";
+    let two = "0 0 1 2 2 2 5 2 2 2";
     let model = loads(2, 3, &[0, 1]).end();
     cases.load("loading two designs", model, USUAL, due(16, 2), two);
     let model = loads(3, 3, &[2, 0, 0, 1]).end();
@@ -355,7 +361,7 @@ fn small(cases: &mut Cases) {
         model,
         USUAL,
         due(16, 2),
-        "0 1 0 0 0 0 1 1 1",
+        "0 1 0 0 0 0 1 1 1 0",
     );
     let model = loads(2, 3, &[1]).end();
     cases.load(
@@ -363,7 +369,7 @@ fn small(cases: &mut Cases) {
         model,
         USUAL,
         due(16, 2),
-        "0 1 0 0 0 0 2 1 1",
+        "0 1 0 0 0 0 2 1 1 0",
     );
     let asked = |object: u8| member(obj(object), set(0));
     let removed = |object: u8| (0, remove(obj(object), set(0)));
@@ -376,7 +382,7 @@ fn small(cases: &mut Cases) {
         model,
         USUAL,
         due(16, 2),
-        "0 0 1 2 2 2 _ _ _",
+        "0 0 1 2 2 2 _ _ _ 2",
     );
     let build = Build::new(LARGEST).set(2, 3).element(2, NONE, 0);
     let build = build.transition(&[asked(0)], lit(1), &[(1, obj(0)), removed(0)]);
@@ -389,7 +395,7 @@ fn small(cases: &mut Cases) {
         model,
         USUAL,
         due(16, 2),
-        "0 5 1 1 2 2 _ _ _",
+        "0 5 1 1 2 2 _ _ _ 1",
     );
 }
 

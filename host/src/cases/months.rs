@@ -1,9 +1,9 @@
 //! Stored months: a list of names with the files that it names, for the programs `monthly` and `test_month`.
 
-use crate::build::{elem, not, obj, same, LARGEST};
+use crate::build::{elem, lit, not, num, obj, same, LARGEST, SUM};
 use crate::generate::Random;
 use crate::line::LONGEST_MODEL;
-use crate::models::{three_designs, Designs};
+use crate::models::{counting, doubled_designs, three_designs, Designs};
 use crate::month::{MOST_NAMES, MOST_NAME_BYTES};
 use crate::text::assemble;
 
@@ -113,6 +113,8 @@ fn files() -> Vec<(String, Vec<u8>)> {
         rule: LARGEST,
         ..Designs::default()
     };
+    let doubled = doubled_designs(&Designs::default());
+    let below = counting(SUM, (num(0), lit(1)));
     let mut cut = three_designs();
     cut.pop();
     let files = [
@@ -126,6 +128,8 @@ fn files() -> Vec<(String, Vec<u8>)> {
         ("budget.model", assembled(&budget())),
         ("negative.model", assembled(NEGATIVE)),
         ("divided.model", assembled(DIVIDED)),
+        ("ranges.model", doubled.end()),
+        ("below.model", below.end()),
         ("cut.model", cut),
         ("empty.model", Vec::new()),
         ("longest.model", vec![1; LONGEST_MODEL]),
@@ -166,6 +170,8 @@ fn kinds() -> Vec<String> {
         "budget.model",
         "no-plan.model",
         "divided.model",
+        "ranges.model",
+        "below.model",
         "cut.model",
         "empty.model",
         "longest.model",

@@ -42,44 +42,59 @@ fn designs() -> Designs {
 }
 
 fn proved(cases: &mut Cases) {
-    let p1 = "0 0 1 7 7 3 14 3 4";
+    let p1 = "0 0 1 7 7 3 14 3 4 7";
     cases.search("P1", three_designs(), (16, 64, 100_000), p1);
     cases.search("P2", three_designs(), (4, 3, 100_000), p1);
-    cases.search("P3", three_designs(), (2, 3, 100_000), "0 2 1 7 0 3 8 2 2");
-    cases.search("P4", three_designs(), (1, 3, 100_000), "0 2 1 7 0 3 6 2 1");
-    cases.search("P5", three_designs(), (8, 2, 100_000), "0 3 0 0 5 0 13 4 8");
-    cases.search("P6", three_designs(), (16, 64, 0), "0 4 0 0 0 0 0 1 1");
+    cases.search(
+        "P3",
+        three_designs(),
+        (2, 3, 100_000),
+        "0 2 1 7 0 3 8 2 2 7",
+    );
+    cases.search(
+        "P4",
+        three_designs(),
+        (1, 3, 100_000),
+        "0 2 1 7 0 3 6 2 1 7",
+    );
+    cases.search(
+        "P5",
+        three_designs(),
+        (8, 2, 100_000),
+        "0 3 0 0 5 0 13 4 8 0",
+    );
+    cases.search("P6", three_designs(), (16, 64, 0), "0 4 0 0 0 0 0 1 1 0");
     let p7 = Designs {
         start: 0,
         ..designs()
     };
-    cases.search("P7", p7.bytes(), (16, 64, 100_000), "0 0 1 0 0 0 0 1 1");
+    cases.search("P7", p7.bytes(), (16, 64, 100_000), "0 0 1 0 0 0 0 1 1 0");
     let p8 = Designs {
         bound: Some(8),
         ..designs()
     };
-    cases.search("P8", p8.bytes(), (16, 64, 100_000), "0 5 1 7 8 3 3 1 1");
+    cases.search("P8", p8.bytes(), (16, 64, 100_000), "0 5 1 7 8 3 3 1 1 7");
     let p9 = Designs {
         constraint: Some(not(same(elem(1), obj(2)))),
         ..designs()
     };
-    cases.search("P9", p9.bytes(), (16, 64, 100_000), "0 1 0 0 0 0 _ _ _");
+    cases.search("P9", p9.bytes(), (16, 64, 100_000), "0 1 0 0 0 0 _ _ _ 0");
     let p10 = Designs {
         rule: LARGEST,
         ..designs()
     };
-    cases.search("P10", p10.bytes(), (16, 64, 100_000), "0 0 1 3 3 3 _ _ _");
+    cases.search("P10", p10.bytes(), (16, 64, 100_000), "0 0 1 3 3 3 _ _ _ 3");
     cases.search(
         "the TSPTW of 003",
         tsptw(),
         (16, 64, 100_000),
-        "0 0 1 14 14 4 19 3 4",
+        "0 0 1 14 14 4 19 3 4 14",
     );
     cases.search(
         "the SOP of 004",
         sop(),
         (16, 64, 100_000),
-        "0 0 1 6 6 4 8 2 2",
+        "0 0 1 6 6 4 8 2 2 6",
     );
 }
 
@@ -97,12 +112,12 @@ fn search_lent(model: Bytes, settings: (u64, u64, u64), plan_bytes: usize, words
 }
 
 fn refused(number: u8) -> String {
-    format!("1 {number} 0 0 0 0 0 0 0")
+    format!("1 {number} 0 0 0 0 0 0 0 0")
 }
 
 fn lent(cases: &mut Cases) {
     let small = || counter(lit(1)).end();
-    let found = "0 0 1 3 3 3 3 1 1";
+    let found = "0 0 1 3 3 3 3 1 1 3";
     for (note, settings) in [
         ("W 0", (0, 4, 9)),
         ("W 3", (3, 4, 9)),
@@ -175,32 +190,32 @@ fn lent(cases: &mut Cases) {
         "no variables, no transitions, no base",
         Build::new(SUM).end(),
         (4, 3, 9),
-        "0 1 0 0 0 0 1 1 1",
+        "0 1 0 0 0 0 1 1 1 0",
     );
     cases.search(
         "an always base target",
         Build::new(LARGEST).base(&[]).end(),
         (4, 3, 0),
-        "0 0 1 0 0 0 0 1 1",
+        "0 0 1 0 0 0 0 1 1 0",
     );
 }
 
 fn budgets_and_lengths(cases: &mut Cases) {
     for (budget, stated) in [
-        (2, "0 4 0 0 0 0 2 1 1"),
-        (3, "0 4 1 7 0 3 3 2 2"),
-        (8, "0 4 1 7 _ 3 8 3 4"),
-        (13, "0 4 1 7 _ 3 13 3 4"),
-        (14, "0 0 1 7 7 3 14 3 4"),
+        (2, "0 4 0 0 0 0 2 1 1 0"),
+        (3, "0 4 1 7 0 3 3 2 2 7"),
+        (8, "0 4 1 7 _ 3 8 3 4 7"),
+        (13, "0 4 1 7 _ 3 13 3 4 7"),
+        (14, "0 0 1 7 7 3 14 3 4 7"),
     ] {
         let note = format!("three designs, budget {budget}");
         cases.search(&note, three_designs(), (16, 5, budget), stated);
     }
     for (length, width, stated) in [
-        (1, 4, "0 3 0 0 2 0 3 3 4"),
-        (1, 2, "0 2 0 0 0 0 2 2 2"),
-        (2, 2, "0 2 0 0 0 0 5 2 2"),
-        (4, 1, "0 2 1 7 0 3 6 2 1"),
+        (1, 4, "0 3 0 0 2 0 3 3 4 0"),
+        (1, 2, "0 2 0 0 0 0 2 2 2 0"),
+        (2, 2, "0 2 0 0 0 0 5 2 2 0"),
+        (4, 1, "0 2 1 7 0 3 6 2 1 7"),
     ] {
         let note = format!("three designs, W {width}, L {length}");
         cases.search(&note, three_designs(), (width, length, 50), stated);
@@ -209,25 +224,25 @@ fn budgets_and_lengths(cases: &mut Cases) {
         "the budget spent by the last expansion, a base state behind it",
         counter(lit(1)).end(),
         (2, 4, 3),
-        "0 0 1 3 3 3 3 1 1",
+        "0 0 1 3 3 3 3 1 1 3",
     );
     cases.search(
         "the budget spent one expansion before the plan",
         counter(lit(1)).end(),
         (2, 4, 2),
-        "0 4 0 0 2 0 2 1 1",
+        "0 4 0 0 2 0 2 1 1 0",
     );
     cases.search(
         "the length limit just met",
         counter(lit(1)).end(),
         (2, 3, 9),
-        "0 0 1 3 3 3 3 1 1",
+        "0 0 1 3 3 3 3 1 1 3",
     );
     cases.search(
         "the length limit missed by one",
         counter(lit(1)).end(),
         (2, 2, 9),
-        "0 3 0 0 2 0 2 1 1",
+        "0 3 0 0 2 0 2 1 1 0",
     );
     cases.search(
         "budget 0 and a base target",
@@ -237,7 +252,7 @@ fn budgets_and_lengths(cases: &mut Cases) {
             .bound(num(0))
             .end(),
         (2, 2, 0),
-        "0 5 1 0 4 0 0 1 1",
+        "0 5 1 0 4 0 0 1 1 0",
     );
 }
 
@@ -269,13 +284,13 @@ fn order(cases: &mut Cases) {
         )
         .end(),
         (2, 4, 20),
-        "0 0 1 3 3 2 _ _ _",
+        "0 0 1 3 3 2 _ _ _ 3",
     );
     cases.search(
         "a tie in f and h at the cut: the last arrival goes",
         graph(SUM, 4, 8, &[(0, 1, 1), (0, 2, 1), (2, 3, 0)], &[]).end(),
         (1, 4, 20),
-        "0 2 0 0 0 0 2 1 1",
+        "0 2 0 0 0 0 2 1 1 0",
     );
     cases.search(
         "a tie in f: the lesser h first",
@@ -288,13 +303,13 @@ fn order(cases: &mut Cases) {
         )
         .end(),
         (1, 4, 20),
-        "0 _ 1 3 _ 2 _ _ _",
+        "0 _ 1 3 _ 2 _ _ _ 3",
     );
     cases.search(
         "a tie in f: the lesser h stays at the cut",
         graph(SUM, 4, 8, &[(0, 1, 0), (0, 2, 2), (2, 3, 0)], &[0, 2, 0, 0]).end(),
         (1, 4, 20),
-        "0 0 1 2 2 2 3 2 1",
+        "0 0 1 2 2 2 3 2 1 2",
     );
     cases.search(
         "two plans of one cost in one layer: the first stays",
@@ -307,19 +322,19 @@ fn order(cases: &mut Cases) {
         )
         .end(),
         (2, 4, 20),
-        "0 0 1 3 3 2 _ _ _",
+        "0 0 1 3 3 2 _ _ _ 3",
     );
     cases.search(
         "equal states in one layer: the lesser g wins",
         graph(SUM, 4, 8, &[(0, 1, 2), (0, 1, 1), (1, 3, 2)], &[]).end(),
         (1, 4, 20),
-        "0 0 1 3 3 2 2 1 1",
+        "0 0 1 3 3 2 2 1 1 3",
     );
     cases.search(
         "equal states in one layer at equal g: the earlier stays",
         graph(SUM, 4, 8, &[(0, 1, 1), (0, 1, 1), (1, 3, 2)], &[]).end(),
         (1, 4, 20),
-        "0 0 1 3 3 2 2 1 1",
+        "0 0 1 3 3 2 2 1 1 3",
     );
     cases.search(
         "a better plan in a later round",
@@ -332,7 +347,7 @@ fn order(cases: &mut Cases) {
         )
         .end(),
         (2, 4, 20),
-        "0 0 1 2 2 2 5 2 2",
+        "0 0 1 2 2 2 5 2 2 2",
     );
     cases.search(
         "a better plan at W: W again",
@@ -352,7 +367,7 @@ fn order(cases: &mut Cases) {
         )
         .end(),
         (2, 4, 30),
-        "0 _ 1 _ _ 2 _ _ 2",
+        "0 _ 1 _ _ 2 _ _ 2 _",
     );
     cases.search(
         "a cheaper plan with more steps",
@@ -365,13 +380,13 @@ fn order(cases: &mut Cases) {
         )
         .end(),
         (2, 5, 30),
-        "0 0 1 3 3 3 _ _ _",
+        "0 0 1 3 3 3 _ _ _ 3",
     );
     cases.search(
         "f past the range of numbers",
         graph(SUM, 3, 4, &[(0, 1, MAX), (1, 2, MAX)], &[0, MAX, 0]).end(),
         (1, 3, 9),
-        "0 0 1 4294967294 4294967294 2 2 1 1",
+        "0 0 1 4294967294 4294967294 2 2 1 1 4294967294",
     );
     cases.search(
         "largest rule: f is the greater of g and h",
@@ -384,13 +399,13 @@ fn order(cases: &mut Cases) {
         )
         .end(),
         (2, 4, 20),
-        "0 0 1 4 4 2 _ _ _",
+        "0 0 1 4 4 2 _ _ _ 4",
     );
     cases.search(
         "largest rule: a later dearer step decides",
         graph(LARGEST, 4, 8, &[(0, 1, 1), (1, 2, 7), (2, 3, 3)], &[]).end(),
         (2, 4, 20),
-        "0 0 1 7 7 3 3 1 1",
+        "0 0 1 7 7 3 3 1 1 7",
     );
 }
 
@@ -415,61 +430,61 @@ fn dominance(cases: &mut Cases) {
             "less: a dominated child is dropped",
             preferred(LESS, &[(1, 2), (1, 3)]),
             1,
-            "0 0 1 3 3 2 2 1 1",
+            "0 0 1 3 3 2 2 1 1 3",
         ),
         (
             "less: a dominated child at a greater g is dropped",
             preferred(LESS, &[(1, 2), (4, 2)]),
             1,
-            "0 0 1 3 3 2 2 1 1",
+            "0 0 1 3 3 2 2 1 1 3",
         ),
         (
             "less: a dominating child at equal g removes",
             preferred(LESS, &[(1, 3), (1, 2)]),
             1,
-            "0 0 1 3 3 2 2 1 1",
+            "0 0 1 3 3 2 2 1 1 3",
         ),
         (
             "less: a dominating child at lesser g removes",
             preferred(LESS, &[(2, 3), (1, 3)]),
             1,
-            "0 0 1 4 4 2 2 1 1",
+            "0 0 1 4 4 2 2 1 1 4",
         ),
         (
             "less: a dominating child does not remove a cheaper one",
             preferred(LESS, &[(1, 5), (4, 0)]),
             2,
-            "0 0 1 4 4 2 _ _ 2",
+            "0 0 1 4 4 2 _ _ 2 4",
         ),
         (
             "less: a kept state does not drop a cheaper child",
             preferred(LESS, &[(4, 2), (1, 3)]),
             2,
-            "0 0 1 4 4 2 _ _ 2",
+            "0 0 1 4 4 2 _ _ 2 4",
         ),
         (
             "less: one child removes several kept ones",
             preferred(LESS, &[(5, 3), (4, 4), (3, 5), (3, 1)]),
             4,
-            "0 0 1 4 4 2 _ _ _",
+            "0 0 1 4 4 2 _ _ _ 4",
         ),
         (
             "more: the greater number stays",
             preferred(MORE, &[(1, 2), (1, 3)]),
             1,
-            "0 0 1 4 4 2 2 1 1",
+            "0 0 1 4 4 2 2 1 1 4",
         ),
         (
             "more: a dominated child is dropped",
             preferred(MORE, &[(1, 3), (1, 2)]),
             2,
-            "0 0 1 4 4 2 2 1 1",
+            "0 0 1 4 4 2 2 1 1 4",
         ),
         (
             "no preference: both stay",
             preferred(NONE, &[(1, 3), (1, 2)]),
             2,
-            "0 0 1 3 3 2 _ 2 2",
+            "0 0 1 3 3 2 _ 2 2 3",
         ),
     ] {
         cases.search(note, build.end(), (width, 3, 30), stated);
@@ -479,19 +494,19 @@ fn dominance(cases: &mut Cases) {
         "a full layer: a dominated last child sets no width mark",
         three((4, 1)),
         (2, 3, 30),
-        "0 0 1 4 4 2 _ 2 2",
+        "0 0 1 4 4 2 _ 2 2 4",
     );
     cases.search(
         "a full layer: a child that removes one, after a cut",
         three((2, 0)),
         (2, 3, 30),
-        "0 0 1 2 2 2 3 2 2",
+        "0 0 1 2 2 2 3 2 2 2",
     );
     cases.search(
         "a full layer: the child itself is cut and sets the width mark",
         three((9, 0)),
         (2, 3, 30),
-        "0 _ 1 4 _ 2 _ _ 2",
+        "0 _ 1 4 _ 2 _ _ 2 4",
     );
     let element = Build::new(SUM)
         .element(4, MORE, 0)
@@ -505,7 +520,7 @@ fn dominance(cases: &mut Cases) {
         "more: an element variable",
         element,
         (1, 3, 9),
-        "0 0 1 2 2 2 2 1 1",
+        "0 0 1 2 2 2 2 1 1 2",
     );
     let bounded = |bound: Bytes| {
         preferred(LESS, &[(2, 3), (1, 4), (3, 1)])
@@ -516,13 +531,13 @@ fn dominance(cases: &mut Cases) {
         "dominance compares g where f differs",
         bounded(product(num(1), lit(2))),
         (4, 3, 30),
-        "0 _ 1 _ _ 2 _ _ _",
+        "0 _ 1 _ _ 2 _ _ _ _",
     );
     cases.search(
         "dominance compares g where f is equal",
         bounded(num(1)),
         (2, 3, 30),
-        "0 _ 1 4 _ 2 _ _ _",
+        "0 _ 1 4 _ 2 _ _ _ 4",
     );
 }
 
@@ -535,32 +550,32 @@ fn marks(cases: &mut Cases) {
         "nothing remains under the width mark: the next width",
         two_ways(true),
         (2, 4, 20),
-        "0 0 1 3 3 2 5 2 2",
+        "0 0 1 3 3 2 5 2 2 3",
     );
     cases.search(
         "nothing remains under the width mark at W: width stop",
         two_ways(true),
         (1, 4, 20),
-        "0 2 0 0 0 0 2 1 1",
+        "0 2 0 0 0 0 2 1 1 0",
     );
     cases.search(
         "nothing remains without a mark: no plan",
         two_ways(false),
         (2, 4, 20),
-        "0 1 0 0 0 0 5 2 2",
+        "0 1 0 0 0 0 5 2 2 0",
     );
     let longer = &[(0, 1, 5), (0, 2, 1), (2, 3, 1)];
     cases.search(
         "length mark with a best plan: length stop",
         graph(SUM, 4, 2, longer, &[]).end(),
         (4, 1, 20),
-        "0 3 1 5 1 1 3 3 4",
+        "0 3 1 5 1 1 3 3 4 5",
     );
     cases.search(
         "a longer path with f above the best: cheapest",
         graph(SUM, 4, 2, longer, &[0, 0, 9, 0]).end(),
         (4, 1, 20),
-        "0 0 1 5 5 1 _ _ _",
+        "0 0 1 5 5 1 _ _ _ 5",
     );
     cases.search(
         "both marks and no better plan: the width mark decides",
@@ -573,7 +588,7 @@ fn marks(cases: &mut Cases) {
         )
         .end(),
         (1, 2, 20),
-        "0 2 0 0 0 0 2 1 1",
+        "0 2 0 0 0 0 2 1 1 0",
     );
     cases.search(
         "both marks, then the length mark alone",
@@ -586,13 +601,13 @@ fn marks(cases: &mut Cases) {
         )
         .end(),
         (8, 2, 20),
-        "0 3 0 0 2 0 5 2 2",
+        "0 3 0 0 2 0 5 2 2 0",
     );
     cases.search(
         "a loop of cost 0 up to the limit",
         graph(SUM, 2, 2, &[(0, 0, 0)], &[]).end(),
         (1, 5, 20),
-        "0 3 0 0 0 0 5 1 1",
+        "0 3 0 0 0 0 5 1 1 0",
     );
     cases.search(
         "no low after a cut in an earlier layer",
@@ -605,7 +620,7 @@ fn marks(cases: &mut Cases) {
         )
         .end(),
         (1, 3, 20),
-        "0 2 0 0 0 0 3 1 1",
+        "0 2 0 0 0 0 3 1 1 0",
     );
     cases.search(
         "low before a cut stays",
@@ -618,7 +633,7 @@ fn marks(cases: &mut Cases) {
         )
         .end(),
         (1, 3, 20),
-        "0 2 0 0 3 0 3 1 1",
+        "0 2 0 0 3 0 3 1 1 0",
     );
     cases.search(
         "low lasts over rounds",
@@ -631,7 +646,7 @@ fn marks(cases: &mut Cases) {
         )
         .end(),
         (2, 3, 5),
-        "0 4 0 0 4 0 5 2 2",
+        "0 4 0 0 4 0 5 2 2 0",
     );
 }
 
@@ -653,11 +668,11 @@ fn plans_in_a_layer(cases: &mut Cases) {
     )
     .end();
     for (budget, width, stated) in [
-        (5, 4, "0 4 0 0 3 0 5 2 2"),
-        (6, 4, "0 4 1 5 4 2 6 3 4"),
-        (6, 2, "0 4 1 5 4 2 6 3 2"),
-        (7, 2, "0 4 1 5 4 2 7 3 2"),
-        (50, 2, "0 0 1 5 5 2 11 3 2"),
+        (5, 4, "0 4 0 0 3 0 5 2 2 0"),
+        (6, 4, "0 4 1 5 4 2 6 3 4 5"),
+        (6, 2, "0 4 1 5 4 2 6 3 2 5"),
+        (7, 2, "0 4 1 5 4 2 7 3 2 5"),
+        (50, 2, "0 0 1 5 5 2 11 3 2 5"),
     ] {
         let note = format!("a plan found while a cheaper f remains, W {width}, budget {budget}");
         cases.search(&note, remaining.clone(), (width, 4, budget), stated);
@@ -667,15 +682,15 @@ fn plans_in_a_layer(cases: &mut Cases) {
         "a child kept before a cheaper plan was found goes after the layer",
         dearer_child.end(),
         (4, 4, 50),
-        "0 0 1 7 7 1 5 2 2",
+        "0 0 1 7 7 1 5 2 2 7",
     );
     let two_goals = |last: i32| {
         let edges = &[(0, 1, 0), (0, 2, 1), (0, 5, 2), (2, 3, 4), (2, 4, last)];
         graph(SUM, 6, if last == 4 { 24 } else { 8 }, edges, &[]).end()
     };
     for (width, equal, dearer) in [
-        (2, "0 2 1 5 0 2 8 3 2", "0 2 1 5 0 2 9 3 2"),
-        (4, "0 0 1 5 5 2 9 3 4", "0 0 1 5 5 2 10 3 4"),
+        (2, "0 2 1 5 0 2 8 3 2 5", "0 2 1 5 0 2 9 3 2 5"),
+        (4, "0 0 1 5 5 2 9 3 4 5", "0 0 1 5 5 2 10 3 4 5"),
     ] {
         let note = format!("a second plan as cheap as the best does not replace it, W {width}");
         cases.search(&note, two_goals(4), (width, 4, 50), equal);
@@ -690,24 +705,28 @@ fn bounds(cases: &mut Cases) {
         (
             "a plan at h of the target: cheapest at once",
             &[5, 3, 0][..],
-            "0 0 1 5 5 2 2 1 1",
+            "0 0 1 5 5 2 2 1 1 5",
         ),
         (
             "a false bound at the target",
             &[6, 0, 0],
-            "0 5 1 5 6 2 2 1 1",
+            "0 5 1 5 6 2 2 1 1 5",
         ),
-        ("a false bound on the way", &[0, 4, 0], "0 5 1 5 6 2 2 1 1"),
+        (
+            "a false bound on the way",
+            &[0, 4, 0],
+            "0 5 1 5 6 2 2 1 1 5",
+        ),
         (
             "a false bound at the base state",
             &[0, 0, 2],
-            "0 5 1 5 7 2 2 1 1",
+            "0 5 1 5 7 2 2 1 1 5",
         ),
-        ("a bound below zero", &[-5, -3, -9], "0 0 1 5 5 2 2 1 1"),
+        ("a bound below zero", &[-5, -3, -9], "0 0 1 5 5 2 2 1 1 5"),
         (
             "a bound below zero on the way",
             &[0, -9, 0],
-            "0 0 1 5 5 2 2 1 1",
+            "0 0 1 5 5 2 2 1 1 5",
         ),
     ] {
         cases.search(note, graph(SUM, 3, 4, steps, h).end(), (2, 4, 20), stated);
@@ -720,7 +739,7 @@ fn bounds(cases: &mut Cases) {
             .bound(lit(2))
             .end(),
         (1, 1, 20),
-        "0 3 0 0 6 0 1 1 1",
+        "0 3 0 0 6 0 1 1 1 0",
     );
     cases.search(
         "a false bound found false in a later round",
@@ -733,13 +752,13 @@ fn bounds(cases: &mut Cases) {
         )
         .end(),
         (4, 4, 20),
-        "0 _ 1 _ _ 2 _ _ _",
+        "0 _ 1 _ _ 2 _ _ _ _",
     );
     cases.search(
         "verdict 1 has bound zero",
         graph(SUM, 3, 4, &[(0, 1, 7)], &[2, 3, 0]).end(),
         (2, 4, 20),
-        "0 1 0 0 0 0 2 1 1",
+        "0 1 0 0 0 0 2 1 1 0",
     );
     cases.search(
         "verdict 0 has the cost as bound, above low",
@@ -752,13 +771,13 @@ fn bounds(cases: &mut Cases) {
         )
         .end(),
         (2, 4, 20),
-        "0 0 1 5 5 2 _ _ _",
+        "0 0 1 5 5 2 _ _ _ 5",
     );
     cases.search(
         "largest rule, a false bound",
         graph(LARGEST, 3, 4, steps, &[0, 9, 0]).end(),
         (2, 4, 20),
-        "0 5 1 3 9 2 2 1 1",
+        "0 5 1 3 9 2 2 1 1 3",
     );
 }
 
@@ -788,7 +807,7 @@ fn troubles(cases: &mut Cases) {
         (
             "12 in h of the target",
             counter(lit(1)).bound(quotient(lit(1), num(0))),
-            "1 12 0 0 0 0 0 1 1",
+            "1 12 0 0 0 0 0 1 1 0",
         ),
         (
             "h of the target before its base cases",
@@ -797,7 +816,7 @@ fn troubles(cases: &mut Cases) {
                 .base(&[never(sum(lit(MAX), lit(1)))])
                 .bound(lit(3))
                 .bound(quotient(lit(1), num(0))),
-            "1 12 0 0 0 0 0 1 1",
+            "1 12 0 0 0 0 0 1 1 0",
         ),
         (
             "11 in the target's base cases",
@@ -805,97 +824,97 @@ fn troubles(cases: &mut Cases) {
                 .number(NONE, 0)
                 .base(&[never(sum(lit(MAX), lit(1)))])
                 .bound(lit(3)),
-            "1 11 0 0 3 0 0 1 1",
+            "1 11 0 0 3 0 0 1 1 0",
         ),
         (
             "12 in the base cases of a state taken",
             start()
                 .transition(&[], lit(1), &[up()])
                 .base(&[never(zero())]),
-            "1 12 0 2 2 2 2 1 1",
+            "1 12 0 2 2 2 2 1 1 2",
         ),
         (
             "11 in the base cases of a state taken",
             start()
                 .transition(&[], lit(1), &[up()])
                 .base(&[never(over())]),
-            "1 11 0 2 2 2 2 1 1",
+            "1 11 0 2 2 2 2 1 1 2",
         ),
         (
             "12 in conditions",
             start()
                 .transition(&[holds_with(zero())], lit(1), &[up()])
                 .base(&[base()]),
-            "1 12 0 2 2 2 3 1 1",
+            "1 12 0 2 2 2 3 1 1 2",
         ),
         (
             "11 in conditions",
             start()
                 .transition(&[holds_with(over())], lit(1), &[up()])
                 .base(&[base()]),
-            "1 11 0 2 2 2 3 1 1",
+            "1 11 0 2 2 2 3 1 1 2",
         ),
-        ("12 in a cost", counter(zero()), "1 12 0 1 1 2 3 1 1"),
+        ("12 in a cost", counter(zero()), "1 12 0 1 1 2 3 1 1 1"),
         (
             "11 in a cost, the path's cost past the range",
             counter(over()),
-            "1 11 0 4294967293 4294967293 2 3 1 1",
+            "1 11 0 4294967293 4294967293 2 3 1 1 4294967293",
         ),
         (
             "13 in a cost",
             counter(difference(lit(1), num(0))),
-            "1 13 0 1 1 2 3 1 1",
+            "1 13 0 1 1 2 3 1 1 1",
         ),
         (
             "12 in effects",
             start()
                 .transition(&[], lit(1), &[up(), (1, zero())])
                 .base(&[base()]),
-            "1 12 0 2 2 2 3 1 1",
+            "1 12 0 2 2 2 3 1 1 2",
         ),
         (
             "11 in effects",
             start()
                 .transition(&[], lit(1), &[(1, over()), up()])
                 .base(&[base()]),
-            "1 11 0 2 2 2 3 1 1",
+            "1 11 0 2 2 2 3 1 1 2",
         ),
         (
             "12 in a child's constraints",
             counter(lit(1)).constraint(holds_with(zero())),
-            "1 12 0 2 1 2 2 1 1",
+            "1 12 0 2 1 2 2 1 1 2",
         ),
         (
             "11 in a child's constraints",
             counter(lit(1)).constraint(holds_with(over())),
-            "1 11 0 2 1 2 2 1 1",
+            "1 11 0 2 1 2 2 1 1 2",
         ),
         (
             "12 in h of a child",
             counter(lit(1)).bound(zero()),
-            "1 12 0 2 2 2 2 1 1",
+            "1 12 0 2 2 2 2 1 1 2",
         ),
         (
             "11 in h of a child",
             counter(lit(1)).bound(difference(over(), lit(MAX - 1))),
-            "1 11 0 2 2 2 2 1 1",
+            "1 11 0 2 2 2 2 1 1 2",
         ),
         (
             "a constraint that fails hides h in trouble",
             counter(lit(1))
                 .constraint(less(num(0), lit(2)))
                 .bound(zero()),
-            "0 1 0 0 0 0 2 1 1",
+            "0 1 0 0 0 0 2 1 1 0",
         ),
         (
             "constraints in trouble at the target only",
             counter(lit(1)).constraint(holds_with(quotient(lit(1), num(0)))),
-            "1 12 0 0 0 0 0 1 1",
+            "1 12 0 0 0 0 0 1 1 0",
         ),
         (
             "a constraint that fails at the target only",
             counter(lit(1)).constraint(less(lit(0), num(0))),
-            "0 1 0 0 0 0 0 1 1",
+            "0 1 0 0 0 0 0 1 1 0",
         ),
         (
             "a condition that fails hides a negative cost",
@@ -903,21 +922,21 @@ fn troubles(cases: &mut Cases) {
                 .transition(&[], lit(1), &[up()])
                 .transition(&[less(num(0), lit(0))], lit(-1), &[])
                 .base(&[base()]),
-            "0 0 1 3 3 3 3 1 1",
+            "0 0 1 3 3 3 3 1 1 3",
         ),
         (
             "a constraint that fails hides h out of range",
             counter(lit(1))
                 .constraint(at_most(num(0), lit(1)))
                 .bound(difference(over(), lit(MAX - 1))),
-            "0 1 0 0 0 0 2 1 1",
+            "0 1 0 0 0 0 2 1 1 0",
         ),
         (
             "13 before effects in trouble",
             start()
                 .transition(&[], lit(-1), &[(1, quotient(lit(1), num(0)))])
                 .base(&[base()]),
-            "1 13 0 0 0 0 1 1 1",
+            "1 13 0 0 0 0 1 1 1 0",
         ),
         (
             "effects in trouble before constraints in trouble",
@@ -925,7 +944,7 @@ fn troubles(cases: &mut Cases) {
                 .transition(&[], lit(2), &[up(), (1, sum(lit(MAX), lit(1)))])
                 .base(&[base()])
                 .constraint(holds_with(quotient(lit(1), difference(lit(1), num(0))))),
-            "1 11 0 0 0 0 1 1 1",
+            "1 11 0 0 0 0 1 1 1 0",
         ),
         (
             "constraints in trouble at the target before effects in trouble",
@@ -933,7 +952,7 @@ fn troubles(cases: &mut Cases) {
                 .transition(&[], lit(2), &[(1, sum(lit(MAX), lit(1)))])
                 .base(&[base()])
                 .constraint(never(quotient(lit(1), num(0)))),
-            "1 12 0 0 0 0 0 1 1",
+            "1 12 0 0 0 0 0 1 1 0",
         ),
     ] {
         cases.search(note, build.end(), settings, stated);
@@ -953,7 +972,7 @@ fn troubles(cases: &mut Cases) {
         "trouble in h of a child that would be dropped, after a plan was found",
         divided(edges).bound(by_entry()).end(),
         (2, 4, 20),
-        "1 12 0 5 0 2 5 2 2",
+        "1 12 0 5 0 2 5 2 2 5",
     );
     cases.search(
         "trouble in h of a child with g equal to the best",
@@ -961,19 +980,19 @@ fn troubles(cases: &mut Cases) {
             .bound(by_entry())
             .end(),
         (2, 4, 20),
-        "1 12 0 1 0 2 5 2 2",
+        "1 12 0 1 0 2 5 2 2 1",
     );
     cases.search(
         "trouble in constraints of a child that would be dropped, after a plan was found",
         divided(edges).constraint(holds_with(by_entry())).end(),
         (2, 4, 20),
-        "1 12 0 5 0 2 5 2 2",
+        "1 12 0 5 0 2 5 2 2 5",
     );
     cases.search(
         "trouble in a cut state is not met",
         divided(edges).bound(by_entry()).end(),
         (1, 4, 20),
-        "0 2 1 1 0 2 4 2 1",
+        "0 2 1 1 0 2 4 2 1 1",
     );
     cases.search(
         "trouble in a round after a plan was found: flag 0, the path, the rest of the buffer",
@@ -981,15 +1000,15 @@ fn troubles(cases: &mut Cases) {
             .bound(by_entry())
             .end(),
         (2, 6, 20),
-        "1 12 0 5 0 2 5 2 2",
+        "1 12 0 5 0 2 5 2 2 5",
     );
 }
 
 /// The target's constraints, which are tried once, before its bounds and its base cases.
 fn target(cases: &mut Cases) {
-    let broken = "0 1 0 0 0 0 0 1 1";
-    let by_zero = "1 12 0 0 0 0 0 1 1";
-    let out_of_range = "1 11 0 0 0 0 0 1 1";
+    let broken = "0 1 0 0 0 0 0 1 1 0";
+    let by_zero = "1 12 0 0 0 0 0 1 1 0";
+    let out_of_range = "1 11 0 0 0 0 0 1 1 0";
     let usual = (16, 64, 100_000);
     let constrained = |constraint: Bytes, bound: Option<i32>, rule: u8| Designs {
         rule,
@@ -1082,7 +1101,7 @@ fn target(cases: &mut Cases) {
             "a base state that meets its constraint, budget 0",
             start().base(&[]).constraint(holds_with(num(0))),
             0,
-            "0 0 1 0 0 0 0 1 1",
+            "0 0 1 0 0 0 0 1 1 0",
         ),
         (
             "a constraint that fails before a bound in trouble",
@@ -1141,7 +1160,7 @@ fn target(cases: &mut Cases) {
             "a part in trouble that is skipped",
             counter(lit(1)).constraint(or(equal(num(0), lit(0)), holds_with(by_start()))),
             9,
-            "0 0 1 3 3 3 3 1 1",
+            "0 0 1 3 3 3 3 1 1 3",
         ),
     ] {
         let note = format!("at the target: {note}");

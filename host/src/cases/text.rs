@@ -1,7 +1,7 @@
 //! The cases as stored: the modules of crates/test_definitions, and what the programs test_plan_checks and test_searches are
 //! given and write.
 
-use super::{groups, loads, searches, widths, Call, Case, Outcome};
+use super::{groups, loads, ranges, searches, widths, Call, Case, Outcome};
 use crate::beam::Beam;
 use crate::line::{answer_line, fields, LONGEST_MODEL};
 use crate::numbers::refusal;
@@ -27,8 +27,8 @@ fn hex(bytes: &[u8]) -> String {
 
 fn case_text(case: &Case) -> String {
     match (&case.call, case.call.run()) {
-        (Call::Check { model, plan }, Outcome::Check(answer, cost)) => {
-            format!("checked {} {} {answer} {cost}", hex(model), hex(plan))
+        (Call::Check { model, plan }, Outcome::Check(answer, cost, low)) => {
+            format!("checked {} {} {answer} {cost} {low}", hex(model), hex(plan))
         }
         (Call::Search(search), outcome) => format!(
             "{} {} {} {} {} {} {} {}",
@@ -89,6 +89,7 @@ fn constructors(group: &str) -> &'static str {
     match group {
         "Loads" => "loaded",
         "Widths" => "searchedListed, loadedListed",
+        "Ranges" => "searched, loaded, searchedListed, loadedListed, checked",
         _ => "searched, checked",
     }
 }
@@ -137,7 +138,8 @@ pub fn modules() -> Vec<(String, String)> {
 }
 
 /// What the program `test_plan_checks` reads and writes: for each plan check of the cases the lengths of model and plan, two bytes each,
-/// the model and the plan; and a line with the answer number and the cost of each, and of four more at the greatest lengths.
+/// the model and the plan; and a line with the answer number, the cost and the low figure of each, and of four more at the greatest
+/// lengths.
 pub fn plan_checks() -> (Vec<u8>, String) {
     let mut input = Vec::new();
     let mut output = String::new();
@@ -149,7 +151,7 @@ pub fn plan_checks() -> (Vec<u8>, String) {
             if model.len() > LONGEST_HEX {
                 continue;
             }
-            let Outcome::Check(answer, cost) = case.call.run() else {
+            let Outcome::Check(answer, cost, low) = case.call.run() else {
                 unreachable!("a check has a check's outcome")
             };
             for length in [model.len(), plan.len()] {
@@ -158,7 +160,7 @@ pub fn plan_checks() -> (Vec<u8>, String) {
             }
             input.extend(model);
             input.extend(plan);
-            writeln!(output, "{answer} {cost}").unwrap();
+            writeln!(output, "{answer} {cost} {low}").unwrap();
         }
     }
     // the lengths at which 1 and 2 are told, which the program makes itself
@@ -170,8 +172,8 @@ pub fn plan_checks() -> (Vec<u8>, String) {
         (&model, &plan),
         (&model[..65_536], &plan),
     ] {
-        let (answer, cost) = plan_check(model, plan);
-        writeln!(output, "{answer} {cost}").unwrap();
+        let (answer, cost, low) = plan_check(model, plan);
+        writeln!(output, "{answer} {cost} {low}").unwrap();
     }
     (input, output)
 }
@@ -265,7 +267,12 @@ impl SearchCases {
 /// The stored searches that were chosen by hand, as the program `test_searches` runs them.
 pub fn search_cases() -> SearchCases {
     let mut all = SearchCases::default();
-    let cases = [searches::cases(), loads::cases(), widths::cases()];
+    let cases = [
+        searches::cases(),
+        loads::cases(),
+        widths::cases(),
+        ranges::cases(),
+    ];
     for case in cases.into_iter().flatten() {
         let Some(note) = &case.note else { continue };
         if case.call.model().len() <= LONGEST_MODEL {

@@ -43,7 +43,7 @@ fn designs() -> Designs {
 
 /// The fields of a refusal by the input.
 fn refused(number: u8) -> String {
-    format!("1 {number} 0 0 0 0 0 0 0")
+    format!("1 {number} 0 0 0 0 0 0 0 0")
 }
 
 /// A note that names the list.
@@ -90,29 +90,29 @@ fn of_designs(cases: &mut Cases, widths: &[u16], length: u64, stated: &str) {
 
 /// Entry after entry, and the last again.
 fn rounds(cases: &mut Cases) {
-    of_designs(cases, &[1, 200], 64, "0 0 1 7 7 3 9 2 200");
-    of_designs(cases, &[3], 64, "0 0 1 7 7 3 13 2 3");
-    of_designs(cases, &[200], 64, "0 0 1 7 7 3 10 1 200");
-    of_designs(cases, &[2], 64, "0 2 1 7 0 3 10 2 2");
-    of_designs(cases, &[1, 2, 4], 2, "0 2 0 0 2 0 9 3 4");
-    of_designs(cases, &[1, 200], 2, "0 3 0 0 5 0 6 2 200");
-    of_designs(cases, &[1, 3], 64, "0 0 1 7 7 3 9 2 3");
-    of_designs(cases, &[2, 3], 64, "0 0 1 7 7 3 11 2 3");
-    of_designs(cases, &[1, 2, 3], 64, "0 0 1 7 7 3 14 3 3");
-    of_designs(cases, &[1, 5, 6], 64, "0 0 1 7 7 3 9 2 5");
-    of_designs(cases, &[2, 5], 64, "0 0 1 7 7 3 11 2 5");
-    of_designs(cases, &[4], 64, "0 0 1 7 7 3 14 2 4");
-    of_designs(cases, &[5, 6], 2, "0 3 0 0 5 0 8 2 6");
+    of_designs(cases, &[1, 200], 64, "0 0 1 7 7 3 9 2 200 7");
+    of_designs(cases, &[3], 64, "0 0 1 7 7 3 13 2 3 7");
+    of_designs(cases, &[200], 64, "0 0 1 7 7 3 10 1 200 7");
+    of_designs(cases, &[2], 64, "0 2 1 7 0 3 10 2 2 7");
+    of_designs(cases, &[1, 2, 4], 2, "0 2 0 0 2 0 9 3 4 0");
+    of_designs(cases, &[1, 200], 2, "0 3 0 0 5 0 6 2 200 0");
+    of_designs(cases, &[1, 3], 64, "0 0 1 7 7 3 9 2 3 7");
+    of_designs(cases, &[2, 3], 64, "0 0 1 7 7 3 11 2 3 7");
+    of_designs(cases, &[1, 2, 3], 64, "0 0 1 7 7 3 14 3 3 7");
+    of_designs(cases, &[1, 5, 6], 64, "0 0 1 7 7 3 9 2 5 7");
+    of_designs(cases, &[2, 5], 64, "0 0 1 7 7 3 11 2 5 7");
+    of_designs(cases, &[4], 64, "0 0 1 7 7 3 14 2 4 7");
+    of_designs(cases, &[5, 6], 2, "0 3 0 0 5 0 8 2 6 0");
 }
 
 /// The widths 1, 2, 4 up to W as a list, with the answers that W has.
 fn built_in(cases: &mut Cases) {
-    let p1 = "0 0 1 7 7 3 14 3 4";
+    let p1 = "0 0 1 7 7 3 14 3 4 7";
     of_designs(cases, &[1, 2, 4, 8, 16], 64, p1);
     of_designs(cases, &[1, 2, 4], 3, p1);
-    of_designs(cases, &[1, 2], 3, "0 2 1 7 0 3 8 2 2");
-    of_designs(cases, &[1], 3, "0 2 1 7 0 3 6 2 1");
-    of_designs(cases, &[1, 2, 4, 8], 2, "0 3 0 0 5 0 13 4 8");
+    of_designs(cases, &[1, 2], 3, "0 2 1 7 0 3 8 2 2 7");
+    of_designs(cases, &[1], 3, "0 2 1 7 0 3 6 2 1 7");
+    of_designs(cases, &[1, 2, 4, 8], 2, "0 3 0 0 5 0 13 4 8 0");
     let all: Vec<u16> = (0..13).map(|height| 1 << height).collect();
     of_designs(cases, &all, 3, p1);
 }
@@ -123,24 +123,29 @@ fn verdicts(cases: &mut Cases) {
         let search = call(model, &jump, (64, budget), due(&jump, 64));
         cases.add(&note(&jump, &format!(", {what}")), search, stated);
     };
-    with("budget 0", three_designs(), 0, "0 4 0 0 0 0 0 1 1");
+    with("budget 0", three_designs(), 0, "0 4 0 0 0 0 0 1 1 0");
     let p8 = Designs {
         bound: Some(8),
         ..designs()
     };
-    with("P8", p8.bytes(), BUDGET, "0 5 1 7 8 3 3 1 1");
+    with("P8", p8.bytes(), BUDGET, "0 5 1 7 8 3 3 1 1 7");
     let p9 = Designs {
         constraint: Some(not(same(elem(1), obj(2)))),
         ..designs()
     };
-    with("P9", p9.bytes(), BUDGET, "0 1 0 0 0 0 _ 2 200");
+    with("P9", p9.bytes(), BUDGET, "0 1 0 0 0 0 _ 2 200 0");
     let p10 = Designs {
         rule: LARGEST,
         ..designs()
     };
-    with("P10", p10.bytes(), BUDGET, "0 0 1 3 3 3 _ _ _");
-    with("the TSPTW of 003", tsptw(), BUDGET, "0 0 1 14 14 4 _ 2 200");
-    with("the SOP of 004", sop(), BUDGET, "0 0 1 6 6 4 _ 2 200");
+    with("P10", p10.bytes(), BUDGET, "0 0 1 3 3 3 _ _ _ 3");
+    with(
+        "the TSPTW of 003",
+        tsptw(),
+        BUDGET,
+        "0 0 1 14 14 4 _ 2 200 14",
+    );
+    with("the SOP of 004", sop(), BUDGET, "0 0 1 6 6 4 _ 2 200 6");
 }
 
 /// What ends at the target has the first entry's width.
@@ -170,37 +175,43 @@ fn target(cases: &mut Cases) {
         broken(),
         &[200, 300],
         BUDGET,
-        "0 1 0 0 0 0 0 1 200",
+        "0 1 0 0 0 0 0 1 200 0",
     );
     at(
         "a broken target, budget 0",
         broken(),
         &[3],
         0,
-        "0 1 0 0 0 0 0 1 3",
+        "0 1 0 0 0 0 0 1 3 0",
     );
     at(
         "a bound by zero",
         bound(),
         &[5, 6],
         BUDGET,
-        "1 12 0 0 0 0 0 1 5",
+        "1 12 0 0 0 0 0 1 5 0",
     );
     at(
         "a constraint by zero",
         constraint(),
         &[5, 6],
         BUDGET,
-        "1 12 0 0 0 0 0 1 5",
+        "1 12 0 0 0 0 0 1 5 0",
     );
     at(
         "the target is base",
         start.bytes(),
         &[5, 6],
         BUDGET,
-        "0 0 1 0 0 0 0 1 5",
+        "0 0 1 0 0 0 0 1 5 0",
     );
-    at("budget 0", three_designs(), &[5, 6], 0, "0 4 0 0 0 0 0 1 5");
+    at(
+        "budget 0",
+        three_designs(),
+        &[5, 6],
+        0,
+        "0 4 0 0 0 0 0 1 5 0",
+    );
 }
 
 /// A way that is cut at width 1 and leads to a cost by zero: met in round 2, at the second entry's width.
@@ -218,7 +229,7 @@ fn trouble_in_round_two(cases: &mut Cases) {
     for widths in [&[1, 7][..], &[1, 7, 9]] {
         let search = call(model.clone(), widths, (4, BUDGET), due(widths, 4));
         let note = note(widths, ", trouble in round 2");
-        cases.add(&note, search, "1 12 0 2 1 1 5 2 7");
+        cases.add(&note, search, "1 12 0 2 1 1 5 2 7 2");
     }
 }
 
@@ -234,19 +245,19 @@ fn bad_lists(cases: &mut Cases) {
     };
     let bad = &refused(16);
     with("no widths", &[], bad);
-    with("sixteen widths", &sixteen, "0 0 1 7 7 3 14 3 3");
+    with("sixteen widths", &sixteen, "0 0 1 7 7 3 14 3 3 7");
     with(
         "sixteen widths to the widest",
         &to_the_widest[1..],
-        "0 0 1 7 7 3 10 1 4081",
+        "0 0 1 7 7 3 10 1 4081 7",
     );
     with("seventeen widths", &seventeen, bad);
     with("seventeen widths to the widest", &to_the_widest, bad);
     with("width 0", &[0], bad);
     with("width 0 before others", &[0, 1, 200], bad);
     with("width 0 behind another", &[1, 0], bad);
-    with("width 4,096", &[4_096], "0 0 1 7 7 3 10 1 4096");
-    with("widths 1 and 4,096", &[1, 4_096], "0 0 1 7 7 3 9 2 4096");
+    with("width 4,096", &[4_096], "0 0 1 7 7 3 10 1 4096 7");
+    with("widths 1 and 4,096", &[1, 4_096], "0 0 1 7 7 3 9 2 4096 7");
     with("width 4,097", &[4_097], bad);
     with("widths 1 and 4,097", &[1, 4_097], bad);
     with("width 65,535", &[65_535], bad);
@@ -359,7 +370,7 @@ fn lent(cases: &mut Cases) {
         ", 25,800 words",
         &[1, 200],
         (64, 25_800),
-        "0 0 1 7 7 3 9 2 200",
+        "0 0 1 7 7 3 9 2 200 7",
     );
     with(", a word less", &[1, 200], (64, 25_799), three);
     with(", a byte less", &[1, 200], (63, 25_800), three);
@@ -367,7 +378,7 @@ fn lent(cases: &mut Cases) {
         ", a byte and a word more",
         &[1, 200],
         (65, 25_801),
-        "0 0 1 7 7 3 9 2 200",
+        "0 0 1 7 7 3 9 2 200 7",
     );
     with(", words for width 1", &[1, 200], due(&[1], 64), three);
     with(", words for width 200", &[200, 300], due(&[200], 64), three);
@@ -388,7 +399,7 @@ fn loads(cases: &mut Cases) {
         let call = Call::load_by(model.clone(), Beam::Listed(widths.to_vec()), BUDGET, lent);
         cases.add(&format!("loading {what}"), call, stated);
     };
-    let found = "0 0 1 7 7 3 9 2 200";
+    let found = "0 0 1 7 7 3 9 2 200 7";
     with("widths 1, 200", &designs, &jump, (3, 13_600), found);
     with(
         "widths 1, 200, a word less",
@@ -409,28 +420,28 @@ fn loads(cases: &mut Cases) {
         &designs,
         &[3],
         due(&[3], 3),
-        "0 0 1 7 7 3 13 2 3",
+        "0 0 1 7 7 3 13 2 3 7",
     );
     with(
         "widths 2",
         &designs,
         &[2],
         due(&[2], 3),
-        "0 2 1 7 0 3 10 2 2",
+        "0 2 1 7 0 3 10 2 2 7",
     );
     with(
         "widths 1, 2, 4",
         &designs,
         &[1, 2, 4],
         due(&[4], 3),
-        "0 0 1 7 7 3 14 3 4",
+        "0 0 1 7 7 3 14 3 4 7",
     );
     with(
         "widths 200, 300 from a broken target",
         &broken.bytes(),
         &[200, 300],
         due(&[300], 3),
-        "0 1 0 0 0 0 0 1 200",
+        "0 1 0 0 0 0 0 1 200 0",
     );
     with(
         "too long a model, no widths",

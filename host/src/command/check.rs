@@ -1,4 +1,4 @@
-//! `repgypsum check`: the proved plan check's answer number and the cost, and why a plan is refused.
+//! `repgypsum check`: the proved plan check's answer number, the cost and the low figure, and why a plan is refused.
 
 use super::arguments::{decimal, Arguments};
 use super::input::{looks_like_text, source, Source};
@@ -24,21 +24,22 @@ pub fn run(arguments: &[OsString], input: &mut dyn Read) -> Result<Done, Complai
         Given::Steps(text) => listed(&text, &source)?,
         Given::Hexadecimal(text) => hexadecimal(&text)?,
     };
-    let (answer, cost) = proved::plan_check(&source.model, &plan);
+    let checked = proved::plan_check(&source.model, &plan);
+    let (answer, cost, low) = checked;
     let status = if answer == 0 { ANSWERED } else { REFUSED };
     let why = explained(&source, &plan, answer);
     if arguments.flag(JSON) {
-        let members = members(&source, &plan, (answer, cost), why);
+        let members = members(&source, &plan, checked, why);
         return Ok(Done::new(json::document("check", status, members), status));
     }
-    let text = format!("{answer} {cost}\n");
+    let text = format!("{answer} {cost} {low}\n");
     Ok(Done::new(text.into_bytes(), status).note(why))
 }
 
 fn members(
     source: &Source,
     plan: &[u8],
-    (answer, cost): (u8, u64),
+    (answer, cost, low): (u8, u64, u64),
     why: Option<String>,
 ) -> Members {
     let name = match answer {
@@ -49,6 +50,7 @@ fn members(
         ("number", answer.into()),
         ("name", name.into()),
         ("cost", cost.into()),
+        ("low", low.into()),
     ]);
     vec![
         ("model", json::model(source)),
@@ -69,7 +71,7 @@ fn explained(source: &Source, plan: &[u8], answer: u8) -> Option<String> {
         return Some(format!("{steps} are given; at most {most} are tested."));
     }
     let name = refusal_name(answer);
-    let by_state = answer >= refusal::OUT_OF_RANGE;
+    let by_state = refusal::by_state(answer) || answer == refusal::NOT_A_PLAN;
     let known = Known::of(source).ok().filter(|_| by_state);
     match known.and_then(|known| why::no_plan(&known, plan)) {
         Some(told) => Some(format!(

@@ -122,18 +122,29 @@ fn parts(source: &Source, known: &Known, looking: Looking, findings: &Findings) 
         let heading = format!("Bound {number}, {}", known.listing.bounds[number]);
         let mut part = Part::new(heading);
         match truth {
-            Truth::True => part.say(
-                "True: in every reachable state it is at most the cost of every plan from there.",
-            ),
-            Truth::Open => part.say(open(findings, "a plan that costs less than it")),
+            Truth::True => part.say(format!(
+                "True: in every reachable state it is at most the cost of every plan from there{}.",
+                figures(known, "low")
+            )),
+            Truth::Open => {
+                let what = format!("a plan that costs less than it{}", figures(known, "low"));
+                part.say(open(findings, &what));
+            }
             Truth::False(found) => too_high(source, known, found, &mut part),
+        }
+        if known.has_ranges() && !matches!(truth, Truth::True) {
+            let found = &findings.bounds_at_high[number];
+            at_high(source, known, findings, (truth, found), &mut part);
         }
         parts.push(part);
     }
     if let Some(truth) = &findings.preferences {
         let mut part = Part::new(format!("Preferences, {}", known.preferences().join("; ")));
         match truth {
-            Truth::True => part.say("True: for each plan of a reachable state every state that dominates it has a plan that costs no more."),
+            Truth::True => part.say(format!(
+                "True: for each plan of a reachable state every state that dominates it has a plan that costs no more{}.",
+                figures(known, "high")
+            )),
             Truth::Open => part.say(open(findings, "a dominating state without as cheap a plan")),
             Truth::False(found) => {
                 not_better(source, known, found, &mut part);
@@ -190,6 +201,14 @@ fn least_by(findings: &Findings) -> &'static str {
     }
 }
 
+/// At which figures costs are compared, where costs are ranges.
+fn figures(known: &Known, which: &str) -> String {
+    match known.has_ranges() {
+        true => format!(" at {which} figures"),
+        false => String::new(),
+    }
+}
+
 fn open(findings: &Findings, what: &str) -> String {
     let count = counted(findings.states as u64, "state");
     format!("Open: {count} did not show {what}.")
@@ -216,35 +235,72 @@ fn checked(source: &Source, known: &Known, state: &State, plan: &[u8], part: &mu
         return;
     }
     let started = started_in(&source.model, state);
-    let (answer, cost) = proved::plan_check(&started, plan);
     part.say(format!(
-        "The proved plan check, run on that plan and the model started there: answer {answer}, cost {}.",
-        grouped(cost)
+        "The proved plan check, run on that plan and the model started there: {}.",
+        known.checked(proved::plan_check(&started, plan))
     ));
 }
 
 fn too_high(source: &Source, known: &Known, found: &TooHigh, part: &mut Part) {
     let at = reached(known, &found.state, &found.path);
     part.say(format!("False: {at} it is {}.", found.value));
+    let cost = match known.has_ranges() {
+        true => format!(
+            "{}{}, {}{}",
+            found.costs.low,
+            figures(known, "low"),
+            found.costs.high,
+            figures(known, "high")
+        ),
+        false => found.costs.high.to_string(),
+    };
     part.say(format!(
-        "A plan from there costs {}: {}.",
-        found.cost,
+        "A plan from there costs {cost}: {}.",
         known.steps(&found.plan)
     ));
     checked(source, known, &found.state, &found.plan, part);
 }
 
+/// What is known of a bound that may not be true of the low costs, against the high ones.
+fn at_high(
+    source: &Source,
+    known: &Known,
+    findings: &Findings,
+    (at_low, truth): (&Truth<TooHigh>, &Truth<TooHigh>),
+    part: &mut Part,
+) {
+    match truth {
+        Truth::True => part.say(
+            "Of the high costs it is true: it is at most the cost of every plan at high figures, which is enough for what is proved of the marks.",
+        ),
+        Truth::Open => {
+            let count = counted(findings.states as u64, "state");
+            part.say(format!(
+                "Of the high costs it is open: {count} did not show a plan that costs less than it at high figures. What is proved of the marks holds where there is none."
+            ));
+        }
+        Truth::False(found) => {
+            part.say("Of the high costs it is false too, and this model's marks say no more than that a plan given is a plan.");
+            let shown = |found: &TooHigh| found.value > found.costs.high;
+            if !matches!(at_low, Truth::False(found) if shown(found)) {
+                too_high(source, known, found, part);
+            }
+        }
+    }
+}
+
 fn not_better(source: &Source, known: &Known, found: &NotBetter, part: &mut Part) {
+    let high = figures(known, "high");
     let worse = reached(known, &found.worse, &found.worse_path);
     part.say(format!(
-        "False: {worse} there is a plan at cost {}: {}.",
-        found.cost,
+        "False: {worse} there is a plan at cost {}{high}: {}.",
+        found.costs.high,
         known.steps(&found.plan)
     ));
     let better = reached(known, &found.better, &found.better_path);
     part.say(match found.least {
         Some(least) => {
-            format!("Better by the preferences, {better} every plan costs at least {least}.")
+            format!("Better by the preferences, {better} every plan costs at least {least}{high}.")
         }
         None => format!("Better by the preferences, {better} there is no plan."),
     });

@@ -23,6 +23,7 @@ use super::plan::status;
 use super::settings::{self, Run, Settings, OPTIONS};
 use super::words::{counted, grouped, refusal_name, verdict_name};
 use super::{profile, refusals, target, warnings, widths, Complaint, Done, CANNOT};
+use crate::answer::Answer;
 use crate::numbers::limit;
 use crate::numbers::refusal::by_state;
 use crate::reference::syntax::CostRule;
@@ -234,14 +235,23 @@ fn size(model: &[u8]) -> String {
     counted(model.len() as u64, "byte")
 }
 
+/// The low figure behind a cost, if it is another.
+fn at_low(answer: &Answer) -> String {
+    match answer.low == answer.cost {
+        true => String::new(),
+        false => format!(", and {} at low figures", grouped(answer.low)),
+    }
+}
+
 /// The plan that an answer gives, in a sentence.
 fn given(run: &Run) -> String {
     let answer = &run.answer;
     if answer.flag {
         let steps = counted(answer.length, "step");
         format!(
-            "A plan of {steps} is given, at cost {}.",
-            grouped(answer.cost)
+            "A plan of {steps} is given, at cost {}{}.",
+            grouped(answer.cost),
+            at_low(answer)
         )
     } else {
         "No plan is given.".to_string()
@@ -274,7 +284,7 @@ fn parts(
         parts.extend(along::part(known, run));
         if run.answer.flag {
             parts.push(walk::part("The plan, step by step", known, stages));
-            parts.push(verdicts::checked_again(source, run));
+            parts.push(verdicts::checked_again(source, known, run));
         }
     }
     parts.push(profile::part(known, settings));

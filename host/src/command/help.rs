@@ -13,7 +13,7 @@ usage: repgypsum COMMAND [OPTIONS] [FILE]          docs/GUIDE.md begins from not
 
   plan          looks for the cheapest plan of a model and prints the answer's line
   explain       plans, and says in sentences what the answer stands on
-  check         checks a plan by the proved plan check: prints its answer number and the cost
+  check         checks a plan by the proved plan check: prints its answer number, the cost and the low figure
   declarations  looks whether the bounds and preferences of a model are true
   verify        runs a quotation again and compares every count: verify QUOTATION [MODEL]
   compare       says what changed between two quotations: compare OLD NEW
@@ -48,7 +48,7 @@ last finished answer.
 
 plan:
   --fields         every field of the answer by name, one a line, with --loading the length chosen, then the plan, or the path at
-                   refusals 11 to 13
+                   refusals 11 to 13 and 17
   --unconditional  plans again without bounds and preferences, and says whether the mark rests on them
   --quote OUT      also writes a quotation to the new file OUT: model, settings, line and steps
 

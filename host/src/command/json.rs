@@ -75,6 +75,7 @@ fn answer(run: &Run) -> Json {
         ("expansions", answer.expansions.into()),
         ("rounds", answer.rounds.into()),
         ("width", answer.width.into()),
+        ("low", answer.low.into()),
     ])
 }
 

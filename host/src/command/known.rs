@@ -1,6 +1,7 @@
 //! A model that the reader accepts, in the words of its text.
 
 use super::input::Source;
+use super::words::grouped;
 use crate::declarations::preferences;
 use crate::reference::syntax::Preference;
 use crate::reference::{read_model, Model, State, Value};
@@ -99,6 +100,21 @@ impl Known {
     /// Whether the model declares a bound or a preference.
     pub fn declares(&self) -> bool {
         !self.listing.bounds.is_empty() || !self.preferences().is_empty()
+    }
+
+    /// Whether some transition has a high cost of its own, so that costs are known only within ranges.
+    pub fn has_ranges(&self) -> bool {
+        let mut transitions = self.model.transitions.iter();
+        transitions.any(|transition| transition.high.is_some())
+    }
+
+    /// What the plan check answers, in words; the low figure where costs are ranges.
+    pub fn checked(&self, (answer, cost, low): (u8, u64, u64)) -> String {
+        let low = match self.has_ranges() {
+            true => format!(", low {}", grouped(low)),
+            false => String::new(),
+        };
+        format!("answer {answer}, cost {}{low}", grouped(cost))
     }
 
     /// Whether something in the model is called hours.

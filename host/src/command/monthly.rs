@@ -100,7 +100,7 @@ fn refused(number: u8) -> Entry {
     }
 }
 
-/// What a printed line says. Fields behind the eighth are taken as they are, and so are the steps.
+/// What a printed line says. Fields behind the ninth are taken as they are, and so are the steps.
 fn read_line(line: &str) -> Option<Line> {
     if let Some(number) = line.strip_prefix("refused ") {
         return Some(Line::Of(refused(number.parse().ok()?)));
@@ -111,7 +111,7 @@ fn read_line(line: &str) -> Option<Line> {
     };
     numbers(steps)?;
     let fields = numbers(fields)?;
-    let [verdict @ 0..=5, flag @ 0..=1, cost, bound, length, expansions, rounds, width, ..] =
+    let [verdict @ 0..=5, flag @ 0..=1, cost, bound, length, expansions, rounds, width, low, ..] =
         fields[..]
     else {
         return None;
@@ -126,6 +126,7 @@ fn read_line(line: &str) -> Option<Line> {
         expansions,
         rounds,
         width,
+        low,
     };
     Some(Line::Of(Entry::Answered(answer, Vec::new())))
 }

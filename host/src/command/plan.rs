@@ -112,6 +112,7 @@ fn fields(settings: &Settings, run: &Run) -> String {
         ("expansions", answer.expansions.to_string()),
         ("rounds", answer.rounds.to_string()),
         ("width", answer.width.to_string()),
+        ("low", answer.low.to_string()),
     ];
     if settings.loading && settings.length > 0 {
         lines.push(("length chosen", settings.length.to_string()));

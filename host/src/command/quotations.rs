@@ -158,17 +158,19 @@ fn from_plan_check(quotation: &Quotation) -> Option<String> {
     if quotation.said.fields[1] == 0 {
         return None;
     }
-    let (answer, cost) = proved::plan_check(&quotation.model, &quotation.said.plan);
-    let due = (0, quotation.said.fields[2]);
+    let checked = proved::plan_check(&quotation.model, &quotation.said.plan);
+    let (answer, cost, low) = checked;
+    let fields = &quotation.said.fields;
+    let due = (0, fields[2], fields[8]);
     let name = if answer == 0 {
         "a plan"
     } else {
         refusal_name(answer)
     };
-    ((answer, cost) != due).then(|| {
+    (checked != due).then(|| {
         format!(
-            "the plan check: answer {answer}, {name}, cost {cost}; {} in the quotation",
-            due.1
+            "the plan check: answer {answer}, {name}, cost {cost}, low {low}; {} and {} in the quotation",
+            due.1, due.2
         )
     })
 }

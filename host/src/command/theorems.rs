@@ -19,11 +19,19 @@ pub const RISING_LIST: &str = "rising-list-guarantee";
 pub const BUILT_IN: &str = "built-in-is-a-list";
 pub const NOTHING_DECLARED: &str = "nothing-declared-is-true";
 pub const PLAN_CHECK: &str = "plan-check-exact";
+pub const REAL_COST: &str = "real-cost-between-the-figures";
+pub const CHEAPEST_IN_RANGES: &str = "cheapest-hours-least-in-ranges";
+pub const NO_PLAN_IN_RANGES: &str = "no-plan-means-none-in-ranges";
+pub const STOPPED_IN_RANGES: &str = "stopped-bound-is-for-high-costs";
+pub const BOTH_COSTS: &str = "plan-check-gives-both";
+pub const LOW_REACHED: &str = "low-is-real";
+pub const HIGH_REACHED: &str = "high-is-real";
 
+const REAL: &str = "crates/model/proofs/Real.antt";
 const MISSION: &str = "crates/search/proofs/Mission.antt";
 
 /// All of them.
-pub const THEOREMS: [Theorem; 12] = [
+pub const THEOREMS: [Theorem; 19] = [
     Theorem {
         name: A_PLAN,
         says: "Under every verdict a plan given is a plan of the model, at the cost stated.",
@@ -83,6 +91,41 @@ pub const THEOREMS: [Theorem; 12] = [
         name: PLAN_CHECK,
         says: "A sequence of at most 256 steps passes the plan check exactly if it is a plan of the model, and with its cost.",
         file: MISSION,
+    },
+    Theorem {
+        name: REAL_COST,
+        says: "For every choice of step costs inside the ranges, the real cost of a plan given lies between the low figure and the cost of the answer.",
+        file: MISSION,
+    },
+    Theorem {
+        name: CHEAPEST_IN_RANGES,
+        says: "Where the mark is cheapest no plan of the model has a smaller high cost, of whatever length, if the bounds are true of the low costs and the preferences of the high ones.",
+        file: MISSION,
+    },
+    Theorem {
+        name: NO_PLAN_IN_RANGES,
+        says: "Where the mark is no plan the model has none, of whatever length, if the bounds are true of the low costs and the preferences of the high ones.",
+        file: MISSION,
+    },
+    Theorem {
+        name: STOPPED_IN_RANGES,
+        says: "The bound of a stopped run is at most the high cost of every plan, if the bounds are true of the low costs and the preferences of the high ones.",
+        file: MISSION,
+    },
+    Theorem {
+        name: BOTH_COSTS,
+        says: "Of a plan the plan check gives the cost at high figures by one call and that at low figures by another.",
+        file: MISSION,
+    },
+    Theorem {
+        name: LOW_REACHED,
+        says: "The low figure of a plan is its real cost where every step takes its low cost.",
+        file: REAL,
+    },
+    Theorem {
+        name: HIGH_REACHED,
+        says: "The cost of a plan is its real cost where every step takes its high cost.",
+        file: REAL,
     },
 ];
 

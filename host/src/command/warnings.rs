@@ -7,7 +7,7 @@ use super::words::counted;
 /// The most transitions that are named.
 const NAMED: usize = 10;
 
-/// No base case.
+/// No base case; ranges that are none.
 pub fn of_model(known: &Known) -> Vec<String> {
     let mut warnings = Vec::new();
     if known.model.base_cases.is_empty() {
@@ -16,7 +16,27 @@ pub fn of_model(known: &Known) -> Vec<String> {
                 .to_string(),
         );
     }
+    let transitions = known.listing.transitions.iter().enumerate();
+    let alike = transitions.filter(|(_, step)| step.high.as_ref() == Some(&step.cost));
+    let alike: Vec<usize> = alike.map(|(number, _)| number).collect();
+    if !alike.is_empty() {
+        warnings.push(format!(
+            "The high cost is written as the cost is, and could be left out: {}.",
+            named(known, &alike)
+        ));
+    }
     warnings
+}
+
+/// The first transitions by number and name, and how many more there are.
+fn named(known: &Known, numbers: &[usize]) -> String {
+    let names = numbers.iter().take(NAMED);
+    let names: Vec<String> = names.map(|number| known.transition(*number)).collect();
+    let more = match numbers.len() > NAMED {
+        true => format!(" and {} more", numbers.len() - NAMED),
+        false => String::new(),
+    };
+    format!("{}{more}", names.join(", "))
 }
 
 /// Transitions that none of the states looked at allows.
@@ -24,19 +44,10 @@ pub fn of_transitions(known: &Known, never: &[usize], states: usize) -> Option<S
     if never.is_empty() {
         return None;
     }
-    let names: Vec<String> = never
-        .iter()
-        .take(NAMED)
-        .map(|number| known.transition(*number))
-        .collect();
-    let more = match never.len() > NAMED {
-        true => format!(" and {} more", never.len() - NAMED),
-        false => String::new(),
-    };
     Some(format!(
-        "Allowed in none of the {}: {}{more}.",
+        "Allowed in none of the {}: {}.",
         counted(states as u64, "state"),
-        names.join(", ")
+        named(known, never)
     ))
 }
 

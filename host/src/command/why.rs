@@ -4,6 +4,7 @@ use super::known::Known;
 use super::words::refusal_name;
 use crate::reference::syntax::{Condition, Expression, Model, Transition};
 use crate::reference::State;
+use crate::text::Step;
 
 /// The first trouble of the plan check, in a sentence; nothing for a plan.
 pub fn no_plan(known: &Known, plan: &[u8]) -> Option<String> {
@@ -65,18 +66,8 @@ fn in_step(known: &Known, number: usize, step: &Transition, state: &State) -> Op
             ));
         }
     }
-    let cost = &listing.cost;
-    match model.number(&step.cost, state) {
-        Ok(value) if value < 0 => {
-            return Some(format!("its cost, {cost}, is {value}, which is negative."))
-        }
-        Err(number) => {
-            return Some(format!(
-                "its cost, {cost}, has no value: {}.",
-                refusal_name(number)
-            ))
-        }
-        Ok(_) => {}
+    if let Some(told) = in_costs(model, step, listing, state) {
+        return Some(told);
     }
     for (place, effect) in step.effects.iter().enumerate() {
         let Expression::Number(value) = &effect.value else {
@@ -92,6 +83,30 @@ fn in_step(known: &Known, number: usize, step: &Transition, state: &State) -> Op
         }
     }
     None
+}
+
+/// What is wrong with the cost, or behind it with the high cost.
+fn in_costs(model: &Model, step: &Transition, listing: &Step, state: &State) -> Option<String> {
+    let none = |what: &str, text: &str, number| {
+        let name = refusal_name(number);
+        Some(format!("its {what}, {text}, has no value: {name}."))
+    };
+    let cost = &listing.cost;
+    let low = match model.number(&step.cost, state) {
+        Ok(value) if value < 0 => {
+            return Some(format!("its cost, {cost}, is {value}, which is negative."))
+        }
+        Ok(value) => value,
+        Err(number) => return none("cost", cost, number),
+    };
+    let (expression, high) = step.high.as_ref().zip(listing.high.as_ref())?;
+    match model.number(expression, state) {
+        Ok(value) if value < low => Some(format!(
+            "its high cost, {high}, is {value}, below its low cost, {cost}, which is {low}."
+        )),
+        Ok(_) => None,
+        Err(number) => none("high cost", high, number),
+    }
 }
 
 /// The first constraint that does not hold in the state, and how it fails; nothing if all hold.

@@ -33,6 +33,7 @@ pub fn refusal_name(number: u8) -> &'static str {
         refusal::NOT_A_PLAN => "not a plan",
         refusal::OUTSIDE_PROFILE => "outside the loading profile",
         refusal::BAD_WIDTHS => "bad widths",
+        refusal::HIGH_BELOW_LOW => "high cost below low cost",
         _ => "unknown",
     }
 }
@@ -60,6 +61,14 @@ pub fn grouped(number: u64) -> String {
 pub fn signed(number: i64) -> String {
     let sign = if number < 0 { "-" } else { "" };
     format!("{sign}{}", grouped(number.unsigned_abs()))
+}
+
+/// Such as `6 to 15`; of two that are the same, the one.
+pub fn range(low: u64, high: u64) -> String {
+    match low == high {
+        true => grouped(high),
+        false => format!("{} to {}", grouped(low), grouped(high)),
+    }
 }
 
 /// Such as `1 step` and `1,000 steps`.

@@ -2,8 +2,8 @@
 
 use super::preferred::{buckets, preferences, Pairs};
 use super::{bound_values, Findings, NotBetter, TooHigh, Truth};
-use crate::enumerate::{Space, Standing};
-use crate::reference::Model;
+use crate::enumerate::{Figures, Space, Standing, Step};
+use crate::reference::{Costs, Model};
 use std::collections::VecDeque;
 
 pub fn findings(model: &Model, space: &Space) -> Findings {
@@ -12,7 +12,8 @@ pub fn findings(model: &Model, space: &Space) -> Findings {
     Findings {
         states: space.states.len(),
         enumerated: true,
-        bounds: bounds(model, space, &roads),
+        bounds: bounds(model, space, &roads, Figures::Low),
+        bounds_at_high: bounds(model, space, &roads, Figures::High),
         preferences: declared.then(|| preferred(model, space, &roads)),
         never: never_allowed(model, space),
     }
@@ -48,48 +49,53 @@ impl Roads {
     }
 }
 
-/// A cheapest plan from the state, over steps that keep to the cost of the cheapest.
-fn cheapest_plan(model: &Model, space: &Space, start: usize) -> Vec<u8> {
-    let mut came: Vec<Option<(usize, u8)>> = vec![None; space.states.len()];
+/// A cheapest plan from the state at these figures, over steps that keep to the cost of the cheapest, and its costs.
+fn cheapest_plan(model: &Model, space: &Space, start: usize, figures: Figures) -> (Vec<u8>, Costs) {
+    let to_go = space.least_to_go(figures);
+    let mut came: Vec<Option<(usize, Step)>> = vec![None; space.states.len()];
     let mut queue = VecDeque::from([start]);
     while let Some(at) = queue.pop_front() {
         if space.standing[at] == Standing::Base {
             let mut plan = Vec::new();
+            let mut costs = Costs::default();
             let mut place = at;
             while place != start {
-                let (before, number) = came[place].expect("a state that a step reached");
-                plan.push(number);
+                let (before, step) = came[place].expect("a state that a step reached");
+                plan.push(step.number);
+                costs = model.join_costs(step.costs, costs);
                 place = before;
             }
             plan.reverse();
-            return plan;
+            return (plan, costs);
         }
         for step in &space.steps[at] {
-            let rest = space.to_go[step.to].map(|rest| model.join(step.cost, rest));
-            let tight = rest.is_some() && rest == space.to_go[at];
+            let rest = to_go[step.to].map(|rest| model.join(figures.of(step.costs), rest));
+            let tight = rest.is_some() && rest == to_go[at];
             if tight && step.to != start && came[step.to].is_none() {
-                came[step.to] = Some((at, step.number));
+                came[step.to] = Some((at, *step));
                 queue.push_back(step.to);
             }
         }
     }
-    Vec::new()
+    Default::default()
 }
 
-fn bounds(model: &Model, space: &Space, roads: &Roads) -> Vec<Truth<TooHigh>> {
+fn bounds(model: &Model, space: &Space, roads: &Roads, figures: Figures) -> Vec<Truth<TooHigh>> {
+    let to_go = space.least_to_go(figures);
     let mut truths: Vec<Truth<TooHigh>> = model.bounds.iter().map(|_| Truth::True).collect();
     for (at, state) in space.states.iter().enumerate() {
-        let (Some(cost), Some(values)) = (space.to_go[at], bound_values(model, state)) else {
+        let (Some(cost), Some(values)) = (to_go[at], bound_values(model, state)) else {
             continue;
         };
         for (truth, value) in truths.iter_mut().zip(values) {
             if value > cost && matches!(truth, Truth::True) {
+                let (plan, costs) = cheapest_plan(model, space, at, figures);
                 *truth = Truth::False(Box::new(TooHigh {
                     state: state.clone(),
                     path: roads.path(at),
                     value,
-                    plan: cheapest_plan(model, space, at),
-                    cost,
+                    plan,
+                    costs,
                 }));
             }
         }
@@ -113,13 +119,14 @@ fn preferred(model: &Model, space: &Space, roads: &Roads) -> Truth<NotBetter> {
             dearer(space.to_go[better], space.to_go[worse])
         });
         if let Some((better, worse)) = found {
+            let (plan, costs) = cheapest_plan(model, space, worse, Figures::High);
             return Truth::False(Box::new(NotBetter {
                 better: space.states[better].clone(),
                 better_path: roads.path(better),
                 worse: space.states[worse].clone(),
                 worse_path: roads.path(worse),
-                plan: cheapest_plan(model, space, worse),
-                cost: space.to_go[worse].unwrap_or_default(),
+                plan,
+                costs,
                 least: space.to_go[better],
             }));
         }

@@ -1,8 +1,9 @@
 //! A sample of reachable states: random walks, and the states that a beam keeps.
 
 use super::Looking;
+use crate::enumerate::Figures;
 use crate::generate::Random;
-use crate::reference::{Model, State};
+use crate::reference::{Costs, Model, State};
 use std::collections::HashMap;
 
 /// The longest walk, and the most layers of a beam.
@@ -11,11 +12,25 @@ const LONGEST: usize = 256;
 /// The width of the beam whose states are looked at.
 pub const BEAM: usize = 16;
 
-/// A state, the steps that lead to it, and the cheapest plan from it that has been seen.
+/// A plan and what it costs.
+type Rest = (Vec<u8>, Costs);
+
+/// A state, the steps that lead to it, and the cheapest plan from it that has been seen, at high figures and at low ones.
 pub struct Seen {
     pub state: State,
     pub path: Vec<u8>,
-    pub rest: Option<(Vec<u8>, i64)>,
+    pub rest: Option<Rest>,
+    rest_at_low: Option<Rest>,
+}
+
+impl Seen {
+    /// The cheapest plan at these figures.
+    pub fn rest_at(&self, figures: Figures) -> Option<&Rest> {
+        match figures {
+            Figures::Low => self.rest_at_low.as_ref(),
+            Figures::High => self.rest.as_ref(),
+        }
+    }
 }
 
 /// States seen, each once, and which transitions some state allowed.
@@ -29,7 +44,7 @@ pub struct Sample {
 /// A step that a state allows.
 struct Step {
     number: u8,
-    cost: i64,
+    costs: Costs,
     state: State,
 }
 
@@ -41,13 +56,13 @@ fn steps(model: &Model, state: &State) -> Vec<Step> {
         if conditions(transition) != Ok(true) {
             return None;
         }
-        let cost = model.step_cost(transition, state).ok()?;
+        let costs = model.step_costs(transition, state).ok()?;
         let new = model.after(transition, state).ok()?;
         let meets = model.meets_constraints(&new) == Ok(true);
         let number = number as u8;
         meets.then_some(Step {
             number,
-            cost,
+            costs,
             state: new,
         })
     };
@@ -88,6 +103,7 @@ impl Sample {
             state: state.clone(),
             path: path.to_vec(),
             rest: None,
+            rest_at_low: None,
         });
         place
     }
@@ -113,7 +129,7 @@ impl Sample {
             }
             let step = steps.swap_remove(random.below(steps.len()));
             path.push(step.number);
-            costs.push(step.cost);
+            costs.push(step.costs);
             state = step.state;
             places.push(self.see(&state, &path));
         }
@@ -123,21 +139,28 @@ impl Sample {
     }
 
     /// A walk that ends in a base state is a plan of each state on it.
-    fn ends_in_base(&mut self, model: &Model, places: &[usize], path: &[u8], costs: &[i64]) {
-        let mut rest = 0;
+    fn ends_in_base(&mut self, model: &Model, places: &[usize], path: &[u8], costs: &[Costs]) {
+        let mut rest = Costs::default();
         for at in (0..places.len()).rev() {
             if at < costs.len() {
-                rest = model.join(costs[at], rest);
+                rest = model.join_costs(costs[at], rest);
             }
             self.offer(places[at], &path[at..], rest);
         }
     }
 
     /// Notes a plan from a state, if it is the cheapest so far.
-    pub fn offer(&mut self, place: usize, plan: &[u8], cost: i64) {
-        let known = &mut self.seen[place].rest;
-        if known.as_ref().is_none_or(|(_, best)| cost < *best) {
-            *known = Some((plan.to_vec(), cost));
+    pub fn offer(&mut self, place: usize, plan: &[u8], costs: Costs) {
+        let seen = &mut self.seen[place];
+        let cheaper = |known: &Option<Rest>, figures: Figures| {
+            let best = known.as_ref().map(|(_, best)| figures.of(*best));
+            best.is_none_or(|best| figures.of(costs) < best)
+        };
+        if cheaper(&seen.rest, Figures::High) {
+            seen.rest = Some((plan.to_vec(), costs));
+        }
+        if cheaper(&seen.rest_at_low, Figures::Low) {
+            seen.rest_at_low = Some((plan.to_vec(), costs));
         }
     }
 
@@ -149,7 +172,7 @@ impl Sample {
         let mut costs = Vec::new();
         for number in plan {
             let step = &model.transitions[usize::from(*number)];
-            let (Ok(cost), Ok(new)) = (model.step_cost(step, &state), model.after(step, &state))
+            let (Ok(cost), Ok(new)) = (model.step_costs(step, &state), model.after(step, &state))
             else {
                 return;
             };
@@ -193,7 +216,7 @@ impl Sample {
             let Ok(h) = model.h(&step.state) else {
                 continue;
             };
-            let g = model.join(kept.g, step.cost);
+            let g = model.join(kept.g, step.costs.high);
             let mut path = kept.path.clone();
             path.push(step.number);
             self.see(&step.state, &path);

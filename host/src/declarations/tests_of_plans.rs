@@ -2,17 +2,17 @@
 
 use crate::numbers::{limit, verdict, words_needed};
 use crate::proved;
-use crate::reference::State;
+use crate::reference::{Costs, State};
 use crate::variants::{started_in, undeclared};
 
 /// The settings of a search from one state.
 const WIDTH: u32 = 64;
 const BUDGET: u32 = 2_000;
 
-/// Whether the proved plan check, on the model started in the state, passes the plan at this cost.
-pub fn confirmed(bytes: &[u8], state: &State, plan: &[u8], cost: i64) -> bool {
+/// Whether the proved plan check, on the model started in the state, passes the plan at these costs.
+pub fn confirmed(bytes: &[u8], state: &State, plan: &[u8], costs: Costs) -> bool {
     let started = started_in(bytes, state);
-    proved::plan_check(&started, plan) == (0, cost as u64)
+    proved::plan_check(&started, plan) == (0, costs.high as u64, costs.low as u64)
 }
 
 /// What a search from one state finds.

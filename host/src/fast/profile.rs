@@ -33,6 +33,9 @@ fn behind_load(transition: &[u8]) -> Option<&[u8]> {
         rest = behind(&rest[1..]);
     }
     rest = behind(&rest[1..]);
+    if rest[0] == 0x10 {
+        rest = behind(&rest[1..]);
+    }
     let mut removed = None;
     while rest[0] == 0x0A {
         if rest[1] == 0 {

@@ -3,7 +3,7 @@
 use super::compile::{element, set, Tables};
 use super::expression::{ByteSums, Condition, Element, Number, Set, State, View};
 use crate::numbers::limit::VARIABLES;
-use crate::numbers::refusal::NEGATIVE_COST;
+use crate::numbers::refusal::{HIGH_BELOW_LOW, NEGATIVE_COST};
 use crate::reference::syntax::{self, CostRule, Preference, Variable};
 
 enum Effect {
@@ -15,12 +15,30 @@ enum Effect {
 pub struct Transition {
     conditions: Vec<Condition>,
     cost: Number,
+    /// The high cost, where it is not the low one.
+    high: Option<Box<Number>>,
     effects: Vec<Effect>,
+}
+
+impl Transition {
+    /// The high cost beside this low one.
+    fn high_cost(&self, low: i64, view: &View) -> Result<i64, u8> {
+        let Some(high) = &self.high else {
+            return Ok(low);
+        };
+        let high = view.checked(high.value(view))?;
+        if high < low {
+            return Err(HIGH_BELOW_LOW);
+        }
+        Ok(high)
+    }
 }
 
 pub struct Program {
     pub transitions: Vec<Transition>,
     pub target: State,
+    /// Whether some step has a high cost of its own.
+    pub ranged: bool,
     largest: bool,
     entries: Vec<i64>,
     sums: Vec<ByteSums>,
@@ -74,9 +92,11 @@ fn effect(tables: &mut Tables, effect: &syntax::Effect) -> Effect {
 
 fn transition(tables: &mut Tables, transition: &syntax::Transition) -> Transition {
     let effects = transition.effects.iter();
+    let high = transition.high.as_ref();
     Transition {
         conditions: tables.conditions(&transition.conditions),
         cost: tables.number(&transition.cost),
+        high: high.map(|high| Box::new(tables.number(high))),
         effects: effects.map(|written| effect(tables, written)).collect(),
     }
 }
@@ -99,6 +119,7 @@ impl Program {
         Program {
             transitions,
             target: target(&model.variables),
+            ranged: model.transitions.iter().any(|one| one.high.is_some()),
             largest: model.rule == CostRule::Largest,
             entries: tables.entries,
             sums: tables.sums,
@@ -125,9 +146,10 @@ impl Program {
         }
     }
 
-    /// The cost of a step, if its conditions hold; the state after it is then written to `new`.
-    #[inline]
-    pub fn step(
+    /// The high cost of a step, if its conditions hold; the state after it is then written to `new`. Where no step of the model has
+    /// a high cost of its own, it is not looked for.
+    #[inline(always)]
+    pub fn step<const RANGED: bool>(
         &self,
         transition: &Transition,
         state: &State,
@@ -137,9 +159,12 @@ impl Program {
         if !view.checked(all_hold(&transition.conditions, &view))? {
             return Ok(None);
         }
-        let cost = view.checked(transition.cost.value(&view))?;
+        let mut cost = view.checked(transition.cost.value(&view))?;
         if cost < 0 {
             return Err(NEGATIVE_COST);
+        }
+        if RANGED {
+            cost = transition.high_cost(cost, &view)?;
         }
         *new = *state;
         for effect in &transition.effects {
@@ -150,6 +175,21 @@ impl Program {
             }
         }
         view.checked(Some(cost))
+    }
+
+    /// The cost of these steps from the target at low figures; they have all been taken before.
+    pub fn at_low(&self, path: &[u8]) -> i64 {
+        let mut state = self.target;
+        let mut cost = 0;
+        for number in path {
+            let transition = &self.transitions[usize::from(*number)];
+            let low = transition.cost.value(&self.view(&state));
+            cost = self.join(cost, low);
+            let before = state;
+            let taken = self.step::<false>(transition, &before, &mut state);
+            debug_assert!(taken.is_ok_and(|cost| cost.is_some()));
+        }
+        cost
     }
 
     pub fn meets_constraints(&self, state: &State) -> Result<bool, u8> {

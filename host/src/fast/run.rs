@@ -35,7 +35,8 @@ struct Marks {
     better_plan: bool,
 }
 
-pub struct Run<'a> {
+/// A run of a model in which some step has a high cost of its own, or of one in which none has.
+pub struct Run<'a, const RANGED: bool> {
     program: &'a Program,
     ladder: Ladder,
     length: u64,
@@ -54,8 +55,8 @@ pub struct Run<'a> {
     marks: Marks,
 }
 
-impl<'a> Run<'a> {
-    pub fn new(program: &'a Program, ladder: Ladder, length: u64, budget: u64) -> Run<'a> {
+impl<'a, const RANGED: bool> Run<'a, RANGED> {
+    pub fn new(program: &'a Program, ladder: Ladder, length: u64, budget: u64) -> Self {
         Run {
             program,
             ladder,
@@ -100,6 +101,7 @@ impl<'a> Run<'a> {
                     verdict: number,
                     cost: cost as u64,
                     length: path.len() as u64,
+                    low: self.program.at_low(&path) as u64,
                     ..tallied
                 };
                 (answer, path)
@@ -119,6 +121,7 @@ impl<'a> Run<'a> {
                     cost,
                     bound,
                     length: plan.len() as u64,
+                    low: self.program.at_low(&plan) as u64,
                     ..tallied
                 };
                 (answer, plan)
@@ -264,7 +267,7 @@ impl<'a> Run<'a> {
         transition: &Transition,
     ) -> Result<(), End> {
         let program = self.program;
-        let cost = program.step(transition, &parent.state, &mut self.child.state);
+        let cost = program.step::<RANGED>(transition, &parent.state, &mut self.child.state);
         let cost = cost.map_err(|number| self.trouble(number, back, parent.g))?;
         let Some(cost) = cost else {
             return Ok(());

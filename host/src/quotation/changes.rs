@@ -41,6 +41,7 @@ pub fn changes(old: &Quotation, new: &Quotation) -> Vec<String> {
         told.push(format!("The mark was \"{before}\" and is now \"{after}\"."));
     }
     told.extend(of_costs(old, new));
+    told.extend(of_low_figures(old, new));
     told.extend(went("The bound", old.said.fields[3], new.said.fields[3]));
     told.extend(of_orders(old, new));
     let counts = ["expansions", "rounds", "width"];
@@ -109,6 +110,14 @@ fn of_costs(old: &Quotation, new: &Quotation) -> Option<String> {
         )),
         _ => None,
     }
+}
+
+/// The low figures of two plans, if one of them is another than the cost.
+fn of_low_figures(old: &Quotation, new: &Quotation) -> Option<String> {
+    let (before, after) = (&old.said.fields, &new.said.fields);
+    let ranges = before[2] != before[8] || after[2] != after[8];
+    let plans = before[1] == 1 && after[1] == 1;
+    went("The cost at low figures", before[8], after[8]).filter(|_| ranges && plans)
 }
 
 /// A step in words.

@@ -1,7 +1,7 @@
 //! A quotation read back from its text, line by line in the order in which it is written.
 
 use super::writing::mark;
-use super::{Quotation, Said, TITLE};
+use super::{Quotation, Said, FIELDS, OLDER_TITLE, TITLE};
 use crate::beam::Beam;
 use crate::numbers::{limit, verdict};
 use crate::text::{Error, Place};
@@ -75,7 +75,8 @@ fn digits(text: &str) -> Option<u64> {
 /// The quotation that the text is, or what is wrong with it.
 pub fn read(text: &str) -> Result<Quotation, Error> {
     let mut lines = Lines::of(text);
-    if lines.peek() != Some(TITLE) {
+    let older = lines.peek() == Some(OLDER_TITLE);
+    if lines.peek() != Some(TITLE) && !older {
         return lines.wrong(1, format!("a quotation begins with the line `{TITLE}`"));
     }
     lines.at += 1;
@@ -85,7 +86,7 @@ pub fn read(text: &str) -> Result<Quotation, Error> {
     let beam = beam(&mut lines)?;
     let length = lines.number("length", limit::LENGTH as u32)?;
     let budget = lines.number("budget", u32::MAX)?;
-    let said = said(&mut lines)?;
+    let said = said(&mut lines, older)?;
     let (column, value) = lines.value("mark")?;
     if value != mark(&said) {
         return lines.wrong(column, format!("the line says: {}", mark(&said)));
@@ -130,17 +131,21 @@ fn beam(lines: &mut Lines) -> Result<Beam, Error> {
     Ok(Beam::Listed(widths))
 }
 
-/// The fields, a colon and the plan.
-fn said(lines: &mut Lines) -> Result<Said, Error> {
+/// The fields, a colon and the plan. In the older form there is no low figure: it is the cost.
+fn said(lines: &mut Lines, older: bool) -> Result<Said, Error> {
     let (column, value) = lines.value("line")?;
     let items: Vec<&str> = value.split(' ').collect();
-    let numbers = items.iter().take(8).filter_map(|item| digits(item));
-    let fields: Option<[u64; 8]> = numbers.collect::<Vec<u64>>().try_into().ok();
-    let (Some(fields), Some(&":")) = (fields, items.get(8)) else {
-        return lines.wrong(
-            column,
-            "expected the eight fields of an answer, a colon and the plan",
-        );
+    let due = FIELDS.len() - usize::from(older);
+    let numbers = items.iter().take(due).filter_map(|item| digits(item));
+    let mut numbers: Vec<u64> = numbers.collect();
+    if older && numbers.len() == due {
+        numbers.push(numbers[2]);
+    }
+    let fields: Option<[u64; FIELDS.len()]> = numbers.try_into().ok();
+    let (Some(fields), Some(&":")) = (fields, items.get(due)) else {
+        let count = if older { "eight" } else { "nine" };
+        let message = format!("expected the {count} fields of an answer, a colon and the plan");
+        return lines.wrong(column, message);
     };
     if fields[0] > u64::from(verdict::CONTRADICTED) || fields[1] > 1 {
         return lines.wrong(
@@ -148,7 +153,7 @@ fn said(lines: &mut Lines) -> Result<Said, Error> {
             "expected a verdict from 0 to 5 and a plan flag of 0 or 1",
         );
     }
-    let steps = items[9..].iter().map(|item| {
+    let steps = items[due + 1..].iter().map(|item| {
         let number = digits(item)?;
         u8::try_from(number).ok()
     });

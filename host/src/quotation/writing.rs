@@ -9,9 +9,10 @@ const BYTES: usize = 32;
 
 /// The mark in words.
 pub fn mark(said: &Said) -> String {
-    let [verdict, flag, cost, bound, ..] = said.fields;
+    let [verdict, flag, cost, bound, .., low] = said.fields;
     let name = verdict_name(verdict as u8);
     match flag {
+        1 if low != cost => format!("{name}, a plan at cost {cost}, low {low}, bound {bound}"),
         1 => format!("{name}, a plan at cost {cost}, bound {bound}"),
         _ => format!("{name}, without a plan, bound {bound}"),
     }

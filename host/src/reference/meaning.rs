@@ -1,12 +1,12 @@
 //! Meaning: the values of expressions in a state, steps, base states, h and dominance.
 //!
-//! A trouble is a refusal number, 11 to 13; the first one met ends the evaluation.
+//! A trouble is a refusal number, 11 to 13 or 17; the first one met ends the evaluation.
 
 use super::read::all_objects;
 use super::syntax::{
     Condition, CostRule, Element, Expression, Model, Number, Preference, Set, Transition, Variable,
 };
-use crate::numbers::refusal::{DIVISOR_ZERO, NEGATIVE_COST, OUT_OF_RANGE};
+use crate::numbers::refusal::{DIVISOR_ZERO, HIGH_BELOW_LOW, NEGATIVE_COST, OUT_OF_RANGE};
 
 #[derive(Clone, PartialEq, Eq, Hash, PartialOrd, Ord, Debug)]
 pub enum Value {
@@ -17,6 +17,13 @@ pub enum Value {
 
 /// One value for each variable.
 pub type State = Vec<Value>;
+
+/// The two ends between which the real cost of a step, a path or a plan lies.
+#[derive(Clone, Copy, PartialEq, Eq, Debug, Default)]
+pub struct Costs {
+    pub low: i64,
+    pub high: i64,
+}
 
 fn in_range(value: i64) -> Result<i64, u8> {
     if i32::try_from(value).is_ok() {
@@ -216,13 +223,25 @@ impl Model {
         Ok(true)
     }
 
-    /// The cost of a step from this state; a negative one is trouble.
-    pub fn step_cost(&self, transition: &Transition, state: &State) -> Result<i64, u8> {
-        let cost = self.number(&transition.cost, state)?;
-        if cost < 0 {
+    /// The costs of a step from this state. A negative low cost is trouble, and then a high one below it.
+    pub fn step_costs(&self, transition: &Transition, state: &State) -> Result<Costs, u8> {
+        let low = self.number(&transition.cost, state)?;
+        if low < 0 {
             return Err(NEGATIVE_COST);
         }
-        Ok(cost)
+        let high = match &transition.high {
+            Some(high) => self.number(high, state)?,
+            None => low,
+        };
+        if high < low {
+            return Err(HIGH_BELOW_LOW);
+        }
+        Ok(Costs { low, high })
+    }
+
+    /// The high cost of a step from this state, which the search works on.
+    pub fn step_cost(&self, transition: &Transition, state: &State) -> Result<i64, u8> {
+        Ok(self.step_costs(transition, state)?.high)
     }
 
     /// The state after the effects, which all read the old state.
@@ -256,6 +275,14 @@ impl Model {
         match self.rule {
             CostRule::Sum => cost + next,
             CostRule::Largest => cost.max(next),
+        }
+    }
+
+    /// Low figures joined with low ones, and high with high ones.
+    pub fn join_costs(&self, costs: Costs, next: Costs) -> Costs {
+        Costs {
+            low: self.join(costs.low, next.low),
+            high: self.join(costs.high, next.high),
         }
     }
 

@@ -216,6 +216,11 @@ impl Reader<'_> {
         refuse_if(self.peek()? != 0x09, NOT_DUE)?;
         self.at += 1;
         let cost = self.number(1)?;
+        let mut high = None;
+        if self.peek()? == 0x10 {
+            self.at += 1;
+            high = Some(self.number(1)?);
+        }
         let mut effects: Vec<Effect> = Vec::new();
         while self.peek()? == 0x0A {
             self.at += 1;
@@ -228,6 +233,7 @@ impl Reader<'_> {
         self.model.transitions.push(Transition {
             conditions,
             cost,
+            high,
             effects,
         });
         Ok(())

@@ -1,7 +1,7 @@
 //! The search: complete anytime beam search by the rules of document 01, with the target tested as document 02, §1 says,
-//! with the length of the loading profile, §2, and with the widths of a list, §4.
+//! with the length of the loading profile, §2, with the widths of a list, §4, and on high costs with the low ones beside them, §5.
 
-use super::meaning::State;
+use super::meaning::{Costs, State};
 use super::read::read_model;
 use super::syntax::{Model, Transition};
 use super::widths::Widths;
@@ -131,15 +131,16 @@ enum End {
     Trouble {
         refusal: u8,
         path: Vec<u8>,
-        cost: i64,
+        costs: Costs,
     },
 }
 
-/// A state of a layer with the path that reached it.
+/// A state of a layer with the path that reached it. g is the path's cost at high figures; nothing is decided by that at low ones.
 #[derive(Clone)]
 struct Node {
     state: State,
     g: i64,
+    at_low: i64,
     h: i64,
     f: i64,
     path: Vec<u8>,
@@ -150,7 +151,14 @@ impl Node {
         End::Trouble {
             refusal,
             path: self.path.clone(),
-            cost: self.g,
+            costs: self.costs(),
+        }
+    }
+
+    fn costs(&self) -> Costs {
+        Costs {
+            low: self.at_low,
+            high: self.g,
         }
     }
 
@@ -175,7 +183,7 @@ struct Run<'a> {
     length: u64,
     budget: u64,
     low: i64,
-    best: Option<(i64, Vec<u8>)>,
+    best: Option<(Costs, Vec<u8>)>,
     expansions: u64,
     rounds: u64,
     width: u64,
@@ -205,7 +213,7 @@ impl<'a> Run<'a> {
     fn below_best(&self, cost: i64) -> bool {
         match &self.best {
             None => true,
-            Some((best, _)) => cost < *best,
+            Some((best, _)) => cost < best.high,
         }
     }
 
@@ -234,6 +242,7 @@ impl<'a> Run<'a> {
         let mut node = Node {
             state: self.model.target(),
             g: 0,
+            at_low: 0,
             h: 0,
             f: 0,
             path: Vec::new(),
@@ -321,7 +330,7 @@ impl<'a> Run<'a> {
         if !self.below_best(node.g) {
             return Ok(());
         }
-        self.best = Some((node.g, node.path.clone()));
+        self.best = Some((node.costs(), node.path.clone()));
         round.found_plan = true;
         match node.g.cmp(&self.low) {
             Ordering::Equal => Err(End::Verdict(verdict::CHEAPEST)),
@@ -343,12 +352,13 @@ impl<'a> Run<'a> {
         if !allowed.map_err(in_parent)? {
             return Ok(None);
         }
-        let step_cost = model.step_cost(transition, &parent.state);
-        let step_cost = step_cost.map_err(in_parent)?;
+        let step_costs = model.step_costs(transition, &parent.state);
+        let costs = model.join_costs(parent.costs(), step_costs.map_err(in_parent)?);
         let state = model.after(transition, &parent.state).map_err(in_parent)?;
         let mut child = Node {
             state,
-            g: model.join(parent.g, step_cost),
+            g: costs.high,
+            at_low: costs.low,
             h: 0,
             f: 0,
             path: [&parent.path[..], &[number]].concat(),
@@ -391,32 +401,34 @@ impl<'a> Run<'a> {
             End::Trouble {
                 refusal,
                 path,
-                cost,
+                costs,
             } => {
                 buffer[..path.len()].copy_from_slice(&path);
                 Answer {
                     refused: true,
                     verdict: refusal,
-                    cost: cost as u64,
+                    cost: costs.high as u64,
                     length: path.len() as u64,
+                    low: costs.low as u64,
                     ..answer
                 }
             }
             End::Verdict(number) => {
                 let flag = self.best.is_some();
-                let (cost, plan) = self.best.unwrap_or_default();
+                let (costs, plan) = self.best.unwrap_or_default();
                 buffer[..plan.len()].copy_from_slice(&plan);
                 let bound = match number {
-                    verdict::CHEAPEST => cost,
+                    verdict::CHEAPEST => costs.high,
                     verdict::NO_PLAN => 0,
                     _ => self.low,
                 };
                 Answer {
                     verdict: number,
                     flag,
-                    cost: cost as u64,
+                    cost: costs.high as u64,
                     bound: bound as u64,
                     length: plan.len() as u64,
+                    low: costs.low as u64,
                     ..answer
                 }
             }

@@ -111,7 +111,10 @@ pub struct Effect {
 #[derive(Clone, Debug)]
 pub struct Transition {
     pub conditions: Vec<Condition>,
+    /// The cost at low figures.
     pub cost: Number,
+    /// The cost at high figures, where it is written; else it is the low one.
+    pub high: Option<Number>,
     pub effects: Vec<Effect>,
 }
 

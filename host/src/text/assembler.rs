@@ -242,6 +242,13 @@ impl Assembler<'_> {
         if let Some(cost) = self.keep(cost) {
             self.put(&cost);
         }
+        if let Some(high) = &transition.high {
+            let high = self.scope.number(high);
+            self.put(&[0x10]);
+            if let Some(high) = self.keep(high) {
+                self.put(&high);
+            }
+        }
         let mut changed = Vec::new();
         for (variable, value) in &transition.effects {
             let done = self.one_effect(&mut changed, variable, value);

@@ -11,6 +11,9 @@ use super::syntax::{
 };
 use crate::reference::syntax::{CostRule, Kind, Preference};
 
+/// What is said of a second high cost.
+const ONE_HIGH: &str = "a transition has one high cost";
+
 impl Cursor {
     /// The command that begins here; files with tables are read at once.
     pub fn command(&mut self, sources: &mut Sources) -> Result<Command, Error> {
@@ -212,10 +215,24 @@ impl Cursor {
         let label = self.label();
         self.symbol(":")?;
         let conditions = self.conditions(margin)?;
+        if self.at_word("high") {
+            let message = "`high` stands behind `cost`, which is the low cost then";
+            return Err(Error::new(self.place(), message));
+        }
         if !self.take_word("cost") {
             return Err(self.expected("`when` or `cost`"));
         }
         let cost = self.expression()?;
+        if self.at_symbol("..") {
+            let message =
+                "a range of costs takes two lines: `cost` with the low one, `high` with the high one";
+            return Err(Error::new(self.place(), message));
+        }
+        let high = self.take_word("high");
+        let high = high.then(|| self.expression()).transpose()?;
+        if high.is_some() && self.at_word("high") {
+            return Err(Error::new(self.place(), ONE_HIGH));
+        }
         let effects = self.parts(margin, Cursor::effect)?;
         self.after_effects()?;
         Ok(Transition {
@@ -223,6 +240,7 @@ impl Cursor {
             label,
             conditions,
             cost,
+            high,
             effects,
         })
     }
@@ -288,6 +306,10 @@ impl Cursor {
         let told = [
             ("when", "conditions stand before the cost"),
             ("cost", "a transition has one cost"),
+            (
+                "high",
+                "the high cost stands directly behind the cost, before the effects",
+            ),
             ("set", "an effect is written with `:=`, as `name := value`"),
         ];
         match told.iter().find(|(word, _)| self.at_word(word)) {

@@ -7,7 +7,7 @@ use super::syntax::{Integer, Members, Name, Object, Side};
 use std::collections::HashMap;
 
 /// The words of the language, which name nothing else.
-const WORDS: [&str; 36] = [
+const WORDS: [&str; 37] = [
     "and",
     "base",
     "bound",
@@ -22,6 +22,7 @@ const WORDS: [&str; 36] = [
     "for",
     "forall",
     "from",
+    "high",
     "if",
     "in",
     "include",

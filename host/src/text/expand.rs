@@ -96,6 +96,8 @@ impl Expander {
         let mut effects = Vec::new();
         let conditions = self.conditions(scope, &step.conditions)?;
         let cost = self.plain(scope, &step.cost)?;
+        let high = step.high.as_ref();
+        let high = high.map(|high| self.plain(scope, high)).transpose()?;
         self.parts(scope, &step.effects, &mut |expander, (variable, value)| {
             let variable = expander.plain(scope, variable)?;
             effects.push((variable, expander.plain(scope, value)?));
@@ -106,6 +108,7 @@ impl Expander {
             label,
             conditions,
             cost,
+            high,
             effects,
         })
     }

@@ -22,7 +22,7 @@ pub const SYMBOLS: [(&str, &str, &str); 13] = [
 ];
 
 /// Names of other languages, with what is written here. They are told only where they are not declared.
-const NAMES: [(&str, &str); 24] = [
+const NAMES: [(&str, &str); 26] = [
     ("abs", "`abs(x)` is written `max(x, -x)`"),
     ("all", "`all` is written `forall d in group: condition`"),
     ("any", "`any` is written `exists d in group: condition`"),
@@ -58,6 +58,14 @@ const NAMES: [(&str, &str); 24] = [
     (
         "minimise",
         "the cost is always the least: a text begins with `cost sum` or `cost largest`",
+    ),
+    (
+        "low",
+        "the low cost of a transition is written `cost`, the high one `high` behind it",
+    ),
+    (
+        "high",
+        "`high` is the high cost of a transition, and stands behind its `cost`",
     ),
     ("int", "a number variable is written `number x = 0`"),
     ("const", "a constant is written `constant x = 3`"),

@@ -9,7 +9,9 @@ use crate::reference::read_model;
 #[derive(Clone, PartialEq, Eq, Debug, Default)]
 pub struct Step {
     pub conditions: Vec<String>,
+    /// The low cost, which is the whole cost where no high one is written.
     pub cost: String,
+    pub high: Option<String>,
     pub effects: Vec<(usize, String)>,
 }
 
@@ -44,6 +46,7 @@ impl Listing {
             0x07 => self.transitions.push(Step::default()),
             0x08 => self.condition(bytes.expression()),
             0x09 => self.step().cost = bytes.expression(),
+            0x10 => self.step().high = Some(bytes.expression()),
             0x0A => {
                 let variable = usize::from(bytes.byte());
                 let value = bytes.expression();

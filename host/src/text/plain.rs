@@ -9,7 +9,9 @@ pub struct PlainTransition {
     pub at: Place,
     pub label: Option<Name>,
     pub conditions: Vec<Node>,
+    /// The low cost, which is the whole cost where no high one is written.
     pub cost: Node,
+    pub high: Option<Node>,
     pub effects: Vec<Effect>,
 }
 

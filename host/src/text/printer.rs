@@ -69,6 +69,7 @@ impl Printer<'_> {
             }
             0x08 => self.expression("    when "),
             0x09 => self.expression("    cost "),
+            0x10 => self.expression("    high "),
             0x0A => {
                 let variable = self.bytes.byte();
                 let kind = match self.bytes.peek() {

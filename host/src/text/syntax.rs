@@ -83,7 +83,9 @@ pub struct Transition {
     /// The words of the name, some of them perhaps variables of loops.
     pub label: Vec<Name>,
     pub conditions: Vec<Part<Node>>,
+    /// The low cost, which is the whole cost where no high one is written.
     pub cost: Node,
+    pub high: Option<Node>,
     pub effects: Vec<Part<Effect>>,
 }
 

@@ -180,6 +180,9 @@ fn transition(step: &PlainTransition) -> String {
         text += &format!("    when {}\n", expression(condition));
     }
     text += &format!("    cost {}\n", expression(&step.cost));
+    if let Some(high) = &step.high {
+        text += &format!("    high {}\n", expression(high));
+    }
     for (variable, value) in &step.effects {
         text += &format!("    {} := {}\n", expression(variable), expression(value));
     }
@@ -222,6 +225,7 @@ pub fn listing(commands: &[Plain], names: &Names) -> Listing {
             Plain::Transition(step) => listing.transitions.push(Step {
                 conditions: step.conditions.iter().map(expression).collect(),
                 cost: expression(&step.cost),
+                high: step.high.as_ref().map(expression),
                 effects: step
                     .effects
                     .iter()

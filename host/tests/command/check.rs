@@ -1,4 +1,4 @@
-//! `repgypsum check`: the plan check's answer and cost, and the two ways to give a plan.
+//! `repgypsum check`: the plan check's answer, cost and low figure, and the two ways to give a plan.
 
 use super::{example, run, run_with, EXAMPLES};
 use repgypsum_host::cases::{groups, Call, Outcome};
@@ -8,12 +8,13 @@ fn plans_of_the_examples() {
     for name in EXAMPLES {
         let line = std::fs::read_to_string(example(&format!("{name}.out"))).unwrap();
         let (fields, steps) = line.trim_end().split_once(" : ").unwrap();
-        let cost = fields.split(' ').nth(2).unwrap();
+        let field = |place: usize| fields.split(' ').nth(place).unwrap();
+        let (cost, low) = (field(2), field(8));
         let plan = steps.replace(' ', ",");
         for ending in ["model", "dp"] {
             let path = example(&format!("{name}.{ending}"));
-            run(&["check", "--plan", &plan, &path]).is(0, &format!("0 {cost}\n"));
-            run(&["check", &path, "--plan", "0"]).gives(1, "14 0\n");
+            run(&["check", "--plan", &plan, &path]).is(0, &format!("0 {cost} {low}\n"));
+            run(&["check", &path, "--plan", "0"]).gives(1, "14 0 0\n");
         }
     }
 }
@@ -21,15 +22,15 @@ fn plans_of_the_examples() {
 #[test]
 fn forms_of_plans() {
     let designs = example("three-designs.model");
-    run(&["check", "--plan", "2,1,0", &designs]).is(0, "0 9\n");
-    run(&["check", "--plan=2,1,0", &designs]).is(0, "0 9\n");
-    run(&["check", "--plan-hex", "020100", &designs]).is(0, "0 9\n");
-    run(&["check", "--plan-hex", "", &designs]).gives(1, "14 0\n");
-    run(&["check", "--plan", "", &designs]).gives(1, "14 0\n");
-    run(&["check", "--plan", "255", &designs]).gives(1, "14 0\n");
-    run(&["check", "--plan-hex", "fF", &designs]).gives(1, "14 0\n");
+    run(&["check", "--plan", "2,1,0", &designs]).is(0, "0 9 9\n");
+    run(&["check", "--plan=2,1,0", &designs]).is(0, "0 9 9\n");
+    run(&["check", "--plan-hex", "020100", &designs]).is(0, "0 9 9\n");
+    run(&["check", "--plan-hex", "", &designs]).gives(1, "14 0 0\n");
+    run(&["check", "--plan", "", &designs]).gives(1, "14 0 0\n");
+    run(&["check", "--plan", "255", &designs]).gives(1, "14 0 0\n");
+    run(&["check", "--plan-hex", "fF", &designs]).gives(1, "14 0 0\n");
     let model = std::fs::read(&designs).unwrap();
-    run_with(&["check", "--plan", "0,1,2"], &model).is(0, "0 7\n");
+    run_with(&["check", "--plan", "0,1,2"], &model).is(0, "0 7 7\n");
 }
 
 #[test]
@@ -50,10 +51,10 @@ fn wrong_forms() {
 #[test]
 fn sizes() {
     let designs = example("three-designs.model");
-    run(&["check", "--plan-hex", &"00".repeat(256), &designs]).gives(1, "14 0\n");
-    run(&["check", "--plan-hex", &"00".repeat(257), &designs]).gives(1, "2 0\n");
-    run_with(&["check", "--plan", "0"], &vec![0; 65_537]).gives(1, "1 0\n");
-    run_with(&["check", "--plan", "0"], &[]).gives(1, "4 0\n");
+    run(&["check", "--plan-hex", &"00".repeat(256), &designs]).gives(1, "14 0 0\n");
+    run(&["check", "--plan-hex", &"00".repeat(257), &designs]).gives(1, "2 0 0\n");
+    run_with(&["check", "--plan", "0"], &vec![0; 65_537]).gives(1, "1 0 0\n");
+    run_with(&["check", "--plan", "0"], &[]).gives(1, "4 0 0\n");
 }
 
 /// The plan checks that are stored as cases.
@@ -65,12 +66,12 @@ fn stored_plan_checks() {
             let Call::Check { model, plan } = &case.call else {
                 continue;
             };
-            let Outcome::Check(answer, cost) = case.call.run() else {
+            let Outcome::Check(answer, cost, low) = case.call.run() else {
                 unreachable!("a plan check has a plan check's outcome");
             };
             let digits: String = plan.iter().map(|step| format!("{step:02x}")).collect();
             let left = run_with(&["check", "--plan-hex", &digits], model);
-            left.gives(i32::from(answer != 0), &format!("{answer} {cost}\n"));
+            left.gives(i32::from(answer != 0), &format!("{answer} {cost} {low}\n"));
             assert_eq!(left.errors.is_empty(), answer == 0);
             checks += 1;
         }
@@ -95,7 +96,7 @@ fn plans_as_they_are_printed() {
         "load a,1,load c",
         "0 load a, 1 load b, 2 load c",
     ] {
-        run(&["check", "--plan", plan, &designs]).is(0, "0 7\n");
+        run(&["check", "--plan", plan, &designs]).is(0, "0 7 7\n");
     }
     let left = run(&["check", "--plan", "load a, load d", &designs]);
     left.complains(
@@ -121,7 +122,7 @@ fn refusals_explained() {
     ];
     for (plan, words) in told {
         let left = run(&["check", "--plan", plan, &tour]);
-        left.gives(1, "14 0\n");
+        left.gives(1, "14 0 0\n");
         assert!(left.errors.contains(words), "{plan}: {}", left.errors);
         assert!(
             left.errors.starts_with("repgypsum: not a plan. "),
@@ -132,21 +133,21 @@ fn refusals_explained() {
     let negative = super::designs_with("0 3 0 2 /", "0 3 0 -2 /");
     let path = super::file("check-negative.dp", negative.as_bytes());
     let left = run(&["check", "--plan", "0 1 2", &path]);
-    left.gives(1, "13 0\n");
+    left.gives(1, "13 0 0\n");
     let words = "negative cost. Step 3, 2 load c: its cost, hours[at, c], is -2, which is negative. The state before it: todo = {c}, at = b.";
     assert!(left.errors.contains(words), "{}", left.errors);
     let broken = super::designs_and("constraint 3 < count(todo)");
     let path = super::file("check-broken.dp", broken.as_bytes());
     for plan in ["", "0 1 2", "9"] {
         let left = run(&["check", "--plan", plan, &path]);
-        left.gives(1, "14 0\n");
+        left.gives(1, "14 0 0\n");
         let words = "not a plan. The target, todo = {a, b, c}, at = none: constraint 0, 3 < count(todo), does not hold (3 on the left, 3 on the right).";
         assert!(left.errors.contains(words), "{}", left.errors);
     }
     let troubled = super::designs_and("constraint 1 / count(todo - todo) = 1");
     let path = super::file("check-troubled.dp", troubled.as_bytes());
     let left = run(&["check", "--plan", "9", &path]);
-    left.gives(1, "12 0\n");
+    left.gives(1, "12 0 0\n");
     let words = "constraint 0, 1 / count(todo - todo) = 1, has no value: quotient by zero.";
     assert!(left.errors.contains(words), "{}", left.errors);
     let left = run(&["check", "--plan-hex", &"00".repeat(257), &path]);

@@ -93,8 +93,8 @@ fn through_the_function() {
                 met[number.trim().parse::<usize>().unwrap()] += 1;
             }
             if arguments[0] == "check" {
-                let (answer, cost) = reference::plan_check(&bytes, &[0, 1]);
-                assert_eq!(said, format!("{answer} {cost}\n"));
+                let (answer, cost, low) = reference::plan_check(&bytes, &[0, 1]);
+                assert_eq!(said, format!("{answer} {cost} {low}\n"));
             }
         }
     }

@@ -103,7 +103,7 @@ fn the_mark_rests_on_no_declaration() {
     let theorem = "[nothing-declared-is-true]";
     let designs = example("three-designs.dp");
     let left = run(&["plan", "--unconditional", &designs]);
-    let due = format!("0 1 7 7 3 14 3 4 : 0 1 2\nThe model declares no bounds and no preferences: the mark rests on no declaration {theorem}.\n");
+    let due = format!("0 1 7 7 3 14 3 4 7 : 0 1 2\nThe model declares no bounds and no preferences: the mark rests on no declaration {theorem}.\n");
     left.is(0, &due);
     let left = run(&["plan", "--unconditional", &example("tsptw.dp")]);
     assert!(
@@ -187,7 +187,7 @@ fn targets_outside_the_constraints() {
         assert!(left.text().contains(due), "{due}\n{}", left.text());
     }
     let said = run(&["plan", "--unconditional", &path]).text();
-    let due = "1 0 0 0 0 0 1 1 :\nThe mark \"no plan\" rests on no declaration: the target breaks constraint 1 [no-plan-from-broken-target].\n";
+    let due = "1 0 0 0 0 0 1 1 0 :\nThe mark \"no plan\" rests on no declaration: the target breaks constraint 1 [no-plan-from-broken-target].\n";
     assert_eq!(said, due);
     let troubled = designs_and("constraint 1 / count(todo - todo) = 1\nbound 1");
     let path = file("troubled.dp", troubled.as_bytes());

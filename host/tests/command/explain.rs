@@ -66,14 +66,17 @@ fn examples() {
         let cost = line.split(' ').nth(2).unwrap();
         let text = std::fs::read_to_string(example(&format!("{name}.dp"))).unwrap();
         let declares = text.contains("\nbound") || text.contains("prefer");
-        let condition = if declares {
-            "If the model's declarations are true, no plan of the model costs less"
-        } else {
-            UNCONDITIONAL
+        let ranges = text.contains("\n        high ");
+        let condition = match (declares, ranges) {
+            (true, true) => "If the model's bounds are true of the low costs and its preferences of the high ones, no plan of the model has a smaller high cost",
+            (true, false) => "If the model's declarations are true, no plan of the model costs less",
+            (false, _) => UNCONDITIONAL,
         };
-        let checked = format!(
-            "answer 0, cost {cost}.\n  The plan passes, at the cost that the search states."
-        );
+        let low = line.split(' ').nth(8).unwrap();
+        let checked = match ranges {
+            true => format!("answer 0, cost {cost}, low {low}.\n  The plan passes, at both costs that the search states."),
+            false => format!("answer 0, cost {cost}.\n  The plan passes, at the cost that the search states."),
+        };
         says(name, &text, "", 0, &[condition, &checked]);
     }
     let text = std::fs::read_to_string(example("assembly-line.dp")).unwrap();
@@ -146,12 +149,19 @@ fn contradictions() {
 #[test]
 fn theorems_are_on_the_page() {
     let page = std::fs::read_to_string(repository().join("docs/AUDIT.md")).unwrap();
+    let ranges = |constraint: &str| {
+        let steps = "number x = 0\ntransition go:\n    cost 2\n    high 5\n    x := x + 1\n";
+        format!("cost sum\n{steps}base:\n    when x = 3\n{constraint}\nbound 6 - 2 * x\n")
+    };
     let runs = [
         ("cheapest", designs_and(""), ""),
         ("no-plan", designs_and("constraint not at = b"), ""),
         ("broken", designs_and("constraint not at = none"), ""),
         ("stopped", designs_and(""), "--width=1"),
         ("contradicted", designs_and("bound 8"), ""),
+        ("ranges", ranges(""), ""),
+        ("no-plan-in-ranges", ranges("constraint x < 3"), ""),
+        ("stopped-in-ranges", ranges(""), "--budget=0"),
     ];
     let mut cited = 0;
     for (name, text, setting) in runs {
@@ -169,7 +179,7 @@ fn theorems_are_on_the_page() {
             cited += 1;
         }
     }
-    assert_eq!(cited, 20);
+    assert_eq!(cited, 20 + 9);
 }
 
 /// Every stored search is explained, and the two implementations agree on all that is said.

@@ -209,6 +209,7 @@ fn documents_say_what_lines_say() {
             "expansions",
             "rounds",
             "width",
+            "low",
         ];
         let mut words: Vec<String> = fields.iter().map(|name| number(answer.get(name))).collect();
         words.push(":".to_string());
@@ -250,7 +251,10 @@ fn sentences_are_those_of_the_text() {
                 // One more of a model that declares nothing, as the text says it too.
                 let bare = |word: &String| word.contains("[nothing-declared-is-true]");
                 let bare = usize::from(printed.iter().any(bare));
-                assert_eq!(cited, 2 + bare, "{name}");
+                // Three more of a plan whose costs are ranges.
+                let ranged = |word: &String| word.contains("[real-cost-between-the-figures]");
+                let ranged = 3 * usize::from(printed.iter().any(ranged));
+                assert_eq!(cited, 2 + bare + ranged, "{name}");
             }
         }
     }

@@ -10,10 +10,16 @@ use repgypsum_host::generate::Random;
 use repgypsum_host::line::answer_line;
 use std::ffi::OsString;
 
-const P1: &str = "0 1 7 7 3 14 3 4 : 0 1 2\n";
+const P1: &str = "0 1 7 7 3 14 3 4 7 : 0 1 2\n";
 
 /// The examples that are pure loading orders.
-const LOADING: [&str; 4] = ["loading-order", "open-stacks", "sop", "three-designs"];
+const LOADING: [&str; 5] = [
+    "loading-order",
+    "open-stacks",
+    "reload-hours",
+    "sop",
+    "three-designs",
+];
 
 /// Inside, the line is the stored one: the length that is chosen is never reached by an unfinished state.
 #[test]
@@ -58,14 +64,14 @@ fn settings() {
     plan(&["--words=1087"], 1, "refused 3\n", due);
     plan(&["--plan-bytes=2"], 1, "refused 3\n", due);
     plan(&["--width=3"], 1, "refused 2\n", "The widest beam is 3");
-    plan(&["--width=1"], 0, "2 1 7 0 3 6 2 1 : 0 1 2\n", "");
-    plan(&["--budget=0"], 0, "4 0 0 0 0 0 1 1 :\n", "");
+    plan(&["--width=1"], 0, "2 1 7 0 3 6 2 1 7 : 0 1 2\n", "");
+    plan(&["--budget=0"], 0, "4 0 0 0 0 0 1 1 0 :\n", "");
     plan(&["--gap=0", "--seconds=60"], 0, P1, "");
     let none = file(
         "loading-none.dp",
         designs_with("{a, b, c}", "{}").as_bytes(),
     );
-    run(&["plan", "--loading", &none]).is(0, "0 1 0 0 0 0 1 1 :\n");
+    run(&["plan", "--loading", &none]).is(0, "0 1 0 0 0 0 1 1 0 :\n");
     let left = run(&["plan", "--loading", "--words=0", &none]);
     left.gives(1, "refused 3\n");
     assert!(left.errors.contains("1 plan byte and 1,056 working words"));
@@ -74,14 +80,14 @@ fn settings() {
 #[test]
 fn fields() {
     let due = "verdict: 0 cheapest\nplan flag: 1\ncost: 7\nbound: 7\nlength: 3\n\
-        expansions: 14\nrounds: 3\nwidth: 4\nlength chosen: 3\nplan: 0 1 2\n";
+        expansions: 14\nrounds: 3\nwidth: 4\nlow: 7\nlength chosen: 3\nplan: 0 1 2\n";
     let designs = example("three-designs.dp");
     run(&["plan", "--loading", "--fields", &designs]).is(0, due);
     let left = run(&["plan", "--loading", "--fields", &example("tsptw.dp")]);
     left.gives(
         1,
         "refused: 15 outside the loading profile\nplan flag: 0\ncost: 0\nbound: 0\nlength: 0\n\
-         expansions: 0\nrounds: 0\nwidth: 0\nplan:\n",
+         expansions: 0\nrounds: 0\nwidth: 0\nlow: 0\nplan:\n",
     );
 }
 

@@ -11,7 +11,7 @@ fn list(names: &[&str]) -> Vec<u8> {
 #[test]
 fn the_lines_of_a_list() {
     let p1 = example("three-designs.model");
-    let line = "0 1 7 7 3 14 3 4 : 0 1 2\n";
+    let line = "0 1 7 7 3 14 3 4 7 : 0 1 2\n";
     let alone = format!("{line}1 1 0 0 0 0 0 0 7 7 0 0\n");
     run_with(&["monthly"], p1.as_bytes()).is(0, &alone);
     run_with(&["monthly", "-"], format!("{p1}\n").as_bytes()).is(0, &alone);
@@ -82,11 +82,11 @@ fn wrong_lines() {
         "refused",
         "refused x",
         "refused 256",
-        "0 1 7 7 3 14 3 : 0 1 2",
-        "6 1 7 7 3 14 3 4 : 0 1 2",
-        "0 2 7 7 3 14 3 4 : 0 1 2",
-        "0 1 7 7 3 14 3 4 : a",
-        "0 1 7 7 3 14 3 4",
+        "0 1 7 7 3 14 3 4 : 0 1 2",
+        "6 1 7 7 3 14 3 4 7 : 0 1 2",
+        "0 2 7 7 3 14 3 4 7 : 0 1 2",
+        "0 1 7 7 3 14 3 4 7 : a",
+        "0 1 7 7 3 14 3 4 7",
         "x",
         "",
     ] {

@@ -5,7 +5,7 @@ use repgypsum_host::cases::{groups, Call};
 use repgypsum_host::line::answer_line;
 use repgypsum_host::models::three_designs;
 
-const P1: &str = "0 1 7 7 3 14 3 4 : 0 1 2\n";
+const P1: &str = "0 1 7 7 3 14 3 4 7 : 0 1 2\n";
 
 #[test]
 fn examples_print_their_lines() {
@@ -35,13 +35,13 @@ fn settings() {
     let p1 = P1.trim_end();
     plan("--width 4 --length 3", 0, p1);
     plan("--width=4 --length=3 --budget=14", 0, p1);
-    plan("--width 2 --length 3", 0, "2 1 7 0 3 8 2 2 : 0 1 2");
-    plan("--width 1 --length 3", 0, "2 1 7 0 3 6 2 1 : 0 1 2");
-    plan("--width 8 --length 2", 0, "3 0 0 5 0 13 4 8 :");
-    plan("--budget 0", 0, "4 0 0 0 0 0 1 1 :");
+    plan("--width 2 --length 3", 0, "2 1 7 0 3 8 2 2 7 : 0 1 2");
+    plan("--width 1 --length 3", 0, "2 1 7 0 3 6 2 1 7 : 0 1 2");
+    plan("--width 8 --length 2", 0, "3 0 0 5 0 13 4 8 0 :");
+    plan("--budget 0", 0, "4 0 0 0 0 0 1 1 0 :");
     plan("--width 4096 --length 256 --budget 4294967295", 0, p1);
     plan("--width 0004", 0, p1);
-    plan("--width 1 --length 1", 0, "2 0 0 0 0 1 1 1 :");
+    plan("--width 1 --length 1", 0, "2 0 0 0 0 1 1 1 0 :");
     for settings in [
         "--width 0",
         "--width 3",
@@ -95,16 +95,16 @@ fn long_models() {
 fn fields() {
     let designs = example("three-designs.dp");
     let due = "verdict: 0 cheapest\nplan flag: 1\ncost: 7\nbound: 7\nlength: 3\n\
-        expansions: 14\nrounds: 3\nwidth: 4\nplan: 0 1 2\n";
+        expansions: 14\nrounds: 3\nwidth: 4\nlow: 7\nplan: 0 1 2\n";
     run(&["plan", "--fields", &designs]).is(0, due);
     let due = "verdict: 3 length stop\nplan flag: 0\ncost: 0\nbound: 5\nlength: 0\n\
-        expansions: 13\nrounds: 4\nwidth: 8\nplan:\n";
+        expansions: 13\nrounds: 4\nwidth: 8\nlow: 0\nplan:\n";
     run(&[
         "plan", &designs, "--width", "8", "--length", "2", "--fields",
     ])
     .is(0, due);
     let due = "refused: 2 setting out of range\nplan flag: 0\ncost: 0\nbound: 0\nlength: 0\n\
-        expansions: 0\nrounds: 0\nwidth: 0\nplan:\n";
+        expansions: 0\nrounds: 0\nwidth: 0\nlow: 0\nplan:\n";
     let left = run(&["plan", "--fields", "--width", "3", &designs]);
     left.gives(1, due);
     assert!(left
@@ -120,7 +120,7 @@ fn fields_of_a_path() {
     run(&["plan", &path]).is(1, "refused 13\n");
     let left = run(&["plan", "--fields", &path]);
     let due = "refused: 13 negative cost\nplan flag: 0\ncost: 5\nbound: 0\nlength: 2\n\
-        expansions: 3\nrounds: 1\nwidth: 1\npath: 0 1\n";
+        expansions: 3\nrounds: 1\nwidth: 1\nlow: 5\npath: 0 1\n";
     left.is(1, due);
 }
 

@@ -14,12 +14,12 @@ use repgypsum_host::reference::{search, search_widths};
 fn wrong_quotations() {
     let path = quoted("wrong.quote", &example("three-designs.dp"), &[]);
     let text = std::fs::read_to_string(&path).unwrap();
-    let line = "0 1 7 7 3 14 3 4 : 0 1 2";
+    let line = "0 1 7 7 3 14 3 4 7 : 0 1 2";
     let told = [
         (
-            "repgypsum quotation, form 1",
             "repgypsum quotation, form 2",
-            "1:1: a quotation begins with the line `repgypsum quotation, form 1`",
+            "repgypsum quotation, form 3",
+            "1:1: a quotation begins with the line `repgypsum quotation, form 2`",
         ),
         (
             "version: ",
@@ -48,22 +48,27 @@ fn wrong_quotations() {
         ),
         (
             line,
-            "0 1 7 7 4 14 3 4 : 0 1 2",
+            "0 1 7 7 4 14 3 4 7 : 0 1 2",
             "9:7: the plan has 3 steps, and its length is stated as 4",
         ),
         (
             line,
-            "0 1 7 7 3 14 3 : 0 1 2",
+            "0 1 7 7 3 14 3 4 : 0 1 2",
+            "9:7: expected the nine fields of an answer, a colon and the plan",
+        ),
+        (
+            "repgypsum quotation, form 2",
+            "repgypsum quotation, form 1",
             "9:7: expected the eight fields of an answer, a colon and the plan",
         ),
         (
             line,
-            "6 1 7 7 3 14 3 4 : 0 1 2",
+            "6 1 7 7 3 14 3 4 7 : 0 1 2",
             "9:7: expected a verdict from 0 to 5 and a plan flag of 0 or 1",
         ),
         (
             line,
-            "0 1 7 7 3 14 3 4 : 0 1 256",
+            "0 1 7 7 3 14 3 4 7 : 0 1 256",
             "9:7: expected transition numbers from 0 to 255 behind the colon",
         ),
         (

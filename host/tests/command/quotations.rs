@@ -77,7 +77,7 @@ fn nothing_is_replaced_and_no_refusal_quoted() {
     let left = run(&["plan", "--quote", &kept, &example("sop.dp")]);
     assert_eq!(
         (left.status, left.text().as_str()),
-        (2, "0 1 6 6 4 8 2 2 : 0 2 1 3\n")
+        (2, "0 1 6 6 4 8 2 2 6 : 0 2 1 3\n")
     );
     assert!(
         left.errors.contains("a quotation replaces nothing"),
@@ -104,38 +104,46 @@ fn nothing_is_replaced_and_no_refusal_quoted() {
 fn differences() {
     let path = quoted("differences.quote", &example("three-designs.dp"), &[]);
     let text = std::fs::read_to_string(&path).unwrap();
-    let line = "line: 0 1 7 7 3 14 3 4 : 0 1 2";
+    let line = "line: 0 1 7 7 3 14 3 4 7 : 0 1 2";
     let changed = [
         (
-            "line: 2 1 7 7 3 14 3 4 : 0 1 2",
+            "line: 2 1 7 7 3 14 3 4 7 : 0 1 2",
             "verdict: 2 in the quotation, 0 now",
         ),
         (
-            "line: 0 1 7 6 3 14 3 4 : 0 1 2",
+            "line: 0 1 7 6 3 14 3 4 7 : 0 1 2",
             "bound: 6 in the quotation, 7 now",
         ),
         (
-            "line: 0 1 7 7 3 15 3 4 : 0 1 2",
+            "line: 0 1 7 7 3 15 3 4 7 : 0 1 2",
             "expansions: 15 in the quotation, 14 now",
         ),
         (
-            "line: 0 1 7 7 3 14 2 4 : 0 1 2",
+            "line: 0 1 7 7 3 14 2 4 7 : 0 1 2",
             "rounds: 2 in the quotation, 3 now",
         ),
         (
-            "line: 0 1 7 7 3 14 3 8 : 0 1 2",
+            "line: 0 1 7 7 3 14 3 8 7 : 0 1 2",
             "width: 8 in the quotation, 4 now",
         ),
         (
-            "line: 0 1 8 7 3 14 3 4 : 0 1 2",
+            "line: 0 1 8 7 3 14 3 4 7 : 0 1 2",
             "cost: 8 in the quotation, 7 now",
         ),
         (
-            "line: 0 1 8 7 3 14 3 4 : 0 1 2",
-            "the plan check: answer 0, a plan, cost 7; 8 in the quotation",
+            "line: 0 1 8 7 3 14 3 4 7 : 0 1 2",
+            "the plan check: answer 0, a plan, cost 7, low 7; 8 and 7 in the quotation",
         ),
         (
-            "line: 0 0 7 7 3 14 3 4 : 0 1 2",
+            "line: 0 1 7 7 3 14 3 4 6 : 0 1 2",
+            "low: 6 in the quotation, 7 now",
+        ),
+        (
+            "line: 0 1 7 7 3 14 3 4 6 : 0 1 2",
+            "the plan check: answer 0, a plan, cost 7, low 7; 7 and 6 in the quotation",
+        ),
+        (
+            "line: 0 0 7 7 3 14 3 4 7 : 0 1 2",
             "plan flag: 0 in the quotation, 1 now",
         ),
     ];

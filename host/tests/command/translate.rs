@@ -81,7 +81,7 @@ fn long_texts() {
     let comment = "# ".to_string() + &"x".repeat(1 << 20) + "\n";
     let text = std::fs::read_to_string(example("sop.dp")).unwrap();
     let path = file("long-comment.dp", (comment.clone() + &text).as_bytes());
-    run(&["plan", &path]).is(0, "0 1 6 6 4 8 2 2 : 0 2 1 3\n");
+    run(&["plan", &path]).is(0, "0 1 6 6 4 8 2 2 6 : 0 2 1 3\n");
     let left = run_with(&["assemble"], comment.repeat(17).as_bytes());
     left.complains(2, "standard input: the text has more than 16777216 bytes");
 }

@@ -234,8 +234,8 @@ fn a_full_output() {
 #[test]
 fn names_of_inputs() {
     let model = std::fs::read(example("sop.model")).unwrap();
-    run_with(&["plan", "-"], &model).is(0, "0 1 6 6 4 8 2 2 : 0 2 1 3\n");
-    run_with(&["plan", "--", "-"], &model).is(0, "0 1 6 6 4 8 2 2 : 0 2 1 3\n");
+    run_with(&["plan", "-"], &model).is(0, "0 1 6 6 4 8 2 2 6 : 0 2 1 3\n");
+    run_with(&["plan", "--", "-"], &model).is(0, "0 1 6 6 4 8 2 2 6 : 0 2 1 3\n");
     run(&["plan", "--", "--fields"]).complains(2, "--fields: cannot be read");
 }
 

@@ -14,15 +14,15 @@ use std::ffi::OsString;
 fn lines_of_three_designs() {
     let designs = example("three-designs.dp");
     for (list, more, line) in [
-        ("1,200", "--length=64", "0 1 7 7 3 9 2 200 : 0 1 2"),
-        ("3", "--length=64", "0 1 7 7 3 13 2 3 : 0 1 2"),
-        ("200", "--length=64", "0 1 7 7 3 10 1 200 : 0 1 2"),
-        ("2", "--length=64", "2 1 7 0 3 10 2 2 : 0 1 2"),
-        ("1,2,4", "--length=2", "2 0 0 2 0 9 3 4 :"),
-        ("1,200", "--length=2", "3 0 0 5 0 6 2 200 :"),
-        ("1,2,4,8,16", "--length=64", "0 1 7 7 3 14 3 4 : 0 1 2"),
-        ("1,200", "--loading", "0 1 7 7 3 9 2 200 : 0 1 2"),
-        ("200,300", "--profile", "0 1 7 7 3 10 1 200 : 0 1 2"),
+        ("1,200", "--length=64", "0 1 7 7 3 9 2 200 7 : 0 1 2"),
+        ("3", "--length=64", "0 1 7 7 3 13 2 3 7 : 0 1 2"),
+        ("200", "--length=64", "0 1 7 7 3 10 1 200 7 : 0 1 2"),
+        ("2", "--length=64", "2 1 7 0 3 10 2 2 7 : 0 1 2"),
+        ("1,2,4", "--length=2", "2 0 0 2 0 9 3 4 0 :"),
+        ("1,200", "--length=2", "3 0 0 5 0 6 2 200 0 :"),
+        ("1,2,4,8,16", "--length=64", "0 1 7 7 3 14 3 4 7 : 0 1 2"),
+        ("1,200", "--loading", "0 1 7 7 3 9 2 200 7 : 0 1 2"),
+        ("200,300", "--profile", "0 1 7 7 3 10 1 200 7 : 0 1 2"),
     ] {
         let due = format!("{line}\n");
         run(&["plan", "--widths", list, more, &designs]).is(0, &due);
@@ -34,7 +34,7 @@ fn lines_of_three_designs() {
 #[test]
 fn usage() {
     let designs = example("three-designs.model");
-    run(&["plan", &designs]).is(0, "0 1 7 7 3 14 3 4 : 0 1 2\n");
+    run(&["plan", &designs]).is(0, "0 1 7 7 3 14 3 4 7 : 0 1 2\n");
     for empty in [&["--widths", ""][..], &["--widths="]] {
         let left = run(&[&["plan", &designs][..], empty].concat());
         left.gives(1, "refused 16\n");
@@ -65,7 +65,7 @@ fn lent() {
         left.gives(status, due);
         assert!(left.errors.contains(said), "{}", left.errors);
     };
-    let line = "0 1 7 7 3 9 2 200 : 0 1 2\n";
+    let line = "0 1 7 7 3 9 2 200 7 : 0 1 2\n";
     plan(&["--plan-bytes=64", "--words=25800"], 0, line, "");
     let due = "Due at these settings: 64 plan bytes and 25,800 working words.";
     plan(&["--words=25799"], 1, "refused 3\n", due);

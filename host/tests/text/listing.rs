@@ -10,6 +10,7 @@ fn lines(listing: &Listing, names: &Names) -> Vec<String> {
     for step in &listing.transitions {
         lines.extend(step.conditions.iter().map(|text| format!("when {text}")));
         lines.push(format!("cost {}", step.cost));
+        lines.extend(step.high.iter().map(|text| format!("high {text}")));
         for (variable, value) in &step.effects {
             lines.push(format!("{} := {value}", names.variable(*variable)));
         }

@@ -84,5 +84,5 @@ fn page_example() -> String {
 fn the_page_has_an_example_that_plans() {
     let bytes = assemble(&page_example()).unwrap();
     assert!(round_trip(&bytes));
-    assert_eq!(line(&bytes), "0 1 5 5 2 4 2 2 : 0 1");
+    assert_eq!(line(&bytes), "0 1 5 5 2 4 2 2 5 : 0 1");
 }

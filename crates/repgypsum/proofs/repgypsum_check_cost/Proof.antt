@@ -1,4 +1,4 @@
--- `repgypsum::repgypsum_check_cost` gives the hours of the cost.
+-- `repgypsum::repgypsum_check_cost` gives the high figure of the cost.
 use mathlib.Core.Path.{ap}
 use borrow.Author.Needs.{needs}
 use Rattle.model.specs.declared.Cost.{Cost}

@@ -7,12 +7,12 @@ use crate::command::words::refusal_name;
 use crate::declarations::{confirmed, preferences, Findings, Looking, NotBetter, TooHigh, Truth};
 use crate::json::Json;
 use crate::reference::syntax::Preference;
-use crate::reference::State;
+use crate::reference::{Costs, State};
 
 /// The members of a model that is looked at.
 pub fn members(source: &Source, known: &Known, looking: Looking, findings: &Findings) -> Members {
-    let bound = |(number, truth)| bound(source, known, number, truth);
-    let bounds = findings.bounds.iter().enumerate().map(bound);
+    let bound = |number| bound(source, known, number, findings);
+    let bounds = (0..findings.bounds.len()).map(bound);
     let preferences = findings.preferences.as_ref();
     let never = findings.never.iter().map(|number| *number as u8);
     let never: Vec<u8> = never.collect();
@@ -71,12 +71,22 @@ fn truth<Counterexample>(
     truth: &Truth<Counterexample>,
     shown: impl Fn(&Counterexample) -> Members,
 ) -> Members {
-    let (word, example) = match truth {
-        Truth::True => ("true", None),
-        Truth::Open => ("open", None),
-        Truth::False(found) => ("false", Some(Json::Object(shown(found)))),
+    let example = match truth {
+        Truth::False(found) => Some(Json::Object(shown(found))),
+        Truth::True | Truth::Open => None,
     };
-    vec![("truth", word.into()), ("counterexample", example.into())]
+    vec![
+        ("truth", word(truth).into()),
+        ("counterexample", example.into()),
+    ]
+}
+
+fn word<Counterexample>(truth: &Truth<Counterexample>) -> &'static str {
+    match truth {
+        Truth::True => "true",
+        Truth::Open => "open",
+        Truth::False(_) => "false",
+    }
 }
 
 /// A state and the steps that lead to it.
@@ -87,30 +97,32 @@ fn reached(known: &Known, state: &State, path: &[u8]) -> Members {
     ]
 }
 
-/// A plan from the state, and whether the proved plan check passes it at this cost on the model started there.
-fn plan(source: &Source, known: &Known, state: &State, plan: &[u8], cost: i64) -> Members {
+/// A plan from the state, and whether the proved plan check passes it at these costs on the model started there.
+fn plan(source: &Source, known: &Known, state: &State, plan: &[u8], costs: Costs) -> Members {
     vec![
         ("plan", json::steps(Some(&known.names), plan)),
-        ("cost", cost.into()),
+        ("cost", costs.high.into()),
+        ("low", costs.low.into()),
         (
             "confirmed",
-            confirmed(&source.model, state, plan, cost).into(),
+            confirmed(&source.model, state, plan, costs).into(),
         ),
     ]
 }
 
-fn bound(source: &Source, known: &Known, number: usize, found: &Truth<TooHigh>) -> Json {
+fn bound(source: &Source, known: &Known, number: usize, findings: &Findings) -> Json {
     let shown = |found: &TooHigh| {
         let mut members = reached(known, &found.state, &found.path);
         members.push(("value", found.value.into()));
-        members.extend(plan(source, known, &found.state, &found.plan, found.cost));
+        members.extend(plan(source, known, &found.state, &found.plan, found.costs));
         members
     };
     let mut members: Members = vec![
         ("number", number.into()),
         ("text", known.listing.bounds[number].as_str().into()),
     ];
-    members.extend(truth(found, shown));
+    members.extend(truth(&findings.bounds[number], shown));
+    members.push(("at_high", word(&findings.bounds_at_high[number]).into()));
     Json::Object(members)
 }
 
@@ -133,7 +145,7 @@ fn preferred(source: &Source, known: &Known, found: &Truth<NotBetter>) -> Json {
             ("better", Json::Object(better)),
             ("worse", Json::Object(worse)),
         ];
-        members.extend(plan(source, known, &found.worse, &found.plan, found.cost));
+        members.extend(plan(source, known, &found.worse, &found.plan, found.costs));
         members.push(("least", found.least.into()));
         members
     };

@@ -15,7 +15,13 @@ pub fn part(known: &Known) -> Part {
         for (number, bound) in bounds.iter().enumerate() {
             part.say(format!("  bound {number}: {bound}"));
         }
-        part.say("Bounds are true if, in every state that allowed steps reach, none is above the cost of a plan from there.");
+        part.say(match known.has_ranges() {
+            true => "Bounds are true if, in every state that allowed steps reach, none is above the cost of a plan from there at low",
+            false => "Bounds are true if, in every state that allowed steps reach, none is above the cost of a plan from there.",
+        });
+        if known.has_ranges() {
+            part.say("figures. What is proved holds as well where none is above the cost of a plan at high figures.");
+        }
     }
     let preferences = known.preferences();
     if preferences.is_empty() {
@@ -27,7 +33,10 @@ pub fn part(known: &Known) -> Part {
             part.say(format!("  {preference}"));
         }
         part.say("Preferences are true if a reachable state that is no worse by them than another, and equal in the rest, has");
-        part.say("for each plan of the other a plan that costs no more.");
+        part.say(match known.has_ranges() {
+            true => "for each plan of the other a plan that costs no more at high figures.",
+            false => "for each plan of the other a plan that costs no more.",
+        });
     }
     part.say("The search does not test whether they are true; `repgypsum declarations` looks for what shows one false,");
     part.say("and `plan --unconditional` plans without them.");

@@ -32,8 +32,10 @@ fn walked(explained: &Explained) -> Members {
 fn step(known: &Known, stage: &Stage) -> Json {
     let mut members = json::step(Some(&known.names), stage.number);
     members.extend([
-        ("cost", stage.cost.into()),
-        ("total", stage.total.into()),
+        ("cost", stage.costs.high.into()),
+        ("total", stage.totals.high.into()),
+        ("low", stage.costs.low.into()),
+        ("low_total", stage.totals.low.into()),
         ("state", json::state(known, &stage.state)),
     ]);
     Json::Object(members)

@@ -3,7 +3,7 @@
 mod again;
 mod pieces;
 
-use super::walk::{rows, HEADINGS, NUMBERS, OUTSIDE};
+use super::walk::{headings, rows, OUTSIDE};
 use super::{ended, given, made_file, Explained};
 use crate::command::declarations::tested;
 use crate::command::markup::escaped;
@@ -150,9 +150,9 @@ fn plan(explained: &Explained) -> String {
         true => Column::Numbers,
         false => Column::Words,
     };
-    let columns = HEADINGS.iter().zip(NUMBERS);
-    let columns: Vec<(&str, Column)> = columns
-        .map(|(name, numbers)| (*name, kind(numbers)))
+    let columns: Vec<(&str, Column)> = headings(known)
+        .into_iter()
+        .map(|(name, numbers)| (name, kind(numbers)))
         .collect();
     html += &table(&columns, &rows(known, stages), |_| None);
     html + &paragraph(OUTSIDE)

@@ -4,12 +4,12 @@ use super::walk::{follow, last_state};
 use crate::command::known::Known;
 use crate::command::part::Part;
 use crate::command::settings::Run;
-use crate::command::words::{counted, grouped, refusal_name};
-use crate::numbers::refusal::NEGATIVE_COST;
+use crate::command::words::{counted, grouped, range, refusal_name};
+use crate::numbers::refusal::{HIGH_BELOW_LOW, NEGATIVE_COST};
 use crate::reference::syntax::{Condition, Expression, Transition};
 use crate::reference::{Model, State};
 
-/// The expression that has no value in the state, or a negative cost.
+/// The expression that has no value in the state, a negative cost, or a high cost below the low one.
 #[derive(Clone, Copy, PartialEq, Eq, Debug)]
 enum Place {
     Constraint(usize),
@@ -17,6 +17,7 @@ enum Place {
     BaseCase(usize, usize),
     Condition(usize, usize),
     Cost(usize),
+    High(usize),
     Effect(usize, usize),
 }
 
@@ -75,7 +76,7 @@ fn in_base_cases(model: &Model, state: &State) -> Option<Trouble> {
     None
 }
 
-/// Trouble in a transition's conditions, cost or effects.
+/// Trouble in a transition's conditions, costs or effects.
 fn in_step(model: &Model, number: usize, step: &Transition, state: &State) -> Option<Trouble> {
     let place = |condition| Place::Condition(number, condition);
     if let Some(trouble) = in_conditions(model, &step.conditions, state, place) {
@@ -84,8 +85,13 @@ fn in_step(model: &Model, number: usize, step: &Transition, state: &State) -> Op
     if model.all_hold(&step.conditions, state) != Ok(true) {
         return None;
     }
-    if let Err(refusal) = model.step_cost(step, state) {
-        return Some((Place::Cost(number), refusal));
+    if let Err(refusal) = model.step_costs(step, state) {
+        let low = model.number(&step.cost, state);
+        let place = match low.is_ok_and(|low| low >= 0) {
+            true => Place::High(number),
+            false => Place::Cost(number),
+        };
+        return Some((place, refusal));
     }
     for (effect, value) in step.effects.iter().enumerate() {
         if let Expression::Number(value) = &value.value {
@@ -121,6 +127,11 @@ impl Known {
                 let cost = &listing.transitions[step].cost;
                 format!("the cost of {}, {cost}", self.step_name(step))
             }
+            Place::High(step) => {
+                let high = listing.transitions[step].high.as_deref();
+                let high = high.unwrap_or_default();
+                format!("the high cost of {}, {high}", self.step_name(step))
+            }
             Place::Effect(step, number) => {
                 let (variable, value) = &listing.transitions[step].effects[number];
                 let name = self.names.variable(*variable);
@@ -134,6 +145,29 @@ impl Known {
     }
 }
 
+/// The two costs of a range that is upside down, and what to do about it.
+fn below_low(known: &Known, step: usize, state: &State, part: &mut Part) {
+    let (model, listing) = (&known.model, &known.listing.transitions[step]);
+    let transition = &model.transitions[step];
+    let value = |expression: Option<&_>| {
+        let value = expression.and_then(|expression| model.number(expression, state).ok());
+        value.unwrap_or_default()
+    };
+    part.say(format!(
+        "Its value there is {}, and that of the low cost, {}, is {}.",
+        value(transition.high.as_ref()),
+        listing.cost,
+        value(Some(&transition.cost))
+    ));
+    part.say("To change: the two costs where they are written, or the entries of their tables; they may be equal.");
+    part.say(format!(
+        "Or `high max({}, {})`, with which both costs are the low one wherever the high one is below it.",
+        listing.cost,
+        listing.high.as_deref().unwrap_or_default()
+    ));
+    part.say("Or a condition that keeps the step away from such states.");
+}
+
 /// What was met, in which state and in which expression.
 pub fn part(known: &Known, run: &Run) -> Part {
     let answer = &run.answer;
@@ -145,7 +179,7 @@ pub fn part(known: &Known, run: &Run) -> Part {
     part.say(format!(
         "The path to the state evaluated has {} and costs {}. The bound then stood at {}.",
         counted(answer.length, "step"),
-        grouped(answer.cost),
+        range(answer.low, answer.cost),
         grouped(answer.bound)
     ));
     let model = &known.model;
@@ -157,9 +191,13 @@ pub fn part(known: &Known, run: &Run) -> Part {
     match first_trouble(model, &state) {
         Some((place, number)) if number == answer.verdict => {
             part.say(format!("Met in {}.", known.place(place)));
-            if let (Place::Cost(step), NEGATIVE_COST) = (place, number) {
-                let cost = model.number(&model.transitions[step].cost, &state);
-                part.say(format!("Its value there is {}.", cost.unwrap_or_default()));
+            match (place, number) {
+                (Place::Cost(step), NEGATIVE_COST) => {
+                    let cost = model.number(&model.transitions[step].cost, &state);
+                    part.say(format!("Its value there is {}.", cost.unwrap_or_default()));
+                }
+                (Place::High(step), HIGH_BELOW_LOW) => below_low(known, step, &state, &mut part),
+                _ => {}
             }
             part.say("This place is found by the independent implementation, which is tested and not proved.");
         }

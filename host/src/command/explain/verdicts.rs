@@ -1,5 +1,6 @@
 //! What is proved of each verdict, and what a stopped or contradicted run leaves open.
 
+use crate::answer::Answer;
 use crate::beam::Beam;
 use crate::command::input::Source;
 use crate::command::known::Known;
@@ -7,7 +8,9 @@ use crate::command::part::Part;
 use crate::command::settings::{Run, Settings};
 use crate::command::target;
 use crate::command::theorems::{
-    A_PLAN, CHEAPEST, CONTRADICTED, NOTHING_DECLARED, NO_PLAN, PLAN_CHECK, STOPPED,
+    A_PLAN, BOTH_COSTS, CHEAPEST, CHEAPEST_IN_RANGES, CONTRADICTED, HIGH_REACHED, LOW_REACHED,
+    NOTHING_DECLARED, NO_PLAN, NO_PLAN_IN_RANGES, PLAN_CHECK, REAL_COST, STOPPED,
+    STOPPED_IN_RANGES,
 };
 use crate::command::widths;
 use crate::command::words::{capital, counted, grouped};
@@ -27,30 +30,22 @@ pub fn proved(known: &Known, run: &Run) -> Part {
         part.say(format!(
             "The plan is a plan of the model, at cost {cost}, whatever the model declares [{A_PLAN}]."
         ));
+        say_range(answer, &mut part);
     }
     if target::decides(known, run) {
         target::say_no_plan(known, &mut part);
         part.say(THEOREMS);
         return part;
     }
-    let bound = grouped(answer.bound);
-    let conditional = match answer.verdict {
-        verdict::CHEAPEST => {
-            format!("no plan of the model costs less, of whatever length [{CHEAPEST}]")
-        }
-        verdict::NO_PLAN => format!("the model has no plan, of whatever length [{NO_PLAN}]"),
-        verdict::CONTRADICTED => {
-            part.say(format!(
-                "Some declared bound or preference of the model is false [{CONTRADICTED}]."
-            ));
-            return part;
-        }
-        _ => format!("every plan of the model costs at least {bound} [{STOPPED}]"),
-    };
-    if known.declares() {
+    if answer.verdict == verdict::CONTRADICTED {
         part.say(format!(
-            "If the model's declarations are true, {conditional}."
+            "Some declared bound or preference of the model is false [{CONTRADICTED}]."
         ));
+        return part;
+    }
+    let conditional = conditional(known, answer);
+    if known.declares() {
+        part.say(format!("{}, {conditional}.", supposing(known)));
     } else {
         part.say(format!("{}.", capital(&conditional)));
         part.say(format!(
@@ -61,13 +56,66 @@ pub fn proved(known: &Known, run: &Run) -> Part {
     part
 }
 
+/// What has to be true for a mark.
+fn supposing(known: &Known) -> &'static str {
+    match known.has_ranges() {
+        true => {
+            "If the model's bounds are true of the low costs and its preferences of the high ones"
+        }
+        false => "If the model's declarations are true",
+    }
+}
+
+/// What a mark says, if the declarations are true. Where costs are ranges, the theorems suppose them true of the ranges.
+fn conditional(known: &Known, answer: &Answer) -> String {
+    let ranges = known.has_ranges();
+    let theorem = |plain, in_ranges| match ranges && known.declares() {
+        true => in_ranges,
+        false => plain,
+    };
+    let bound = grouped(answer.bound);
+    match (answer.verdict, ranges) {
+        (verdict::CHEAPEST, true) => format!(
+            "no plan of the model has a smaller high cost, of whatever length [{}]",
+            theorem(CHEAPEST, CHEAPEST_IN_RANGES)
+        ),
+        (verdict::CHEAPEST, false) => {
+            format!("no plan of the model costs less, of whatever length [{CHEAPEST}]")
+        }
+        (verdict::NO_PLAN, _) => format!(
+            "the model has no plan, of whatever length [{}]",
+            theorem(NO_PLAN, NO_PLAN_IN_RANGES)
+        ),
+        (_, true) => format!(
+            "every plan of the model has a high cost of at least {bound} [{}]",
+            theorem(STOPPED, STOPPED_IN_RANGES)
+        ),
+        (_, false) => format!("every plan of the model costs at least {bound} [{STOPPED}]"),
+    }
+}
+
+/// What the two figures of a plan mean; nothing where they are the same.
+fn say_range(answer: &Answer, part: &mut Part) {
+    if answer.low == answer.cost {
+        return;
+    }
+    part.say(format!(
+        "Whatever its steps really cost inside their ranges, its real cost lies between {} and {} [{REAL_COST}]:",
+        grouped(answer.low),
+        grouped(answer.cost)
+    ));
+    part.say(format!(
+        "at the low end where each takes its low cost [{LOW_REACHED}], at the high end where each takes its high one [{HIGH_REACHED}]."
+    ));
+}
+
 /// The part that belongs to the verdict alone.
 pub fn more(known: &Known, settings: &Settings, run: &Run) -> Option<Part> {
     match run.answer.verdict {
         verdict::WIDTH_STOP | verdict::LENGTH_STOP | verdict::BUDGET_SPENT => {
             Some(stopped(known, settings, run))
         }
-        verdict::CONTRADICTED => Some(contradicted(run)),
+        verdict::CONTRADICTED => Some(contradicted(known, run)),
         _ => None,
     }
 }
@@ -93,6 +141,7 @@ fn stopped(known: &Known, settings: &Settings, run: &Run) -> Part {
             "No plan was found. There may be one, at cost {bound} or more{supposing}."
         ));
     }
+    say_high(known, &mut part);
     match answer.verdict {
         verdict::WIDTH_STOP => width_stop(settings, &mut part),
         verdict::LENGTH_STOP => length_stop(settings, &mut part),
@@ -161,8 +210,15 @@ fn budget_spent(settings: &Settings, part: &mut Part) {
     }
 }
 
+/// Which costs are meant, where costs are ranges.
+fn say_high(known: &Known, part: &mut Part) {
+    if known.has_ranges() {
+        part.say("Costs and bound are at high figures.");
+    }
+}
+
 /// The plan against the bound.
-fn contradicted(run: &Run) -> Part {
+fn contradicted(known: &Known, run: &Run) -> Part {
     let answer = &run.answer;
     let mut part = Part::new("What is contradicted");
     part.say(format!(
@@ -170,24 +226,29 @@ fn contradicted(run: &Run) -> Part {
         grouped(answer.bound),
         grouped(answer.cost)
     ));
+    say_high(known, &mut part);
     part.say("Until the declarations are put right, this model's marks say no more than that a plan given is a plan.");
     part
 }
 
 /// The proved plan check on the plan given.
-pub fn checked_again(source: &Source, run: &Run) -> Part {
+pub fn checked_again(source: &Source, known: &Known, run: &Run) -> Part {
     let mut part = Part::new("The plan check");
-    let (answer, cost) = proved::plan_check(&source.model, &run.steps);
+    let checked = proved::plan_check(&source.model, &run.steps);
     let steps = counted(run.steps.len() as u64, "step");
     part.say(format!(
-        "The proved plan check, run on these {steps}: answer {answer}, cost {}.",
-        grouped(cost)
+        "The proved plan check, run on these {steps}: {}.",
+        known.checked(checked)
     ));
-    if (answer, cost) == (0, run.answer.cost) {
-        part.say("The plan passes, at the cost that the search states.");
-        part.say(format!(
-            "A sequence of at most 256 steps passes exactly if it is a plan, and with its cost [{PLAN_CHECK}]."
-        ));
+    if checked == (0, run.answer.cost, run.answer.low) {
+        part.say(match known.has_ranges() {
+            true => "The plan passes, at both costs that the search states.",
+            false => "The plan passes, at the cost that the search states.",
+        });
+        part.say(match known.has_ranges() {
+            true => format!("A sequence of at most 256 steps passes exactly if it is a plan [{PLAN_CHECK}], and with both its costs [{BOTH_COSTS}]."),
+            false => format!("A sequence of at most 256 steps passes exactly if it is a plan, and with its cost [{PLAN_CHECK}]."),
+        });
     } else {
         part.say("This disagrees with the search: please report it.");
     }

@@ -3,32 +3,32 @@
 use crate::command::known::Known;
 use crate::command::part::Part;
 use crate::command::words::grouped;
-use crate::reference::{Model, State};
+use crate::reference::{Costs, Model, State};
 
-/// A step: its transition, its cost, the cost of the path up to and with it, and the state after it.
+/// A step: its transition, its costs, the costs of the path up to and with it, and the state after it.
 pub struct Stage {
     pub number: u8,
-    pub cost: i64,
-    pub total: i64,
+    pub costs: Costs,
+    pub totals: Costs,
     pub state: State,
 }
 
 /// The steps followed from the target; nothing if one of them has no cost or no new state.
 pub fn follow(model: &Model, steps: &[u8]) -> Option<Vec<Stage>> {
     let mut state = model.target();
-    let mut total = 0;
+    let mut totals = Costs::default();
     let mut stages = Vec::new();
     for number in steps {
         let transition = model.transitions.get(usize::from(*number))?;
-        let cost = model.step_cost(transition, &state).ok()?;
+        let costs = model.step_costs(transition, &state).ok()?;
         state = model.after(transition, &state).ok()?;
-        total = model.join(total, cost);
+        totals = model.join_costs(totals, costs);
         let state = state.clone();
         let number = *number;
         stages.push(Stage {
             number,
-            cost,
-            total,
+            costs,
+            totals,
             state,
         });
     }
@@ -41,54 +41,86 @@ pub fn last_state(model: &Model, stages: &[Stage]) -> State {
     last.map_or_else(|| model.target(), |stage| stage.state.clone())
 }
 
-/// The columns of the table of steps, and which of them have numbers.
-pub const HEADINGS: [&str; 5] = ["step", "cost", "so far", "transition", "what changes"];
-pub const NUMBERS: [bool; 5] = [true, true, true, false, false];
+/// The columns of the table of steps; where costs are ranges, both ends of them.
+const HEADINGS: [&str; 5] = ["step", "cost", "so far", "transition", "what changes"];
+const RANGES: [&str; 7] = [
+    "step",
+    "low",
+    "high",
+    "low so far",
+    "high so far",
+    "transition",
+    "what changes",
+];
+
+/// How many columns at the end have words, where the others have numbers.
+const WORDS: usize = 2;
+
+/// The headings of the columns, and whether a column has numbers.
+pub fn headings(known: &Known) -> Vec<(&'static str, bool)> {
+    let headings: &[&str] = match known.has_ranges() {
+        true => &RANGES,
+        false => &HEADINGS,
+    };
+    let numbers = headings.len() - WORDS;
+    let columns = headings.iter().enumerate();
+    columns
+        .map(|(place, heading)| (*heading, place < numbers))
+        .collect()
+}
 
 /// What is said below a table of steps.
 pub const OUTSIDE: &str =
     "Costs and states are from the independent implementation, which is tested and not proved.";
 
+/// The cells of costs: the one number, or both ends of the range.
+fn cells(known: &Known, costs: Costs) -> Vec<String> {
+    let (low, high) = (grouped(costs.low as u64), grouped(costs.high as u64));
+    match known.has_ranges() {
+        true => vec![low, high],
+        false => vec![high],
+    }
+}
+
 /// The start and each step, with costs and what changes.
-pub fn rows(known: &Known, stages: &[Stage]) -> Vec<[String; 5]> {
+pub fn rows(known: &Known, stages: &[Stage]) -> Vec<Vec<String>> {
     let mut before = known.model.target();
-    let mut rows = vec![[
-        "start".to_string(),
-        String::new(),
-        "0".to_string(),
-        String::new(),
-        known.state(&before),
-    ]];
+    let nothing = cells(known, Costs::default());
+    let mut start = vec!["start".to_string()];
+    start.extend(nothing.iter().map(|_| String::new()));
+    start.extend(nothing);
+    start.extend([String::new(), known.state(&before)]);
+    let mut rows = vec![start];
     for (place, stage) in stages.iter().enumerate() {
-        rows.push([
-            (place + 1).to_string(),
-            grouped(stage.cost as u64),
-            grouped(stage.total as u64),
-            known.transition(usize::from(stage.number)),
-            known.changes(&before, &stage.state),
-        ]);
+        let mut row = vec![(place + 1).to_string()];
+        row.extend(cells(known, stage.costs));
+        row.extend(cells(known, stage.totals));
+        row.push(known.transition(usize::from(stage.number)));
+        row.push(known.changes(&before, &stage.state));
+        rows.push(row);
         before = stage.state.clone();
     }
     rows
 }
 
 /// Columns of text, each as wide as its widest cell; those of numbers end together, the rest begin together.
-fn columns(rows: &[[String; 5]]) -> Vec<String> {
+fn columns(headings: &[(&str, bool)], rows: &[Vec<String>]) -> Vec<String> {
     let widest = |column: usize| {
         let widths = rows.iter().map(|row| row[column].chars().count());
         widths.max().unwrap_or(0)
     };
-    let widths: Vec<usize> = (0..5).map(widest).collect();
-    let cell = |row: &[String; 5], column: usize| {
+    let widths: Vec<usize> = (0..headings.len()).map(widest).collect();
+    let cell = |row: &[String], column: usize| {
         let (text, width) = (&row[column], widths[column]);
-        if NUMBERS[column] {
+        if headings[column].1 {
             format!("{text:>width$}")
         } else {
             format!("{text:<width$}")
         }
     };
-    let line = |row| {
-        let cells: Vec<String> = (0..5).map(|column| cell(row, column)).collect();
+    let line = |row: &Vec<String>| {
+        let places = 0..headings.len();
+        let cells: Vec<String> = places.map(|column| cell(row, column)).collect();
         cells.join("  ").trim_end().to_string()
     };
     rows.iter().map(line).collect()
@@ -101,9 +133,11 @@ pub fn part(heading: &'static str, known: &Known, stages: Option<&[Stage]>) -> P
         part.say("The independent implementation cannot follow these steps. One of the two is wrong: please report it.");
         return part;
     };
-    let mut table = vec![HEADINGS.map(str::to_string)];
+    let headings = headings(known);
+    let names = headings.iter().map(|(name, _)| name.to_string());
+    let mut table: Vec<Vec<String>> = vec![names.collect()];
     table.extend(rows(known, stages));
-    part.rows = columns(&table);
+    part.rows = columns(&headings, &table);
     part.say(OUTSIDE);
     part
 }

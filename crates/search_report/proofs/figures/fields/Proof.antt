@@ -10,7 +10,7 @@ returns c =
     let marked : tie.After-refused-number = search in
     let listed : tie.After-numbers = search in
     let told : tie.After-outcome-number = search in
-    struct-told (start .args .answer) (marked .refused-number .ensures) (told .outcome-number .ensures) (listed .numbers .ensures)
+    struct-told (start .args .answer) (marked .refused-number .ensures) (told .outcome-number .ensures) (listed .numbers .ensures .0)
 
 pub fields-spec : {M : Type 1} → statement M
 fields-spec =
@@ -19,6 +19,7 @@ fields-spec =
     (λ c κs. search needs)
     (λ c κs. search needs)
     (λ c κs. search needs)
+    (λ c. search needs)
     (λ c. search needs)
     (λ c. search needs)
     (λ c. search needs)

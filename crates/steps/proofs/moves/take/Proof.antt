@@ -2,7 +2,7 @@
 use native.Mathlib.Omega.{arith}
 use borrow.Author.Needs.{needs}
 use Rattle.steps.proofs.Moving.{take-stops, effects-begin, take-done, take-troubles}
-use Rattle.steps.proofs.Writing.{cost-within}
+use Rattle.steps.proofs.Costing.{cost-within}
 use Rattle.steps.proofs.moves.take.Statement.{statement}
 use Rattle.steps.proofs.moves.take.Tie as tie
 
