@@ -6,7 +6,6 @@ use mathlib.Core.List.{List, _∷_, _++_}
 use mathlib.Core.Option.{Option, none, some}
 use native.Mathlib.Omega.{arith}
 use Rattle.model.specs.Numbers.{rangeEnd}
-use Rattle.model.specs.Values.{Value, value, trouble}
 use Rattle.model.specs.System.{blocked, moved}
 use Rattle.model.specs.Meaning.{State}
 use Rattle.model.specs.declared.Cost.{Cost}
@@ -23,6 +22,7 @@ use Rattle.steps.specs.InBytes.{stateIn, systemIn, boundIn}
 use Rattle.steps.specs.Follow.{costsIn}
 use Rattle.steps.specs.Says.{MoveSays}
 use Rattle.steps.proofs.Promises.{cost-order, combined-up-to, f-low, step-cost-below, trouble-cost-below, bound-below, bound-hours, bound-troubles}
+use Rattle.steps.proofs.Trials.{bound-value, bound-trouble}
 use Rattle.steps.proofs.Following.{is-blocked, is-moved, is-before, is-after}
 use Rattle.beam_order.specs.Slots.{fOf}
 use Rattle.beam.specs.Nodes.{nodeOf, headerOf}
@@ -34,18 +34,6 @@ use Rattle.search_expansion.specs.declared.trials.Parent.{Parent}
 use Rattle.search_expansion.specs.declared.trials.Trial.the-variants as T
 use Rattle.search_expansion.specs.declared.trials.Expanded.{Expanded}
 use Rattle.search_expansion.specs.Expansion.{BestIs, belowCost, trialResult, Offered, Grows}
-
--- ---- answers taken apart
-
-is-value : (x : Value ℕ) {h : ℕ} → boundAnswer x ≡ B.Value h → x ≡ value h
-unfolding boundAnswer
-is-value (value h) e = cc
-is-value (trouble t) e = let z : _≡_ {A = ℕ} 0 1 = cc in absurd (omega arith)
-
-is-trouble : (x : Value ℕ) {t : ℕ} → boundAnswer x ≡ B.Trouble t → x ≡ trouble t
-unfolding boundAnswer
-is-trouble (value h) e = let z : _≡_ {A = ℕ} 0 1 = cc in absurd (omega arith)
-is-trouble (trouble t) e = cc
 
 -- ---- the offer
 
@@ -87,7 +75,7 @@ child-node bytes path state g h f i t small low =
 pub f-fits : (bytes : List ℕ) (u : State) (a c g : Cost) (h : ℕ) → CostBelow (2 ^ 63) a → CostBelow rangeEnd c → g ≡ costsIn bytes .combine a c → boundAnswer (boundIn bytes u) ≡ B.Value h → Joinable g (hours h)
 f-fits bytes u a c g h small step e b =
     let sum : CostUpTo (2 ^ 63 - 1 + (rangeEnd - 1)) g = rw e (combined-up-to bytes (below-up-to small) (below-up-to step)) in
-    let least = bound-below bytes u (is-value (boundIn bytes u) b) in
+    let least = bound-below bytes u (bound-value (boundIn bytes u) b) in
     record { high-fits = omega (arith, sum .high-within, least); low-fits = omega (arith, sum .low-within); moves-fit = omega (arith, sum .moves-within) }
 
 -- f by the cost that h stands for
@@ -119,7 +107,7 @@ module _ (bytes outline : List ℕ) (n : ℕ) (p : Parent) (state layer : List �
     held = offered .held;
     numbered = tt;
     same = λ path h₀ f₀ r k best-is.
-        rw (bound-hours bytes (stateIn bytes child) (is-value (boundIn bytes (stateIn bytes child)) b), ← eg, ← ef, ← child-node bytes path child g h f (p .slot) t small (ap (λ (x : Cost). x .low) ef ∙ f-low bytes g h)) (ap (λ (q : Round State Cost). definition.on q) (offered .same path r k best-is));
+        rw (bound-hours bytes (stateIn bytes child) (bound-value (boundIn bytes (stateIn bytes child)) b), ← eg, ← ef, ← child-node bytes path child g h f (p .slot) t small (ap (λ (x : Cost). x .low) ef ∙ f-low bytes g h)) (ap (λ (q : Round State Cost). definition.on q) (offered .same path r k best-is));
   }
 
   pub bounded-trouble : (c : Cost) (child : List ℕ) {g : Cost} {e : ℕ} → t < 256 → boundAnswer (boundIn bytes (stateIn bytes child)) ≡ B.Trouble e
@@ -129,7 +117,7 @@ module _ (bytes outline : List ℕ) (n : ℕ) (p : Parent) (state layer : List �
   bounded-trouble c child small b eg held = record {
     held = held;
     numbered = small;
-    same = λ path h₀ f₀ r k best-is. rw (bound-troubles bytes (stateIn bytes child) (is-trouble (boundIn bytes (stateIn bytes child)) b), ← eg);
+    same = λ path h₀ f₀ r k best-is. rw (bound-troubles bytes (stateIn bytes child) (bound-trouble (boundIn bytes (stateIn bytes child)) b), ← eg);
   }
 
   -- ---- a step

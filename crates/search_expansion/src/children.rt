@@ -15,6 +15,7 @@ use crate::trials::Best;
 use crate::trials::Expanded;
 use crate::trials::Parent;
 use crate::trials::Trial;
+use crate::trials::Turn;
 use beam::layer::Inserted;
 use beam::layer::insert;
 use beam_order::slots::HEADER_WORDS;
@@ -104,22 +105,23 @@ fn bounded(
     }
 }
 
-// Tries transition t in the node with this state.
+// A turn of the expansion of the node with this state. The child's words are lent, and are not made anew for each.
 fn try_transition(
     layer: &mut [u64],
     model: &[u8],
     outline: &[u64; PREPARED_WORDS],
-    n: usize,
+    turn: Turn,
     state: &[u64; STATE_WORDS],
     parent: Parent,
-    t: usize,
+    child: &mut [u64; STATE_WORDS],
     sums: &mut [u64; SUM_WORDS],
 ) -> Expanded
-    requires { ⌜ Expandable (now model) (now outline) n parent (now layer) × (t < 256) × Remembers (now model) (now outline) (now sums) ⌝ }
-    ensures { λ r. ⌜ Grows (now (model .entry)) (now (outline .entry)) n parent (now (state .entry)) (now (layer .entry)) (now (layer .exit)) r (triedIn (now (model .entry)) (parent .width) t) × Remembers (now (model .entry)) (now (outline .entry)) (now (sums .exit)) ⌝ }
+    requires { ⌜ Expandable (now model) (now outline) (turn .count) parent (now layer) × (turn .transition < 256) × Remembers (now model) (now outline) (now sums) ⌝ }
+    ensures { λ r. ⌜ Grows (now (model .entry)) (now (outline .entry)) (turn .count) parent (now (state .entry)) (now (layer .entry)) (now (layer .exit)) r (triedIn (now (model .entry)) (parent .width) (turn .transition)) × Remembers (now (model .entry)) (now (outline .entry)) (now (sums .exit)) ⌝ }
 {
-    let mut child = [0u64; STATE_WORDS];
-    match step(model, outline, state, t, &mut child) {
+    let n = turn.count;
+    let t = turn.transition;
+    match step(model, outline, state, t, child) {
         MoveAnswer::Blocked => Expanded {
             count: n,
             cut: false,
@@ -130,7 +132,7 @@ fn try_transition(
                 transition: t,
                 cost: c,
             };
-            bounded(layer, model, outline, n, parent, arrival, &child, sums)
+            bounded(layer, model, outline, n, parent, arrival, child, sums)
         }
         MoveAnswer::Before(e) => Expanded {
             count: n,
@@ -170,10 +172,24 @@ pub fn expand(
     let mut cut = false;
     let mut sums = [0u64; SUM_WORDS];
     forget(&mut sums);
+    let mut child = [0u64; STATE_WORDS];
     let mut t: usize = 0;
     while t < all {
         if allowed(model, outline, state, t) {
-            let x = try_transition(layer, model, outline, count, state, parent, t, &mut sums);
+            let turn = Turn {
+                count: count,
+                transition: t,
+            };
+            let x = try_transition(
+                layer,
+                model,
+                outline,
+                turn,
+                state,
+                parent,
+                &mut child,
+                &mut sums,
+            );
             count = x.count;
             cut = either(cut, x.cut);
             let trial = x.trial;

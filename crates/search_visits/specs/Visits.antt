@@ -1,5 +1,5 @@
 -- What the parts of one visit are promised: a new best plan, a base state, a state at the limit, an expansion and its answer.
-use Prim.Native.Nat.{ℕ, _≤_, _<_, _^_}
+use Prim.Native.Nat.{ℕ, _+_, _≤_, _<_, _^_}
 use mathlib.Core.Path.{_≡_}
 use mathlib.Core.List.{List, reverse}
 use lib.ListN.{length, take}
@@ -12,6 +12,7 @@ use Rattle.search.specs.Search as S
 use Rattle.beam_order.specs.Slots.{slotWords, gOf}
 use Rattle.steps.specs.InBytes.{Outlined, systemIn}
 use Rattle.steps.specs.Follow.{costsIn}
+use Rattle.beam.specs.Nodes.{stateWords}
 use Rattle.beam.specs.Layers.{Indexed, roundWith}
 use Rattle.search_expansion.specs.Expansion.{trialResult, Numbered}
 use Rattle.search_paths.specs.Routes.{pathBy, nextOf}
@@ -71,6 +72,12 @@ pub record Met (bytes outline words node : List ℕ) (w limit k i : ℕ) (x : Ro
   pub slot : i < w
   pub long : length node ≡ slotWords
   pub small : CostBelow (2 ^ 63) (gOf node)
+
+-- and what its expansion needs besides: the words of its state, a layer before the limit, room for one expansion more
+pub record Growing (node state : List ℕ) (limit k : ℕ) (x : Round) : Type 0 where
+  pub copied : state ≡ stateWords node
+  pub before-limit : k < limit
+  pub countable : x .progress .tally .expansions + 1 < 2 ^ 64
 
 -- the bytes of the best plan stay, whatever they are
 pub record Keeps (bytes outline words words′ : List ℕ) (w limit k : ℕ) (x : Round) (y : Visited) (rule : S.Round State Cost → Result (S.Round State Cost) Cost) : Type 0 where

@@ -1,11 +1,13 @@
 // One node of a layer: a base state, a state at the limit, or one to expand.
 
+ghost use mathlib.Core.Path.{_≡_};
 ghost use Prim.Native.Nat.{_+_, _-_, _≤_, _<_, _^_};
 ghost use lib.ListN.{length};
 ghost use Rattle.beam_order.specs.Slots.{wordsIn};
+ghost use Rattle.beam.specs.Nodes.{stateWords};
 ghost use Rattle.search_paths.specs.Routes.{Traceable};
 ghost use Rattle.search_visits.specs.Work.{nodeIn, countedIn, advanceIn, visitIn, Leaves};
-ghost use Rattle.search_visits.specs.Visits.{NewBest, Reached, Limited, Counted, Told, Met, Keeps};
+ghost use Rattle.search_visits.specs.Visits.{NewBest, Reached, Limited, Counted, Told, Met, Growing, Keeps};
 use crate::work::Ending;
 use crate::work::Limits;
 use crate::work::Marks;
@@ -168,7 +170,7 @@ fn told(g: Cost, i: usize, x: Expanded, round: Round) -> Visited
     }
 }
 
-// Rule 4: counts one expansion, and expands the node at a spot.
+// Rule 4: counts one expansion, and expands the node at a spot, whose state is at hand.
 fn expand_node(
     words: &mut [u64],
     model: &[u8],
@@ -176,9 +178,10 @@ fn expand_node(
     limits: Limits,
     spot: Spot,
     node: &[u64],
+    state: &[u64; STATE_WORDS],
     round: Round,
 ) -> Visited
-    requires { ⌜ Met (now model) (now outline) (now words) (now node) (limits .width) (limits .length) (spot .layer) (spot .slot) round × ((spot .layer < limits .length) × (round .progress .tally .expansions + 1 < 2 ^ 64)) ⌝ }
+    requires { ⌜ Met (now model) (now outline) (now words) (now node) (limits .width) (limits .length) (spot .layer) (spot .slot) round × Growing (now node) (now state) (limits .length) (spot .layer) round ⌝ }
     ensures { λ r. ⌜ Keeps (now (model .entry)) (now (outline .entry)) (now (words .entry)) (now (words .exit)) (limits .width) (limits .length) (spot .layer) round r (countedIn (now (model .entry)) (limits .width) (nodeIn (now (model .entry)) (now (words .entry)) (limits .width) (spot .layer) (spot .slot) (now (node .entry)))) ⌝ }
 {
     let w = limits.width;
@@ -186,8 +189,6 @@ fn expand_node(
     let n = round.count;
     let best = round.progress.best;
     let g = g_in(node, 0);
-    let mut state = [0u64; STATE_WORDS];
-    copy_words(&node[STATE_AT..], &mut state);
     let parent = Parent {
         slot: i,
         g: g,
@@ -196,11 +197,11 @@ fn expand_node(
     };
     let a = NEXT_AT * w;
     let e = NEXT_END * w;
-    let x = expand(&mut words[a..e], model, outline, n, &state, parent);
+    let x = expand(&mut words[a..e], model, outline, n, state, parent);
     told(g, i, x, count_one(round))
 }
 
-// Rule 3: the unfinished state at a spot.
+// Rule 3: the unfinished state at a spot, with the words of its node.
 fn advance(
     words: &mut [u64],
     model: &[u8],
@@ -208,9 +209,10 @@ fn advance(
     limits: Limits,
     spot: Spot,
     node: &[u64],
+    state: &[u64; STATE_WORDS],
     round: Round,
 ) -> Visited
-    requires { ⌜ Met (now model) (now outline) (now words) (now node) (limits .width) (limits .length) (spot .layer) (spot .slot) round ⌝ }
+    requires { ⌜ Met (now model) (now outline) (now words) (now node) (limits .width) (limits .length) (spot .layer) (spot .slot) round × (now state ≡ stateWords (now node)) ⌝ }
     ensures { λ r. ⌜ Keeps (now (model .entry)) (now (outline .entry)) (now (words .entry)) (now (words .exit)) (limits .width) (limits .length) (spot .layer) round r (advanceIn (now (model .entry)) (limits .budget) (limits .width) (limits .length - spot .layer) (nodeIn (now (model .entry)) (now (words .entry)) (limits .width) (spot .layer) (spot .slot) (now (node .entry)))) ⌝ }
 {
     if spot.layer == limits.length {
@@ -221,7 +223,7 @@ fn advance(
         };
     }
     if round.progress.tally.expansions < limits.budget {
-        return expand_node(words, model, outline, limits, spot, node, round);
+        return expand_node(words, model, outline, limits, spot, node, state, round);
     }
     Visited {
         round: round,
@@ -248,7 +250,16 @@ fn visit_node(
     copy_words(&node[STATE_AT..], &mut state);
     match status(model, outline, &state) {
         StatusAnswer::Base => reached(words, plan, limits.width, spot, g, round),
-        StatusAnswer::Unfinished => advance(words, model, outline, limits, spot, node, round),
+        StatusAnswer::Unfinished => advance(
+            words,
+            model,
+            outline,
+            limits,
+            spot,
+            node,
+            &state,
+            round,
+        ),
         StatusAnswer::Trouble(e) => Visited {
             round: round,
             next: Next::Over(Ending::At(e, g, spot.slot)),

@@ -51,7 +51,7 @@ use Rattle.solver.specs.declared.entry.Entered.the-variants as E
 use Rattle.search_report.specs.declared.answers.Answer.{Answer}
 use Rattle.search_runs.specs.declared.Stop.{Stop}
 use Rattle.steps.proofs.Promises.{cost-laws, cost-empty, bound-hours, bound-troubles, origin-start, origin-spent}
-use Rattle.steps.proofs.Trials.{all-held, one-fails, one-troubles}
+use Rattle.steps.proofs.Trials.{all-held, one-fails, one-troubles, bound-value, bound-trouble}
 use Rattle.search_report.proofs.Reporting.{answer-same}
 use Rattle.search_report.proofs.Numbers.{in-numbers, read-back}
 
@@ -104,16 +104,6 @@ room-lent ws plan words limit rises few enough =
     record { some-width = fits .0; narrow = fits .1; few-steps = few; plan-room = both .0; words-room = both .1 }
 
 -- ---- the target: its constraints, then its bounds
-
-bound-value : (v : Value ℕ) {h : ℕ} → boundAnswer v ≡ B.Value h → v ≡ value h
-unfolding boundAnswer
-bound-value (value a) e = cc
-bound-value (trouble t) e = let z : _≡_ {A = ℕ} 0 1 = cc in absurd (omega arith)
-
-bound-trouble : (v : Value ℕ) {t : ℕ} → boundAnswer v ≡ B.Trouble t → v ≡ trouble t
-unfolding boundAnswer
-bound-trouble (value h) e = let z : _≡_ {A = ℕ} 0 1 = cc in absurd (omega arith)
-bound-trouble (trouble a) e = cc
 
 module _ (bytes : List ℕ) where
   abbrev pub admitted : Value Bool

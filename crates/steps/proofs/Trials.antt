@@ -62,6 +62,16 @@ unfolding numberAnswer
 number-troubles (value a) n e = let z : _≡_ {A = ℕ} 0 1 = cc in absurd (omega arith)
 number-troubles (trouble t) n e = cc
 
+pub bound-value : (v : Value ℕ) {h : ℕ} → boundAnswer v ≡ B.Value h → v ≡ value h
+unfolding boundAnswer
+bound-value (value a) e = cc
+bound-value (trouble t) e = let z : _≡_ {A = ℕ} 0 1 = cc in absurd (omega arith)
+
+pub bound-trouble : (v : Value ℕ) {t : ℕ} → boundAnswer v ≡ B.Trouble t → v ≡ trouble t
+unfolding boundAnswer
+bound-trouble (value h) e = let z : _≡_ {A = ℕ} 0 1 = cc in absurd (omega arith)
+bound-trouble (trouble a) e = cc
+
 pub value-within : (l : ℕ) {r : NumberValue} {z : ℤ} {k : ℕ} → r ≡ N.Value z k → NumberWithin l r → (mag z < rangeEnd) × (k ≤ l)
 value-within l e w = rw e at w
 

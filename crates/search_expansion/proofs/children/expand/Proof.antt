@@ -12,10 +12,10 @@ use Rattle.search_expansion.proofs.children.expand.Statement.{statement
 use Rattle.search_expansion.proofs.children.expand.Tie as tie
 
 abbrev Inv-loop : tie.InvT-loop
-Inv-loop layer₀ model outline n state parent all count₀ cut₀ sums₀ t₀ layer count cut sums t = Expanding model outline n parent state layer₀ layer count cut t × Remembers model outline sums
+Inv-loop layer₀ model outline n state parent all count₀ cut₀ sums₀ child₀ t₀ layer count cut sums child t = Expanding model outline n parent state layer₀ layer count cut t × Remembers model outline sums
 
 abbrev μ-loop : tie.MeasureT-loop
-μ-loop layer₀ model outline n state parent all count₀ cut₀ sums₀ t₀ layer count cut sums t = all - t
+μ-loop layer₀ model outline n state parent all count₀ cut₀ sums₀ child₀ t₀ layer count cut sums child t = all - t
 
 abbrev begun : tie.After-transitions Inv-loop μ-loop → tie.Start Inv-loop μ-loop
 begun c = c .before .before .before
@@ -29,7 +29,7 @@ abbrev asked : tie.After-allowed Inv-loop μ-loop → tie.In-loop Inv-loop μ-lo
 asked c = c .before
 
 abbrev turn : tie.After-try-transition Inv-loop μ-loop → tie.In-loop Inv-loop μ-loop
-turn c = asked (c .before .before .before .before)
+turn c = asked (c .before .before .before .before .before)
 
 -- transition t is one of the model's
 one-left : (c : tie.In-loop Inv-loop μ-loop) → c .before .loop .t < systemIn (begun (counted (c .before .before)) .args .model .now) .transitions
@@ -40,7 +40,7 @@ loop-holds c = (expanding-first _ _ _ _ _ _ (begun (counted c) .pre .held), c .f
 
 try-transition-requires : tie.Need-try-transition-requires Inv-loop μ-loop
 try-transition-requires c κs =
-    let here = asked (c .before .before .before) in
+    let here = asked (c .before .before .before .before) in
     let pre = begun (counted (here .before .before)) .pre in (
       record { outlined = pre .outlined; held = here .before .loop .inv .0 .held; small = pre .small; slot = pre .slot },
       omega (arith, one-left here, few-transitions (pre .outlined)),

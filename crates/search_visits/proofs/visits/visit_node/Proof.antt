@@ -24,13 +24,16 @@ begun c = started (read c)
 abbrev copy : tie.After-status → tie.After-copy-words
 copy c = search
 
+-- it is the node's
+copied : (c : tie.After-copy-words) → c .copy-words .last .1 .0 ≡ stateWords (begun c .args .node .now)
+copied c = let start = begun c in state-copied (start .args .node .now) (c .copy-words .last .1 .0) (start .pre .0 .long) (c .copy-words .ensures)
+
 -- the status is that of the node's state
 asked : (c : tie.After-status) → (let start = begun (copy c) in c .status .result ≡ statusAnswer (systemIn (start .args .model .now) .status (stateIn (start .args .model .now) (stateWords (start .args .node .now)))))
 asked c =
     let start = begun (copy c) in
-    let here = copy c .copy-words in
     c .status .ensures
-    ∙ ap (λ (s : List ℕ). statusAnswer (systemIn (start .args .model .now) .status (stateIn (start .args .model .now) s))) (state-copied (start .args .node .now) (here .last .1 .0) (start .pre .0 .long) (here .ensures))
+    ∙ ap (λ (s : List ℕ). statusAnswer (systemIn (start .args .model .now) .status (stateIn (start .args .model .now) s))) (copied (copy c))
 
 reached-requires : tie.Need-reached-requires
 reached-requires c κs =
@@ -44,7 +47,7 @@ reached-requires c κs =
 advance-requires : tie.Need-advance-requires
 advance-requires c κs =
     let here : tie.After-status = search in
-    begun (copy here) .pre .0
+    (begun (copy here) .pre .0, copied (copy here))
 
 returns : tie.Need-returns
 returns c =
