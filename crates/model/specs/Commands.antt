@@ -108,7 +108,7 @@ module _ (vs : List Variable) (ts : List Table) where
   unfoldable pub effectOn : ℕ × Variable → Reader Effect
   effectOn p = one (expressionFor (p .1 .kind) (p .1 .objects)) (λ x. record { target = p .0; result = x })
 
-  -- 09, "one in each transition"; "Directly after command 09 a transition may carry command 10"
+  -- "one 09 (number, the cost)"; "Directly after command 09 a transition may carry command 10"
   unfoldable pub costs : Reader StepCosts
   costs = do
     command 0x09
