@@ -24,10 +24,11 @@ use Rattle.model.specs.Syntax.{Element, object, elementVariable, Set, so
 use Rattle.model.specs.Readers.{read}
 use Rattle.model.specs.Expressions.{kindNumber}
 use Rattle.model.specs.Commands.{model}
+use Rattle.model.specs.declared.Cost.{Cost}
 use Rattle.model.specs.Meaning.{State, numberAt, naturalAt, elementValue, setValue, conditionValue, expressionValue, allHold, someHolds}
 use Rattle.model.specs.Steps.{target, statusOf, status, effects, systemOf}
 use Rattle.model.specs.Profile.{ofOnly, isVariableZero, objectBeside, requiredObject, removedBy, removedObject, sameObject, loads, beginsWithSet, asksForEmpty, endsEmpty, inProfile, loadingLength}
-use Rattle.model.proofs.Taken.{bind-value, Takes, step-takes}
+use Rattle.model.proofs.Taken.{bind-value, all-found, Takes, step-takes}
 use Rattle.model.proofs.Starts.{Starts, model-starts}
 use Rattle.model.proofs.Sizes.{size, size-within, size-zero, size-removed}
 use Rattle.model.proofs.Declared.{reached-size}
@@ -174,9 +175,7 @@ some-variable [] e = absurd (false≢true e)
 some-variable (x ∷ xs) e = omega arith
 
 found-loads : (ts : List Transition) (i : ℕ) {t : Transition} → All (λ t. not (loads t) ≡ false) ts → getElem? ts i ≡ some t → loads t ≡ true
-found-loads [] i a e = let c : _≡_ {A = ℕ} 0 1 = cc in absurd (omega arith)
-found-loads (x ∷ ts) zero {t} a e = let same-one : x ≡ t = cc in rw same-one at (not-false (loads x) (a .0))
-found-loads (x ∷ ts) (suc i) a e = found-loads ts i (a .1) e
+found-loads ts i {t} a e = not-false (loads t) (all-found (λ t. not (loads t) ≡ false) ts i a e)
 
 start-size : (xs : List Variable) → beginsWithSet xs ≡ true → All Starts xs → size (naturalAt (map (λ x. x .start) xs) 0) ≤ mostObjects
 unfolding beginsWithSet naturalAt numberAt
@@ -229,7 +228,7 @@ module _ (end : ℕ) (m : Model) where
       (λ _ q. set-zero fs f s (set new (g .target) y) u z q v (rw (length-set new (g .target) y) long) rest) one-there
 
   -- a transition that loads takes one member out of variable 0
-  load-size : (t : Transition) (s u : State) → loads t ≡ true → 0 < length s → Takes end m t s u → suc (size (naturalAt u 0)) ≡ size (naturalAt s 0)
+  load-size : (t : Transition) (s u : State) {d : Cost} → loads t ≡ true → 0 < length s → Takes end m t s d u → suc (size (naturalAt u 0)) ≡ size (naturalAt s 0)
   unfolding loads removedObject naturalAt
   load-size t s u ok long x =
       let (c, same-one, held) = one-holds end (m .tables) s _ (t .conditions) (any-some _ (t .conditions) ok) (x .holds) in

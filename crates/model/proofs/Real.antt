@@ -1,4 +1,5 @@
--- The two figures of a plan: the low one is at most the high one, whatever the plan really takes lies between them, and both ends are reached.
+-- The two figures of a plan: the low one is at most the high one, whatever the plan really takes lies between them, and both ends are reached;
+-- without ranges they are the same.
 -- No step has moves, so costs are compared by hours at high figures; and declarations that are true of the ranges are true of the costs.
 use Prim.Native.Nat.{ℕ, _≤_, _<_}
 use mathlib.Core.Path.{_≡_, refl, subst}
@@ -17,9 +18,9 @@ use Rattle.model.specs.declared.Cost.{Cost}
 use Rattle.model.specs.Costs.{atMost, join, joinMoves, combine, costsOf}
 use Rattle.model.specs.Meaning.{State}
 use Rattle.model.specs.Steps.{target, boundHours, bound, systemOf}
-use Rattle.model.specs.Real.{RealHours, over, taking, TrueOfRanges}
+use Rattle.model.specs.Real.{RealHours, over, taking, TrueOfRanges, NoRanges}
 use Rattle.model.proofs.Costs.{at-most-hours, hours-at-most}
-use Rattle.model.proofs.Taken.{bind-value}
+use Rattle.model.proofs.Taken.{bind-value, step-one-figure}
 use Rattle.model.proofs.Ranges.{step-priced}
 
 -- ---- moves
@@ -77,6 +78,12 @@ module _ (m : Model) where
   low-at-most-high (finish e) = omega arith
   low-at-most-high (step {s = s} {t = t} {c = c} {r = r} x rest) =
       join-monotone (m .rule) (c .low) (c .high) (r .low) (r .high) (step-priced rangeEnd m s t (x .allowed) .low-first) (low-at-most-high rest)
+
+  -- host/repgypsum.h: "where no step has a range they are the same"
+  pub no-ranges-one-figure : NoRanges m → {s : State} {p : List ℕ} {c : Cost} → Plans s p c → c .low ≡ c .high
+  unfolding costsOf combine
+  no-ranges-one-figure fixed-costs (finish e) = refl
+  no-ranges-one-figure fixed-costs (step {s = s} {t = t} {c = c} {r = r} x rest) = rw (step-one-figure rangeEnd m fixed-costs s t (x .allowed), no-ranges-one-figure fixed-costs rest)
 
   -- "the plan's real cost lies between the two figures"
   pub real-cost-between : {s : State} {p : List ℕ} {c : Cost} {r : ℕ} → Plans s p c → RealHours m s p r → (c .low ≤ r) × (r ≤ c .high)

@@ -1,9 +1,11 @@
--- Hours known only within a range: what a plan may really cost, and declarations that are true of the ranges.
+-- Hours known only within a range: what a plan may really cost, declarations that are true of the ranges, and models without ranges.
 -- docs/FORMAT.md, "Hours within a range".
 use Prim.Native.Nat.{ℕ, _≤_}
 use mathlib.Core.Path.{_≡_}
 use mathlib.Core.Bool.{true}
 use mathlib.Core.List.{List, [], _∷_}
+use mathlib.Core.Option.{none}
+use Rattle.laws.specs.Lists.{All}
 use Rattle.model.specs.Numbers.{rangeEnd}
 use Rattle.model.specs.Values.{value}
 use Rattle.model.specs.System.{System, base}
@@ -29,3 +31,7 @@ module _ (m : Model) where
     pub bounds : {k : ℕ} {s : State} {h c : Cost} {p : List ℕ} → InLayer system (target m) k s → system .bound s ≡ value h → Plan (costsOf (m .rule)) system s p c → h .high ≤ c .low
     pub preferences : {j k : ℕ} {s u : State} {p : List ℕ} {r : Cost} → InLayer system (target m) j s → InLayer system (target m) k u → system .dominates s u ≡ true
         → Plan (costsOf (m .rule)) system u p r → (q : List ℕ) × (c : Cost) × Plan (costsOf (m .rule)) system s q c × (c .high ≤ r .high)
+
+  -- host/repgypsum.h: "where no step has a range". No transition has a 10, a high cost
+  abbrev pub NoRanges : Type 0
+  NoRanges = All (λ t. t .costs .high ≡ none) (m .transitions)

@@ -24,8 +24,8 @@ use Rattle.model.specs.Check.{check, costGiven, answerCost, answerLow, CheckedP
 use Rattle.model.proofs.Dominance.{dominates-self}
 use Rattle.model.proofs.Outcomes.{StateTrouble, by-value, by-range}
 use Rattle.model.proofs.Ranges.{trouble-priced}
-use Rattle.model.specs.Real.{RealHours, TrueOfRanges}
-use Rattle.model.proofs.Real.{joined-no-moves, plan-no-moves, path-no-moves, real-cost-between, declared-true}
+use Rattle.model.specs.Real.{RealHours, TrueOfRanges, NoRanges}
+use Rattle.model.proofs.Real.{joined-no-moves, plan-no-moves, path-no-moves, no-ranges-one-figure, real-cost-between, declared-true}
 use Rattle.model.specs.Profile.{inProfile, loadingLength}
 use Rattle.model.proofs.Profile.{loading-length-some, loading-length-within, none-open-in-profile}
 use Rattle.model.proofs.Troubles.{admits-trouble, status-trouble, move-trouble-before, move-trouble-after, bound-trouble, CheckRefusal, check-numbers}
@@ -250,6 +250,10 @@ module _ (most : ℕ) (bytes : List ℕ) (q : Settings) (l : Lent) (m : Model) (
   -- "For every choice of step costs inside the ranges, the plan's real cost lies between the two figures"
   pub real-cost-between-the-figures : run most bytes q l .flag ≡ true → (r : ℕ) → RealHours m (target m) (run most bytes q l .steps) r → (run most bytes q l .cost .low ≤ r) × (r ≤ run most bytes q l .cost .high)
   real-cost-between-the-figures e r real = real-cost-between m (a-plan-given-is-a-plan e .plan) real
+
+  -- host/repgypsum.h: "where no step has a range they are the same"
+  pub one-figure-without-ranges : run most bytes q l .flag ≡ true → NoRanges m → run most bytes q l .cost .low ≡ run most bytes q l .cost .high
+  one-figure-without-ranges e fixed-costs = no-ranges-one-figure m fixed-costs (a-plan-given-is-a-plan e .plan)
 
   -- "no plan has a smaller high cost, if bounds are true of the low costs and preferences of the high ones"
   pub cheapest-hours-least-in-ranges : run most bytes q l .outcome ≡ verdict cheapest → TrueOfRanges m → (p : List ℕ) (c : Cost) → PlanAt m p c → run most bytes q l .cost .high ≤ c .high
