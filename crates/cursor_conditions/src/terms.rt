@@ -158,7 +158,8 @@ fn joins(a: u8, b: u8) -> bool
     b == 0x22
 }
 
-// 22 and terms at the cursor. Nothing is tried where the first part is no sum and no choice, nor what stands behind a literal in its place.
+// 22 and terms at the cursor, or 22 and a table's entry first. Nothing is tried where the first part is no sum, no choice and no entry, nor what stands
+// behind a literal in its place.
 fn sum_of_terms(
     m: &&[u8],
     at: &mut usize,
@@ -172,6 +173,9 @@ fn sum_of_terms(
     if stands(e, p, 7) {
         if joins(e[p + 1], e[p + 6]) {
             return terms(m, at, outline, state);
+        }
+        if e[p + 1] == 0x28 {
+            return simple(m, at, outline, state);
         }
     }
     SILENT

@@ -27,21 +27,18 @@ use Rattle.quick.proofs.Totals.{total-of, variable-total}
 use Rattle.cursor.specs.Places.{Stands, Begins}
 use Rattle.cursor.specs.Told.{silentFrom, here, NumberIs, NumberTo, SetTo}
 use Rattle.cursor.specs.Codes.{OperationTold, isOperation}
+use Rattle.nested.specs.Waiting.{wordOf, Waiting, none, first, second, Reads}
 use Rattle.cursor_conditions.proofs.ConditionLaws.{suc-sub-one}
 use Rattle.cursor.proofs.NumberLaws.{operates, two-numbers}
 
 -- 22 to 27 lie below the bytes of operations that have their first number
-operation-low : (b : ℕ) → isOperation b ≡ true → b < 0x28
+pub operation-low : (b : ℕ) → isOperation b ≡ true → b < 0x28
 unfolding isOperation
 operation-low b h = ltb-true b 0x28 (and-both (leb 0x22 b) (ltb b 0x28) h .1)
 
 operation-high : (b : ℕ) → isOperation b ≡ true → 0x22 ≤ b
 unfolding isOperation
 operation-high b h = leb-true 0x22 b (and-both (leb 0x22 b) (ltb b 0x28) h .0)
-
--- the number that a word stands for
-abbrev wordOf : ℕ → ℤ
-wordOf w = pos (w % rangeSize) -ℤ pos rangeEnd
 
 module _ (bytes words state : List ℕ) where
   -- a number takes a byte at least
@@ -83,15 +80,14 @@ module _ (bytes words state : List ℕ) where
           run ∙ ap (λ (v : Value ℤ). numberAnswer v (1 + (1 + (set .used + 2)))) (fits-value _ (rw e at l)) ∙ ap (λ (v : ℤ). N.Value v (1 + (1 + (set .used + 2)))) (sym e)
 
   module _ (p : ℕ) where
-    -- k operations wait before the place a: each for its first number, or for its second behind the first
-    pub data Waiting (waiting firsts : List ℕ) : (a k : ℕ) → Type 0 where
-      none : {a : ℕ} → a ≡ p → Waiting waiting firsts a zero
-      first : {a k b q : ℕ} → Waiting waiting firsts a k → Begins bytes a b → isOperation b ≡ true → getD waiting k 0 ≡ b → q ≡ a + 1 → Waiting waiting firsts q (suc k)
-      second : {a k b q : ℕ} → Waiting waiting firsts a k → Begins bytes a b → isOperation b ≡ true → getD waiting k 0 ≡ b + 0x60 → NumberTo bytes words state (a + 1) (wordOf (getD firsts k 0)) q
-          → Waiting waiting firsts q (suc k)
+    abbrev Waits : (waiting firsts : List ℕ) (a k : ℕ) → Type 0
+    Waits = Waiting bytes words state p
+
+    abbrev Reading : (waiting firsts : List ℕ) (n q : ℕ) (z : ℤ) (told : Bool) → Type 0
+    Reading = Reads bytes words state p
 
     -- those that wait are told by the words in front
-    kept : {ws fs vs gs : List ℕ} {a k : ℕ} → ((i : ℕ) → i < k → getD vs i 0 ≡ getD ws i 0) → ((i : ℕ) → i < k → getD gs i 0 ≡ getD fs i 0) → Waiting ws fs a k → Waiting vs gs a k
+    kept : {ws fs vs gs : List ℕ} {a k : ℕ} → ((i : ℕ) → i < k → getD vs i 0 ≡ getD ws i 0) → ((i : ℕ) → i < k → getD gs i 0 ≡ getD fs i 0) → Waits ws fs a k → Waits vs gs a k
     kept f g (none e) = none e
     kept f g (first {k = k} w begins o e next) = first (kept (λ i h. f i (omega (arith, h))) (λ i h. g i (omega (arith, h))) w) begins o (f k (omega arith) ∙ e) next
     kept f g (second {k = k} {q = q} w begins o e number) =
@@ -104,18 +100,18 @@ module _ (bytes words state : List ℕ) where
       pub begins : Begins bytes place byte
       pub operation : isOperation byte ≡ true
       pub mark : getD waiting k 0 ≡ byte + 0x60
-      pub before : Waiting waiting firsts place k
+      pub before : Waits waiting firsts place k
       pub number : NumberTo bytes words state (place + 1) (wordOf (getD firsts k 0)) from
 
-    last-of : (ws fs : List ℕ) (a n : ℕ) → Waiting ws fs a n → (n ≡ 0 → ⊥) → (getD ws (n - 1) 0 < 0x80 → ⊥) → Last ws fs a (n - 1)
+    last-of : (ws fs : List ℕ) (a n : ℕ) → Waits ws fs a n → (n ≡ 0 → ⊥) → (getD ws (n - 1) 0 < 0x80 → ⊥) → Last ws fs a (n - 1)
     last-of ws fs a zero w some high = absurd (some refl)
     last-of ws fs a (suc k) (first {b = b} w begins o e next) some high = absurd (high (rw (suc-sub-one k) (omega (arith, e, operation-low b o))))
     last-of ws fs a (suc k) (second {a = c} {b = b} w begins o e number) some high =
         rw (suc-sub-one k) (record { place = c; byte = b; begins = begins; operation = o; mark = e; before = w; number = number })
 
     -- the last of them gets its first number
-    with-first : (ws fs : List ℕ) (a n q v : ℕ) (z : ℤ) → n ≤ length ws → n ≤ length fs → Waiting ws fs a n → (n ≡ 0 → ⊥) → getD ws (n - 1) 0 < 0x80 → NumberTo bytes words state a z q → wordOf v ≡ z
-        → Waiting (set ws (n - 1) (getD ws (n - 1) 0 + 0x60)) (set fs (n - 1) v) q n
+    with-first : (ws fs : List ℕ) (a n q v : ℕ) (z : ℤ) → n ≤ length ws → n ≤ length fs → Waits ws fs a n → (n ≡ 0 → ⊥) → getD ws (n - 1) 0 < 0x80 → NumberTo bytes words state a z q → wordOf v ≡ z
+        → Waits (set ws (n - 1) (getD ws (n - 1) 0 + 0x60)) (set fs (n - 1) v) q n
     with-first ws fs a zero q v z l m w some low number e = absurd (some refl)
     with-first ws fs a (suc k) q v z l m (second {b = b} w begins o is before) some low number e =
         let mark : getD ws k 0 < 0x80 = rw (suc-sub-one k) at low in
@@ -129,32 +125,21 @@ module _ (bytes words state : List ℕ) where
         (getD-set-same ws k (getD ws k 0 + 0x60) 0 (omega (arith, l)) ∙ ap (λ (i : ℕ). i + 0x60) is)
         (rw (getD-set-same fs k v 0 (omega (arith, m)), e) there))
 
-    -- ---- the loop: where nothing is told the part at q comes next, else it is read, and z is its number
-
-    pub record Reads (waiting firsts : List ℕ) (n q : ℕ) (z : ℤ) (told : Bool) : Type 0 where
-      pub waiting-room : length waiting ≡ 8
-      pub firsts-room : length firsts ≡ 8
-      pub few : n ≤ 8
-      pub from : ℕ
-      pub waits : Waiting waiting firsts from n
-      pub due : told ≡ false → q ≡ from
-      pub got : told ≡ true → NumberTo bytes words state from z q
-
-    pub reads-start : {ws fs : List ℕ} {z : ℤ} → length ws ≡ 8 → length fs ≡ 8 → Reads ws fs 0 p z false
+    pub reads-start : {ws fs : List ℕ} {z : ℤ} → length ws ≡ 8 → length fs ≡ 8 → Reading ws fs 0 p z false
     reads-start l m = record { waiting-room = l; firsts-room = m; few = omega arith; from = p; waits = none refl; due = λ e. refl; got = λ e. absurd (false≢true e) }
 
     -- none waits: the whole number is read
-    all-read : (ws fs : List ℕ) (a k q : ℕ) (z : ℤ) → Waiting ws fs a k → k ≡ 0 → NumberTo bytes words state a z q → NumberTo bytes words state p z q
+    all-read : (ws fs : List ℕ) (a k q : ℕ) (z : ℤ) → Waits ws fs a k → k ≡ 0 → NumberTo bytes words state a z q → NumberTo bytes words state p z q
     all-read ws fs a zero q z (none e) h number = rw e at number
     all-read ws fs a (suc k) q z w h number = absurd (omega (arith, h))
 
     module _ {ws fs : List ℕ} {n q : ℕ} {z : ℤ} {told : Bool} where
-      pub reads-end : Reads ws fs n q z told → told ≡ true → n ≡ 0 → NumberTo bytes words state p z q
+      pub reads-end : Reading ws fs n q z told → told ≡ true → n ≡ 0 → NumberTo bytes words state p z q
       reads-end r t e = all-read ws fs (r .from) n q z (r .waits) e (r .got t)
 
       -- the number is the first of the operation that waits last
-      pub reads-first : (v : ℕ) (y : ℤ) → Reads ws fs n q z told → told ≡ true → (n ≡ 0 → ⊥) → getD ws (n - 1) 0 < 0x80 → pos v ≡ z +ℤ pos rangeEnd → v < rangeSize
-          → Reads (set ws (n - 1) (getD ws (n - 1) 0 + 0x60)) (set fs (n - 1) v) n q y false
+      pub reads-first : (v : ℕ) (y : ℤ) → Reading ws fs n q z told → told ≡ true → (n ≡ 0 → ⊥) → getD ws (n - 1) 0 < 0x80 → pos v ≡ z +ℤ pos rangeEnd → v < rangeSize
+          → Reading (set ws (n - 1) (getD ws (n - 1) 0 + 0x60)) (set fs (n - 1) v) n q y false
       reads-first v y r t some low e h = record {
         waiting-room = length-set ws (n - 1) (getD ws (n - 1) 0 + 0x60) ∙ r .waiting-room;
         firsts-room = length-set fs (n - 1) v ∙ r .firsts-room;
@@ -166,8 +151,8 @@ module _ (bytes words state : List ℕ) where
       }
 
       -- it is the second: both make one
-      pub reads-second : (x y : ℤ) → Reads ws fs n q z told → told ≡ true → (n ≡ 0 → ⊥) → (getD ws (n - 1) 0 < 0x80 → ⊥) → x ≡ wordOf (getD fs (n - 1) 0) → OperationTold (getD ws (n - 1) 0 - 0x60) x z y
-          → ltZ y (pos silentFrom) ≡ true → Reads ws fs (n - 1) q y told
+      pub reads-second : (x y : ℤ) → Reading ws fs n q z told → told ≡ true → (n ≡ 0 → ⊥) → (getD ws (n - 1) 0 < 0x80 → ⊥) → x ≡ wordOf (getD fs (n - 1) 0) → OperationTold (getD ws (n - 1) 0 - 0x60) x z y
+          → ltZ y (pos silentFrom) ≡ true → Reading ws fs (n - 1) q y told
       reads-second x y r t some high e tells low =
           let last = last-of ws fs (r .from) n (r .waits) some high in
           let o = operates (last .byte) (last .operation) in
@@ -184,7 +169,7 @@ module _ (bytes words state : List ℕ) where
           }
 
       -- an operation waits for its numbers
-      pub reads-operation : (b : ℕ) (y : ℤ) → Reads ws fs n q z told → told ≡ false → Begins bytes q b → isOperation b ≡ true → (n ≡ 8 → ⊥) → Reads (set ws n b) fs (n + 1) (q + 1) y told
+      pub reads-operation : (b : ℕ) (y : ℤ) → Reading ws fs n q z told → told ≡ false → Begins bytes q b → isOperation b ≡ true → (n ≡ 8 → ⊥) → Reading (set ws n b) fs (n + 1) (q + 1) y told
       reads-operation b y r t begins o room = record {
         waiting-room = length-set ws n b ∙ r .waiting-room;
         firsts-room = r .firsts-room;
@@ -200,8 +185,26 @@ module _ (bytes words state : List ℕ) where
         got = λ u. absurd (false≢true (sym t ∙ u));
       }
 
+      -- an operation waits for its second number, its first being read with it
+      pub reads-led : (b v k : ℕ) (x y : ℤ) → Reading ws fs n q z told → told ≡ false → Begins bytes q b → isOperation b ≡ true → (n ≡ 8 → ⊥) → NumberTo bytes words state (q + 1) x k → pos v ≡ x +ℤ pos rangeEnd → v < rangeSize
+          → Reading (set ws n (b + 0x60)) (set fs n v) (n + 1) k y told
+      reads-led b v k x y r t begins o room number e h = record {
+        waiting-room = length-set ws n (b + 0x60) ∙ r .waiting-room;
+        firsts-room = length-set fs n v ∙ r .firsts-room;
+        few = omega (arith, r .few, room);
+        from = k;
+        waits = rw (add-one n)
+            (second {q = k}
+            (kept (λ i l. getD-set-other ws n i (b + 0x60) 0 (λ j. absurd (omega (arith, l, j)))) (λ i l. getD-set-other fs n i v 0 (λ j. absurd (omega (arith, l, j)))) (rw (← (r .due t)) at (r .waits)))
+            begins o
+            (getD-set-same ws n (b + 0x60) 0 (omega (arith, r .few, room, r .waiting-room)))
+            (rw (getD-set-same fs n v 0 (omega (arith, r .few, room, r .firsts-room)), word-back v x e h) number));
+        due = λ u. refl;
+        got = λ u. absurd (false≢true (sym t ∙ u));
+      }
+
       -- a part is read
-      pub reads-part : (k : ℕ) (y : ℤ) → Reads ws fs n q z told → told ≡ false → NumberTo bytes words state q y k → Reads ws fs n k y true
+      pub reads-part : (k : ℕ) (y : ℤ) → Reading ws fs n q z told → told ≡ false → NumberTo bytes words state q y k → Reading ws fs n k y true
       reads-part k y r t number = record {
         waiting-room = r .waiting-room;
         firsts-room = r .firsts-room;

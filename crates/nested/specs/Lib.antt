@@ -1,2 +1,3 @@
--- What is known before a number is read.
+-- What is known before a number is read, and what waits while it is.
 pub mod Known
+pub mod Waiting

@@ -2,9 +2,15 @@
 
 pub mod rounded;
 
+ghost use mathlib.Core.Path.{_≡_};
+ghost use mathlib.Core.Bool.{false};
+ghost use lib.ListN.{length};
+ghost use lib.IntN.{pos};
+ghost use Rattle.quick.specs.Sums.{Remembers};
 ghost use Rattle.cursor.specs.Places.{Begins, FirstByte};
 ghost use Rattle.cursor.specs.Told.{NumberTold};
 ghost use Rattle.nested.specs.Known.{KnownAt};
+ghost use Rattle.nested.specs.Waiting.{Reads};
 use cursor::numbers::SILENT;
 use cursor::numbers::entry_on;
 use cursor::numbers::is_operation;
@@ -20,8 +26,9 @@ use outline::layout::TABLES;
 use outline::word_at;
 use quick::sets::begins_element;
 use quick::sets::object;
+use quick::sums::SUM_WORDS;
 use quick::sums::is_variable_total;
-use quick::sums::total_at;
+use quick::sums::last_total;
 use words::arithmetic::biased;
 use words::arithmetic::in_range;
 use words::arithmetic::signed_word;
@@ -52,21 +59,23 @@ fn variable(
     SILENT
 }
 
-// 2A t 41 v 30 j at the cursor.
+// 2A t 41 v 30 j at the cursor, from the last sum where that is the same.
 fn summed(
     m: &&[u8],
     at: &mut usize,
     outline: &[u64; PREPARED_WORDS],
     state: &[u64; STATE_WORDS],
+    sums: &mut [u64; SUM_WORDS],
 ) -> i64
-    ensures { λ r. ⌜ NumberTold (now (now (m .entry))) (now (outline .entry)) (now (state .entry)) (now (at .entry)) r (now (at .exit)) ⌝ }
+    requires { ⌜ Remembers (now (now m)) (now outline) (now sums) ⌝ }
+    ensures { λ r. ⌜ NumberTold (now (now (m .entry))) (now (outline .entry)) (now (state .entry)) (now (at .entry)) r (now (at .exit)) × Remembers (now (now (m .entry))) (now (outline .entry)) (now (sums .exit)) ⌝ }
 {
     let p = *at;
     let e = *m;
     if stands(e, p, 6) {
         if is_variable_total(e, p) {
             *at = p + 6;
-            let z = total_at(e, p, outline, state);
+            let z = last_total(e, p, outline, state, sums);
             if in_range(z) {
                 return z;
             }
@@ -109,7 +118,7 @@ fn summed_near(
     SILENT
 }
 
-// A number without operations at the cursor, which begins with byte b. A table's sum at `place` is known: `sum`.
+// A number without operations at the cursor, which begins with byte b. A table's sum at `place` is known: `sum`; others are remembered in `sums`.
 fn part(
     b: u8,
     m: &&[u8],
@@ -118,9 +127,10 @@ fn part(
     state: &[u64; STATE_WORDS],
     place: usize,
     sum: i64,
+    sums: &mut [u64; SUM_WORDS],
 ) -> i64
-    requires { ⌜ FirstByte (now (now m)) (now at) b × KnownAt (now (now m)) (now outline) (now state) place sum ⌝ }
-    ensures { λ r. ⌜ NumberTold (now (now (m .entry))) (now (outline .entry)) (now (state .entry)) (now (at .entry)) r (now (at .exit)) ⌝ }
+    requires { ⌜ FirstByte (now (now m)) (now at) b × KnownAt (now (now m)) (now outline) (now state) place sum × Remembers (now (now m)) (now outline) (now sums) ⌝ }
+    ensures { λ r. ⌜ NumberTold (now (now (m .entry))) (now (outline .entry)) (now (state .entry)) (now (at .entry)) r (now (at .exit)) × Remembers (now (now (m .entry))) (now (outline .entry)) (now (sums .exit)) ⌝ }
 {
     if b == 0x20 {
         return literal(m, at, outline, state);
@@ -140,7 +150,7 @@ fn part(
             return sum;
         }
         let p = *at;
-        let z = summed(m, at, outline, state);
+        let z = summed(m, at, outline, state, sums);
         if z < SILENT {
             return z;
         }
@@ -158,7 +168,56 @@ fn part(
     SILENT
 }
 
-// Parts joined by 22 to 27 at the cursor, whatever their nesting while no more than eight operations wait. A table's sum at `place` is known: `sum`.
+// A literal or a number variable at the cursor.
+fn short_part(
+    m: &&[u8],
+    at: &mut usize,
+    outline: &[u64; PREPARED_WORDS],
+    state: &[u64; STATE_WORDS],
+) -> i64
+    ensures { λ r. ⌜ NumberTold (now (now (m .entry))) (now (outline .entry)) (now (state .entry)) (now (at .entry)) r (now (at .exit)) ⌝ }
+{
+    if first_byte(*m, *at) == 0x21 {
+        return variable(m, at, outline, state);
+    }
+    literal(m, at, outline, state)
+}
+
+// Operations at the cursor whose first numbers are short, each read with its first number: as many as wait then.
+fn leading(
+    m: &&[u8],
+    at: &mut usize,
+    outline: &[u64; PREPARED_WORDS],
+    state: &[u64; STATE_WORDS],
+    waiting: &mut [u8; MOST_WAITING],
+    firsts: &mut [u64; MOST_WAITING],
+) -> usize
+    requires { ⌜ (length (now waiting) ≡ 8) × (length (now firsts) ≡ 8) ⌝ }
+    ensures { λ r. ⌜ Reads (now (now (m .entry))) (now (outline .entry)) (now (state .entry)) (now (at .entry)) (now (waiting .exit)) (now (firsts .exit)) r (now (at .exit)) (pos 0) false ⌝ }
+{
+    let mut n: usize = 0;
+    loop {
+        let b = first_byte(*m, *at);
+        if is_operation(b) {
+            if n == MOST_WAITING {
+                return n;
+            }
+            let mut q = *at + 1;
+            let x = short_part(m, &mut q, outline, state);
+            if SILENT <= x {
+                return n;
+            }
+            waiting[n] = b + HAS_FIRST;
+            firsts[n] = biased(x);
+            n += 1;
+            *at = q;
+        } else {
+            return n;
+        }
+    }
+}
+
+// Parts joined by 22 to 27 at the cursor, whatever their nesting while no more than eight operations wait. A table's sum at `place` is known: `sum`; others are remembered in `sums`.
 pub fn number(
     m: &&[u8],
     at: &mut usize,
@@ -166,14 +225,15 @@ pub fn number(
     state: &[u64; STATE_WORDS],
     place: usize,
     sum: i64,
+    sums: &mut [u64; SUM_WORDS],
 ) -> i64
-    requires { ⌜ KnownAt (now (now m)) (now outline) (now state) place sum ⌝ }
-    ensures { λ r. ⌜ NumberTold (now (now (m .entry))) (now (outline .entry)) (now (state .entry)) (now (at .entry)) r (now (at .exit)) ⌝ }
+    requires { ⌜ KnownAt (now (now m)) (now outline) (now state) place sum × Remembers (now (now m)) (now outline) (now sums) ⌝ }
+    ensures { λ r. ⌜ NumberTold (now (now (m .entry))) (now (outline .entry)) (now (state .entry)) (now (at .entry)) r (now (at .exit)) × Remembers (now (now (m .entry))) (now (outline .entry)) (now (sums .exit)) ⌝ }
 {
     let mut waiting = [0u8; MOST_WAITING];
     let mut firsts = [0u64; MOST_WAITING];
-    let mut n: usize = 0;
     let mut q = *at;
+    let mut n = leading(m, &mut q, outline, state, &mut waiting, &mut firsts);
     let mut z: i64 = 0;
     let mut told = false;
     loop {
@@ -204,7 +264,7 @@ pub fn number(
                 n += 1;
                 q += 1;
             } else {
-                z = part(b, m, &mut q, outline, state, place, sum);
+                z = part(b, m, &mut q, outline, state, place, sum, sums);
                 if SILENT <= z {
                     return SILENT;
                 }

@@ -20,8 +20,8 @@ pub struct Test {
     pub used: usize,
 }
 
-// Whether 54 30 k 41 v stands at a place.
-fn is_member(model: &[u8], at: usize) -> bool
+// Whether 54 30 k 41 v stands at a place: an object is a member of a set variable.
+pub fn is_member(model: &[u8], at: usize) -> bool
     ensures { λ r. ⌜ (r ≡ true → MemberForm (now (model .entry)) at) ⌝ }
 {
     if model.len() < 5 {

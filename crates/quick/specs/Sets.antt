@@ -1,11 +1,13 @@
--- Elements, and a set variable with an element added or taken out, by the bytes that stand for them.
+-- Elements, a set variable with an element added or taken out, one joined to a set, and an object's membership in one, by the bytes that
+-- stand for them.
 use Prim.Native.Nat.{ℕ, _+_, _%_, _^_, _≤_}
 use mathlib.Core.Path.{_≡_}
 use mathlib.Core.Bool.{Bool, true, cond}
 use mathlib.Core.List.{List}
-use lib.ListN.{length, getD}
+use lib.ListN.{length, getD, drop}
 use lib.Dec.{eqb}
 use Rattle.model.specs.Numbers.{mostObjects}
+use Rattle.model.specs.Readers.{Read, read, refused, word}
 use Rattle.model.specs.Sets as Sets
 
 -- ---- 30 k and 31 v: an element
@@ -34,3 +36,30 @@ module _ (bytes : List ℕ) (at : ℕ) where
 
   abbrev pub changedIn : (state : List ℕ) → ℕ
   changedIn state = changedBy (getD bytes at 0) (objectIn (getD bytes (at + 1) 0) (getD bytes (at + 2) 0) state) (getD state (getD bytes (at + 4) 0) 0)
+
+-- ---- 44 41 v 40 n and eight bytes: the members of the set variable v and those of the set that the bytes are
+
+-- what was read, or no members
+unfoldable pub orNone : Read ℕ → ℕ
+orNone (read s n) = s
+orNone (refused t) = 0
+
+-- the eight bytes from k on as one number
+abbrev pub membersAt : (bytes : List ℕ) (k : ℕ) → ℕ
+membersAt bytes k = orNone (word 8 (drop k bytes))
+
+module _ (bytes : List ℕ) (at : ℕ) where
+  pub record JoinedForm : Type 0 where
+    pub inside : at + 13 ≤ length bytes
+    pub union : getD bytes at 0 ≡ 0x44
+    pub variable : getD bytes (at + 1) 0 ≡ 0x41
+    pub literal : getD bytes (at + 3) 0 ≡ 0x40
+
+  abbrev pub joinedIn : (state : List ℕ) → ℕ
+  joinedIn state = Sets.union (getD state (getD bytes (at + 2) 0) 0) (membersAt bytes (at + 5))
+
+-- ---- 54 30 k 41 v: whether the object k is a member of the set variable v
+
+module _ (bytes : List ℕ) (at : ℕ) where
+  abbrev pub memberIn : (state : List ℕ) → Bool
+  memberIn state = Sets.isMember (objectIn 0x30 (getD bytes (at + 2) 0) state) (getD state (getD bytes (at + 4) 0) 0)

@@ -1,5 +1,5 @@
--- 2A over a set variable: a table's column summed over a set; and the memory of the last such sum of each bound.
-use Prim.Native.Nat.{ℕ, _+_, _*_, _%_, _≤_, _<_}
+-- 2A over a set variable: a table's column summed over a set; and the memory of the last such sum of each bound, and of any other.
+use Prim.Native.Nat.{ℕ, _+_, _*_, _/_, _%_, _≤_, _<_}
 use mathlib.Core.Path.{_≡_}
 use mathlib.Core.Bool.{Bool, false, cond}
 use mathlib.Core.List.{List}
@@ -88,9 +88,13 @@ module _ (bytes : List ℕ) (at : ℕ) where
 
 -- ---- the last sums
 
--- two words a bound: a set, and the sum over it, as a number variable has it
+-- two words a bound: a set, and the sum over it, as a number variable has it; then three: a key, a set and a sum
 abbrev pub sumWords : ℕ
-sumWords = 16
+sumWords = 19
+
+-- the sum over the members of s of the column that a key names: a table's number, and 256 times a column's byte
+unfoldable pub columnOver : (bytes words : List ℕ) (key s : ℕ) → ℤ
+columnOver bytes words key s = sumOver (λ i. entryOf bytes (tableIn words (key % 256)) i (key / 256 % mostObjects)) (members s)
 
 -- where bound k stands
 abbrev pub boundPlace : (words : List ℕ) (k : ℕ) → ℕ
@@ -99,6 +103,7 @@ boundPlace words k = getD words (boundsFrom + k) 0
 pub record Remembers (bytes words sums : List ℕ) : Type 0 where
   pub room : length sums ≡ sumWords
   pub sums-are : (k : ℕ) → k < mostBounds → valueOf aNumber (getD sums (2 * k + 1) 0) ≡ sumOf bytes (sumPlace bytes (boundPlace words k)) words (getD sums (2 * k) 0)
+  pub last-is : valueOf aNumber (getD sums 18 0) ≡ columnOver bytes words (getD sums 16 0) (getD sums 17 0)
 
 -- whatever the model
 abbrev pub Forgotten : (sums : List ℕ) → Type 0

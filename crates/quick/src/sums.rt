@@ -1,4 +1,4 @@
-// Bounds that sum a table's column over a set, in place: each sum by its difference from the last one, sound or silent.
+// A table's column summed over a set, in place, sound or silent: a bound's sum by its difference from the last one, any other asked for twice summed once.
 
 ghost use mathlib.Core.Path.{_≡_};
 ghost use mathlib.Core.Bool.{true};
@@ -29,12 +29,15 @@ use words::tables::total_from;
 // How many bounds there may be, and the words of their last sums: a set, and the sum over it, as a number variable has it.
 const MOST_BOUNDS: usize = 8;
 
-pub const SUM_WORDS: usize = 16;
+// Behind them the last sum of any other total: its key, which is the table's number and 256 times the column's byte, its set and the sum.
+const LAST: usize = 16;
+
+pub const SUM_WORDS: usize = 19;
 
 // The word of the number 0.
 const ZERO: u64 = 2147483648;
 
-// Remembers of each bound the sum over no members.
+// Remembers of each bound the sum over no members, and such a sum as the last one.
 pub fn forget(sums: &mut [u64; SUM_WORDS])
     ensures { λ _. ⌜ Forgotten (now (sums .exit)) ⌝ }
 {
@@ -53,6 +56,9 @@ pub fn forget(sums: &mut [u64; SUM_WORDS])
         ZERO,
         0,
         ZERO,
+        0,
+        ZERO,
+        0,
         0,
         ZERO,
     ];
@@ -119,7 +125,7 @@ fn summed_column(model: &[u8], at: usize) -> u64
 }
 
 // The total at a place, summed anew.
-pub fn total_at(
+fn total_at(
     model: &[u8],
     at: usize,
     outline: &[u64; PREPARED_WORDS],
@@ -132,6 +138,34 @@ pub fn total_at(
     let s = summed_set(model, at, state);
     let j = summed_column(model, at);
     total(model, table, s, j)
+}
+
+// The total 2A t 41 v 30 j at a place: the last one where table, column and set are the same, else summed anew and remembered where it is in range.
+pub fn last_total(
+    model: &[u8],
+    at: usize,
+    outline: &[u64; PREPARED_WORDS],
+    state: &[u64; STATE_WORDS],
+    sums: &mut [u64; SUM_WORDS],
+) -> i64
+    requires { ⌜ VariableTotal (now model) at × Remembers (now model) (now outline) (now sums) ⌝ }
+    ensures { λ r. ⌜ (r ≡ totalIn (now (model .entry)) at (now (outline .entry)) (now (state .entry))) × Remembers (now (model .entry)) (now (outline .entry)) (now (sums .exit)) ⌝ }
+{
+    let key = wide(byte_at(model, at + 1)) + 256 * wide(byte_at(model, at + 5));
+    let s = word_at(state, byte_at(model, at + 3) as usize);
+    if sums[LAST] == key {
+        if sums[LAST + 1] == s {
+            return signed_word(sums[LAST + 2]);
+        }
+    }
+    let z = total_at(model, at, outline, state);
+    if in_range(z) {
+        sums[LAST] = key;
+        sums[LAST + 1] = s;
+        sums[LAST + 2] = biased(z);
+        return z;
+    }
+    z
 }
 
 // Bound k's total, from the last one. It is remembered where it is in range.

@@ -1,5 +1,5 @@
 -- A transition tried in a node, or all of them: the answer's meaning, and how the layer in the making goes on by rules 4 and 5.
-use Prim.Native.Nat.{ℕ, _^_, _<_}
+use Prim.Native.Nat.{ℕ, _+_, _^_, _≤_, _<_}
 use mathlib.Core.Path.{_≡_}
 use mathlib.Core.Bool.{Bool, true, false, cond, not}
 use mathlib.Core.List.{List, _∷_}
@@ -41,6 +41,13 @@ abbrev pub Numbered : Trial → Type 0
 Numbered T.On = Unit {0}
 Numbered (T.Before e) = Unit {0}
 Numbered (T.At e c t) = t < 256
+
+-- a block of transitions, at most 64 of them, from a number on to its end; it has one if one is left
+pub record Block (first all end : ℕ) : Type 0 where
+  pub within : end ≤ all
+  pub short : end ≤ first + 64
+  pub some : first < all → first < end
+  pub first-within : first ≤ end
 
 -- a transition's number fits a byte, and each part of its cost is in range
 pub record Arrives (a : Arrival) : Type 0 where

@@ -2,14 +2,16 @@
 
 ghost use mathlib.Core.Path.{_≡_};
 ghost use mathlib.Core.List.{_++_};
-ghost use Prim.Native.Nat.{_<_};
+ghost use Prim.Native.Nat.{_≤_};
 ghost use mathlib.Core.Bool.{_||_};
 ghost use lib.ListN.{length};
+ghost use Rattle.model.specs.Numbers.{mostTransitions};
 ghost use Rattle.quick.specs.Sums.{Remembers};
 ghost use Rattle.beam_order.specs.Slots.{headerWords};
 ghost use Rattle.steps.specs.InBytes.{Outlined};
+ghost use Rattle.steps.specs.Allowed.{Allowed};
 ghost use Rattle.beam.specs.Layers.{Indexed};
-ghost use Rattle.search_expansion.specs.Expansion.{belowCost, Arrives, boundedIn, triedIn, expandIn, Offered, Expandable, Grows, GrowsOfAny};
+ghost use Rattle.search_expansion.specs.Expansion.{belowCost, Block, Arrives, boundedIn, triedIn, expandIn, Offered, Expandable, Grows, GrowsOfAny};
 use crate::trials::Arrival;
 use crate::trials::Best;
 use crate::trials::Expanded;
@@ -29,10 +31,10 @@ use quick::sums::SUM_WORDS;
 use quick::sums::forget;
 use steps::answers::BoundAnswer;
 use steps::answers::MoveAnswer;
-use steps::bounds::bound;
+use steps::bounds::child_bound;
 use steps::check::combine;
 use steps::moves::allowed;
-use steps::moves::step;
+use steps::moves::allowed_step;
 use steps::moves::transitions;
 
 // Whether f is below the best cost.
@@ -85,7 +87,7 @@ fn bounded(
 {
     let t = arrival.transition;
     let g = combine(model, outline, parent.g, arrival.cost);
-    match bound(model, outline, state, sums) {
+    match child_bound(model, outline, state, sums) {
         BoundAnswer::Value(h) => {
             let f = combine(model, outline, g, hours(h));
             let back = (parent.slot * 256 + t) as u64;
@@ -105,7 +107,7 @@ fn bounded(
     }
 }
 
-// A turn of the expansion of the node with this state. The child's words are lent, and are not made anew for each.
+// A turn of the expansion of the node with this state, by a transition that is allowed. The child's words are lent, and are not made anew for each.
 fn try_transition(
     layer: &mut [u64],
     model: &[u8],
@@ -116,12 +118,12 @@ fn try_transition(
     child: &mut [u64; STATE_WORDS],
     sums: &mut [u64; SUM_WORDS],
 ) -> Expanded
-    requires { ⌜ Expandable (now model) (now outline) (turn .count) parent (now layer) × (turn .transition < 256) × Remembers (now model) (now outline) (now sums) ⌝ }
+    requires { ⌜ Expandable (now model) (now outline) (turn .count) parent (now layer) × Allowed (now model) (now outline) (now state) (turn .transition) × Remembers (now model) (now outline) (now sums) ⌝ }
     ensures { λ r. ⌜ Grows (now (model .entry)) (now (outline .entry)) (turn .count) parent (now (state .entry)) (now (layer .entry)) (now (layer .exit)) r (triedIn (now (model .entry)) (parent .width) (turn .transition)) × Remembers (now (model .entry)) (now (outline .entry)) (now (sums .exit)) ⌝ }
 {
     let n = turn.count;
     let t = turn.transition;
-    match step(model, outline, state, t, child) {
+    match allowed_step(model, outline, state, t, child, sums) {
         MoveAnswer::Blocked => Expanded {
             count: n,
             cut: false,
@@ -154,8 +156,19 @@ pub fn either(a: bool, b: bool) -> bool
     if a { true } else { b }
 }
 
-// Expands the node with this state into the layer in the making. A transition that is not allowed is blocked, and not tried.
-// The bounds' sums are remembered from child to child.
+// The end of the block of transitions from a number on: 64 of them, or those that are left.
+fn block_end(first: usize, all: usize) -> usize
+    requires { ⌜ (first ≤ all) × (all ≤ mostTransitions) ⌝ }
+    ensures { λ r. ⌜ Block first all r ⌝ }
+{
+    if first + 64 < all {
+        return first + 64;
+    }
+    all
+}
+
+// Expands the node with this state into the layer in the making. The guards of a block of transitions are asked at once; a transition that is not
+// allowed is blocked, and not tried. The bounds' sums are remembered from child to child.
 pub fn expand(
     layer: &mut [u64],
     model: &[u8],
@@ -173,9 +186,24 @@ pub fn expand(
     let mut sums = [0u64; SUM_WORDS];
     forget(&mut sums);
     let mut child = [0u64; STATE_WORDS];
-    let mut t: usize = 0;
-    while t < all {
-        if allowed(model, outline, state, t) {
+    let mut first: usize = 0;
+    let mut end: usize = 0;
+    let mut left: u64 = 0;
+    loop {
+        if left == 0 {
+            if end == all {
+                return Expanded {
+                    count: count,
+                    cut: cut,
+                    trial: Trial::On,
+                };
+            }
+            first = end;
+            end = block_end(first, all);
+            left = allowed(outline, state, first, end);
+        } else {
+            let t = first + u64::trailing_zeros(left) as usize;
+            left = left & (left - 1);
             let turn = Turn {
                 count: count,
                 transition: t,
@@ -194,9 +222,7 @@ pub fn expand(
             cut = either(cut, x.cut);
             let trial = x.trial;
             match trial {
-                Trial::On => {
-                    t += 1;
-                }
+                Trial::On => {}
                 Trial::Before(e) => {
                     return Expanded {
                         count: count,
@@ -212,13 +238,6 @@ pub fn expand(
                     };
                 }
             }
-        } else {
-            t += 1;
         }
-    }
-    Expanded {
-        count: count,
-        cut: cut,
-        trial: Trial::On,
     }
 }

@@ -1,7 +1,7 @@
 -- The evaluators on a model's own bytes: what their answers are of expressions that stand there, by the outline's words.
 use Prim.Native.Nat.{ℕ, _-_, _≤_, _<_}
 use mathlib.Core.Path.{_≡_, ap}
-use mathlib.Core.Bool.{true, false}
+use mathlib.Core.Bool.{Bool, true, false}
 use mathlib.Core.List.{List}
 use native.Mathlib.Omega.{arith}
 use lib.ListN.{length, take, drop, length-drop}
@@ -24,8 +24,11 @@ use Rattle.eval_sets.proofs.Within.{number-within, condition-within, set-within
 use Rattle.eval_sets.specs.Answers.{conditionAnswer}
 use Rattle.eval_tests.specs.Stopped.{stopped}
 use Rattle.eval_tests.proofs.Stopping.{stopped-within}
+use Rattle.prepare.specs.Forms.{MemberForm}
 use Rattle.prepare.proofs.Tested.{outline-describes}
 use Rattle.quick.specs.Entries.{EntryForm, entryAt}
+use Rattle.quick.specs.Sets.{memberIn}
+use Rattle.quick.proofs.Changes.{membership-says}
 use Rattle.quick.proofs.Compared.{entry-says}
 use Rattle.cursor.specs.Told.{silentFrom, NumberTold, SetTold, TestTold}
 use Rattle.cursor.proofs.Says.{number-says, condition-says, fails-says, set-says}
@@ -59,6 +62,13 @@ module _ (bytes words : List ℕ) (o : Outlined bytes words) (at : ℕ) (state :
   -- 28 t e e, in place
   pub entry-promised : EntryForm bytes at → (z : ℤ) → z ≡ entryAt bytes at words state → mag z < rangeEnd → NumberSays bytes at state (N.Value z 6) × NumberWithin (length bytes - at) (N.Value z 6)
   entry-promised f z e l = (λ x n h. rw e (entry-says bytes at words state f (rw e at l) x n (o .outlines) h), (l, omega (arith, f .inside)))
+
+  -- 54 30 k 41 v, in place
+  pub membership-promised : MemberForm bytes at → (b : Bool) → memberIn bytes at state ≡ b
+      → ConditionSays bytes at state (stopped (C.Holds b 5)) × ConditionWithin (length bytes - at) (stopped (C.Holds b 5))
+  unfolding conditionAnswer
+  membership-promised f b e =
+      (λ x n h. let s = membership-says bytes at words state f x n (o .outlines) h in rw (s .0, s .1, e), stopped-within _ _ (omega (arith, f .inside)))
 
   -- ---- told along a cursor
 

@@ -12,5 +12,6 @@ pub mod Signs
 pub mod Costing
 pub mod Writing
 pub mod Moving
+pub mod Allowing
 pub mod Promises
 pub mod Following

@@ -31,7 +31,7 @@ use Rattle.steps.specs.declared.answers.MoveAnswer.{MoveAnswer}
 use Rattle.steps.specs.declared.answers.MoveAnswer.the-variants as M
 use Rattle.steps.specs.InBytes.{Outlined, stateIn, systemIn}
 use Rattle.steps.specs.Answers.{heldAnswer, effectsAnswer, attemptAnswer, moveAnswer}
-use Rattle.steps.specs.Says.{HeldSays, CostsSay, EffectsRead, EffectsSays, AttemptSay, TakenSays, TakenRead, TransitionRead, AttemptSays, Tried, AllowedSays, MoveSays}
+use Rattle.steps.specs.Says.{HeldSays, CostsSay, EffectsRead, EffectsSays, AttemptSay, TakenSays, TakenRead, TransitionRead, AttemptSays, Tried, MoveSays}
 use Rattle.prepare.proofs.Items.{Nth, nth-of, none-beyond}
 use Rattle.steps.proofs.Readings.{costs-at, PartsAt, parts-at}
 use Rattle.steps.proofs.Costing.{costs-told, costs-troubles}
@@ -214,14 +214,12 @@ module _ (bytes words : List ℕ) (o : Outlined bytes words) (state : List ℕ) 
   decided : attempt rangeEnd (modelOf bytes) (there .nth) (stateIn bytes state) ≡ cond guardPasses (attempt rangeEnd (modelOf bytes) behind (stateIn bytes state)) (value notTaken)
   decided = attempt-guarded rangeEnd (modelOf bytes) (there .nth) (guarded .rest) (stateIn bytes state) guardPasses (guarded .decides state)
 
-  guard-blocks : false ≡ guardPasses → systemIn bytes .move (stateIn bytes state) t ≡ blocked
+  -- where the guard fails, the transition is blocked
+  pub guard-blocks : false ≡ guardPasses → systemIn bytes .move (stateIn bytes state) t ≡ blocked
   unfolding systemOf move moveBy moveOf
   guard-blocks e =
       let fails : attempt rangeEnd (modelOf bytes) (there .nth) (stateIn bytes state) ≡ value notTaken = decided ∙ rw (← e) in
       rw (there .found, fails)
-
-  pub allowed-says : (r : Bool) → r ≡ guardPasses → AllowedSays bytes state t r
-  allowed-says r e f = guard-blocks (sym f ∙ e)
 
   pub move-guarded : (child : List ℕ) → false ≡ guardPasses → MoveSays bytes state t child M.Blocked
   unfolding moveAnswer

@@ -22,8 +22,8 @@ use Rattle.eval_sets.specs.declared.answers.NumberValue.the-variants as N
 use Rattle.eval_sets.specs.declared.answers.ElementValue.{ElementValue}
 use Rattle.eval_sets.specs.declared.answers.SetValue.{SetValue}
 use Rattle.eval_sets.specs.Answers.{setAnswer}
-use Rattle.quick.specs.Sets.{ChangedForm, changedIn}
-use Rattle.quick.proofs.Changes.{changed-says}
+use Rattle.quick.specs.Sets.{ChangedForm, changedIn, JoinedForm, joinedIn}
+use Rattle.quick.proofs.Changes.{changed-says, joined-says}
 use Rattle.steps.specs.declared.answers.WordAnswer.{WordAnswer}
 use Rattle.steps.specs.declared.answers.WordAnswer.the-variants as W
 use Rattle.steps.specs.declared.answers.EffectsAnswer.the-variants as E
@@ -104,6 +104,10 @@ module _ (bytes : List ℕ) (at : ℕ) (state : List ℕ) where
     -- 42 e 41 u and 43 e 41 u, in place
     pub word-changed : (kind ≡ 0 → ⊥) → 64 < kind → ChangedForm bytes at → (w : ℕ) → w ≡ changedIn bytes at state → WordSays bytes at state v (W.Word w 5)
     word-changed z b f w q = word-set z b (setAnswer w 0 5) (λ x n h. let s = changed-says bytes at words state f x n (o .outlines) h in (q ∙ s .0, s .1))
+
+    -- 44 41 u and a set literal, in place
+    pub word-joined : (kind ≡ 0 → ⊥) → 64 < kind → JoinedForm bytes at → (w : ℕ) → w ≡ joinedIn bytes at state → WordSays bytes at state v (W.Word w 13)
+    word-joined z b f w q = word-set z b (setAnswer w 0 13) (λ x n h. let s = joined-says bytes at words state f x n (o .outlines) h in (q ∙ s .0, s .1))
 
 -- ---- answers taken apart
 

@@ -4,4 +4,5 @@ pub mod Order
 pub mod Hashes
 pub mod Answers
 pub mod Says
+pub mod Allowed
 pub mod Follow

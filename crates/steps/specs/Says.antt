@@ -168,10 +168,6 @@ module _ (bytes : List ℕ) where
     pub answer : r ≡ moveAnswer (systemIn bytes .move (stateIn bytes state) t)
     pub arrives : (c : Cost) (u : State) → systemIn bytes .move (stateIn bytes state) t ≡ moved c u → stateIn bytes child ≡ u
 
-  -- where the answer is no, transition t is blocked
-  abbrev pub AllowedSays : (state : List ℕ) (t : ℕ) → Bool → Type 0
-  AllowedSays state t r = r ≡ false → systemIn bytes .move (stateIn bytes state) t ≡ blocked
-
 -- bound k's number, whatever bytes are told to be used
 pub record BoundSays (bytes words state : List ℕ) (k : ℕ) (r : NumberValue) : Type 0 where
   pub told : (x : Number) (n : ℕ) → reading.number (modelOf bytes .variables) (modelOf bytes .tables) mostNesting (drop (boundPlace words k) bytes) ≡ read x n

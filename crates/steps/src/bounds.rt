@@ -63,7 +63,7 @@ fn bound_number(
     let inner = inner_sum(model, outline, state, sums, k);
     let place = inner_place(model, at, inner);
     let whole = model;
-    number_knowing(whole, at, outline, state, place, inner)
+    number_knowing(whole, at, outline, state, place, inner, sums)
 }
 
 // Evaluates the bounds in their order.
@@ -89,4 +89,20 @@ pub fn bound(
         }
     }
     BoundAnswer::Value(h)
+}
+
+// h of a child. In a model without bounds it is told without a call.
+pub fn child_bound(
+    model: &[u8],
+    outline: &[u64; PREPARED_WORDS],
+    state: &[u64; STATE_WORDS],
+    sums: &mut [u64; SUM_WORDS],
+) -> BoundAnswer
+    requires { ⌜ Outlined (now model) (now outline) × Remembers (now model) (now outline) (now sums) ⌝ }
+    ensures { λ r. ⌜ (r ≡ boundAnswer (boundIn (now (model .entry)) (stateIn (now (model .entry)) (now (state .entry))))) × Remembers (now (model .entry)) (now (outline .entry)) (now (sums .exit)) ⌝ }
+{
+    if word_at(outline, BOUND_COUNT) == 0 {
+        return BoundAnswer::Value(0);
+    }
+    bound(model, outline, state, sums)
 }

@@ -25,6 +25,8 @@ use outline::layout::PREPARED_WORDS;
 use outline::layout::RULE;
 use outline::layout::STATE_WORDS;
 use outline::word_at;
+use quick::sums::SUM_WORDS;
+use quick::sums::forget;
 
 // The cost of a path and of a step behind it, by the cost rule.
 pub fn combine(model: &[u8], outline: &[u64; PREPARED_WORDS], g: Cost, c: Cost) -> Cost
@@ -34,7 +36,7 @@ pub fn combine(model: &[u8], outline: &[u64; PREPARED_WORDS], g: Cost, c: Cost) 
     costs::combine(word_at(outline, RULE), g, c)
 }
 
-// Tries one transition of a plan.
+// Tries one transition of a plan, no sum being remembered.
 fn tried_step(
     model: &[u8],
     outline: &[u64; PREPARED_WORDS],
@@ -46,7 +48,9 @@ fn tried_step(
     requires { ⌜ Outlined (now model) (now outline) × CostBelow (2 ^ 63) g ⌝ }
     ensures { λ r. ⌜ FollowsOn (now (model .entry)) (stepTried (now (model .entry)) (stateIn (now (model .entry)) (now (state .entry))) t g) (now (child .exit)) g r ⌝ }
 {
-    match step(model, outline, state, t as usize, child) {
+    let mut sums = [0u64; SUM_WORDS];
+    forget(&mut sums);
+    match step(model, outline, state, t as usize, child, &mut sums) {
         MoveAnswer::Blocked => FollowAnswer::Ended(NOT_A_PLAN),
         MoveAnswer::Moved(c) => FollowAnswer::On(combine(model, outline, g, c)),
         MoveAnswer::Before(n) => FollowAnswer::Ended(n),

@@ -49,6 +49,22 @@ pub fn conditions_hold(
     HeldAnswer::All(next)
 }
 
+// Tries what a guard leaves of a transition's conditions. Most often that is none, which is told without a call.
+pub fn rest_holds(
+    model: &[u8],
+    at: usize,
+    outline: &[u64; PREPARED_WORDS],
+    state: &[u64; STATE_WORDS],
+) -> HeldAnswer
+    requires { ⌜ Outlined (now model) (now outline) ⌝ }
+    ensures { λ r. ⌜ HeldSays (now (model .entry)) at (now (state .entry)) r ⌝ }
+{
+    if byte_at(model, at) == 8 {
+        return conditions_hold(model, at, outline, state);
+    }
+    HeldAnswer::All(at)
+}
+
 // Tries the condition at a place: in place where that decides it, else by the evaluators.
 fn condition_holds(
     model: &[u8],
@@ -116,6 +132,21 @@ pub fn constraints_hold(
         }
     }
     HeldAnswer::All(0)
+}
+
+// Tries the constraints of a child. A model without any is told without a call.
+pub fn child_holds(
+    model: &[u8],
+    outline: &[u64; PREPARED_WORDS],
+    state: &[u64; STATE_WORDS],
+) -> HeldAnswer
+    requires { ⌜ Outlined (now model) (now outline) ⌝ }
+    ensures { λ r. ⌜ r ≡ heldAnswer (systemIn (now (model .entry)) .admits (stateIn (now (model .entry)) (now (state .entry)))) 0 ⌝ }
+{
+    if word_at(outline, CONJUNCT_COUNT) == 0 {
+        return HeldAnswer::All(0);
+    }
+    constraints_hold(model, outline, state)
 }
 
 // Tries the base cases to the first that holds.

@@ -1,15 +1,19 @@
 // A transition tried in a state: conditions, cost, effects, then the new state's constraints.
+// The sums that are remembered are lent to every number of its cost and effects.
 
 ghost use mathlib.Core.Path.{_≡_};
-ghost use Prim.Native.Nat.{_≤_, _<_, _-_};
+ghost use mathlib.Core.Bool.{cond};
+ghost use Prim.Native.Nat.{_+_, _≤_, _<_, _-_};
 ghost use lib.ListN.{length};
-ghost use Rattle.model.specs.Numbers.{rangeEnd, mostVariables};
+ghost use Rattle.model.specs.Numbers.{rangeEnd, mostVariables, mostTransitions};
 ghost use Rattle.model.specs.Steps as steps;
 ghost use Rattle.outline.specs.Outline.{modelOf};
 ghost use Rattle.eval_sets.specs.Bounds.{NumberWithin};
+ghost use Rattle.quick.specs.Sums.{Remembers};
 ghost use Rattle.steps.specs.InBytes.{Outlined, StateRoom, stateIn, systemIn};
 ghost use Rattle.steps.specs.Answers.{moveAnswer};
-ghost use Rattle.steps.specs.Says.{NumberSays, RangeSays, CostsSay, CostWithin, NumberWordSays, WordSays, WordWithin, EffectsRead, EffectsSays, TakenRead, TakenSays, TransitionRead, AttemptSays, Tried, AllowedSays, MoveSays};
+ghost use Rattle.steps.specs.Says.{NumberSays, RangeSays, CostsSay, CostWithin, NumberWordSays, WordSays, WordWithin, EffectsRead, EffectsSays, TakenRead, TakenSays, TransitionRead, AttemptSays, Tried, MoveSays};
+ghost use Rattle.steps.specs.Allowed.{Allowed, allowedFrom};
 use crate::answers::AttemptAnswer;
 use crate::answers::CostAnswer;
 use crate::answers::EffectsAnswer;
@@ -18,8 +22,8 @@ use crate::answers::HeldAnswer;
 use crate::answers::MoveAnswer;
 use crate::answers::NEGATIVE_COST;
 use crate::answers::WordAnswer;
-use crate::conditions::conditions_hold;
-use crate::conditions::constraints_hold;
+use crate::conditions::child_holds;
+use crate::conditions::rest_holds;
 use crate::parts::element_at;
 use crate::parts::number_near;
 use crate::parts::number_short;
@@ -40,6 +44,9 @@ use quick::entries::entry_at;
 use quick::entries::is_entry;
 use quick::sets::changed;
 use quick::sets::is_changed;
+use quick::sets::is_joined;
+use quick::sets::joined;
+use quick::sums::SUM_WORDS;
 use words::arithmetic::biased;
 use words::sizes::MOST_OBJECTS;
 
@@ -49,9 +56,10 @@ fn cost_number(
     at: usize,
     outline: &[u64; PREPARED_WORDS],
     state: &[u64; STATE_WORDS],
+    sums: &mut [u64; SUM_WORDS],
 ) -> NumberValue
-    requires { ⌜ Outlined (now model) (now outline) × (at ≤ length (now model)) ⌝ }
-    ensures { λ r. ⌜ NumberSays (now (model .entry)) at (now (state .entry)) r × NumberWithin (length (now (model .entry)) - at) r ⌝ }
+    requires { ⌜ Outlined (now model) (now outline) × (at ≤ length (now model)) × Remembers (now model) (now outline) (now sums) ⌝ }
+    ensures { λ r. ⌜ NumberSays (now (model .entry)) at (now (state .entry)) r × NumberWithin (length (now (model .entry)) - at) r × Remembers (now (model .entry)) (now (outline .entry)) (now (sums .exit)) ⌝ }
 {
     if is_entry(model, at) {
         return NumberValue::Value(entry_at(model, at, outline, state), 6);
@@ -63,7 +71,7 @@ fn cost_number(
         let used = end - at;
         return NumberValue::Value(told, used);
     }
-    number_near(model, at, outline, state)
+    number_near(model, at, outline, state, sums)
 }
 
 // What a step costs whose low cost is known, from 10 on; a high cost below the low one is trouble.
@@ -73,11 +81,12 @@ fn range_at(
     outline: &[u64; PREPARED_WORDS],
     state: &[u64; STATE_WORDS],
     low: u64,
+    sums: &mut [u64; SUM_WORDS],
 ) -> CostAnswer
-    requires { ⌜ Outlined (now model) (now outline) × (at < length (now model)) ⌝ }
-    ensures { λ r. ⌜ RangeSays (now (model .entry)) at (now (state .entry)) low r × CostWithin (length (now (model .entry)) - at) r ⌝ }
+    requires { ⌜ Outlined (now model) (now outline) × (at < length (now model)) × Remembers (now model) (now outline) (now sums) ⌝ }
+    ensures { λ r. ⌜ RangeSays (now (model .entry)) at (now (state .entry)) low r × CostWithin (length (now (model .entry)) - at) r × Remembers (now (model .entry)) (now (outline .entry)) (now (sums .exit)) ⌝ }
 {
-    match number_near(model, at + 1, outline, state) {
+    match number_near(model, at + 1, outline, state, sums) {
         NumberValue::Value(z, used) => {
             if z < 0 {
                 return CostAnswer::Trouble(HIGH_BELOW_LOW);
@@ -103,11 +112,12 @@ fn costs_at(
     at: usize,
     outline: &[u64; PREPARED_WORDS],
     state: &[u64; STATE_WORDS],
+    sums: &mut [u64; SUM_WORDS],
 ) -> CostAnswer
-    requires { ⌜ Outlined (now model) (now outline) × (at < length (now model)) ⌝ }
-    ensures { λ r. ⌜ CostsSay (now (model .entry)) at (now (state .entry)) r × CostWithin (length (now (model .entry)) - at) r ⌝ }
+    requires { ⌜ Outlined (now model) (now outline) × (at < length (now model)) × Remembers (now model) (now outline) (now sums) ⌝ }
+    ensures { λ r. ⌜ CostsSay (now (model .entry)) at (now (state .entry)) r × CostWithin (length (now (model .entry)) - at) r × Remembers (now (model .entry)) (now (outline .entry)) (now (sums .exit)) ⌝ }
 {
-    match cost_number(model, at + 1, outline, state) {
+    match cost_number(model, at + 1, outline, state, sums) {
         NumberValue::Value(z, used) => {
             if z < 0 {
                 return CostAnswer::Trouble(NEGATIVE_COST);
@@ -115,7 +125,7 @@ fn costs_at(
             let low = z as u64;
             let next = at + 1 + used;
             if byte_at(model, next) == 0x10 {
-                return match range_at(model, next, outline, state, low) {
+                return match range_at(model, next, outline, state, low, sums) {
                     CostAnswer::Costs(cost, more) => CostAnswer::Costs(cost, used + 1 + more),
                     CostAnswer::Trouble(t) => CostAnswer::Trouble(t),
                 };
@@ -133,30 +143,32 @@ fn number_word(
     at: usize,
     outline: &[u64; PREPARED_WORDS],
     state: &[u64; STATE_WORDS],
+    sums: &mut [u64; SUM_WORDS],
 ) -> WordAnswer
-    requires { ⌜ Outlined (now model) (now outline) × (at ≤ length (now model)) ⌝ }
-    ensures { λ r. ⌜ NumberWordSays (now (model .entry)) at (now (state .entry)) r × WordWithin (length (now (model .entry)) - at) r ⌝ }
+    requires { ⌜ Outlined (now model) (now outline) × (at ≤ length (now model)) × Remembers (now model) (now outline) (now sums) ⌝ }
+    ensures { λ r. ⌜ NumberWordSays (now (model .entry)) at (now (state .entry)) r × WordWithin (length (now (model .entry)) - at) r × Remembers (now (model .entry)) (now (outline .entry)) (now (sums .exit)) ⌝ }
 {
-    match number_short(model, at, outline, state) {
+    match number_short(model, at, outline, state, sums) {
         NumberValue::Value(z, used) => WordAnswer::Word(biased(z), used),
         NumberValue::Trouble(t) => WordAnswer::Trouble(t),
     }
 }
 
-// The word for variable v, by its kind.
+// The word for variable v, by its kind; a set variable with an element added or taken out, or joined to a literal, in place.
 fn word_for(
     model: &[u8],
     at: usize,
     outline: &[u64; PREPARED_WORDS],
     state: &[u64; STATE_WORDS],
     v: usize,
+    sums: &mut [u64; SUM_WORDS],
 ) -> WordAnswer
-    requires { ⌜ Outlined (now model) (now outline) × (at ≤ length (now model)) × (v < mostVariables) ⌝ }
-    ensures { λ r. ⌜ WordSays (now (model .entry)) at (now (state .entry)) v r × WordWithin (length (now (model .entry)) - at) r ⌝ }
+    requires { ⌜ Outlined (now model) (now outline) × (at ≤ length (now model)) × (v < mostVariables) × Remembers (now model) (now outline) (now sums) ⌝ }
+    ensures { λ r. ⌜ WordSays (now (model .entry)) at (now (state .entry)) v r × WordWithin (length (now (model .entry)) - at) r × Remembers (now (model .entry)) (now (outline .entry)) (now (sums .exit)) ⌝ }
 {
     let kind = word_at(outline, KINDS + v);
     if kind == 0 {
-        return number_word(model, at, outline, state);
+        return number_word(model, at, outline, state, sums);
     }
     if kind <= MOST_OBJECTS {
         let e = element_at(model, at, outline, state);
@@ -164,6 +176,9 @@ fn word_for(
     }
     if is_changed(model, at) {
         return WordAnswer::Word(changed(model, at, state), 5);
+    }
+    if is_joined(model, at) {
+        return WordAnswer::Word(joined(model, at, state), 13);
     }
     let s = set_at(model, at, outline, state);
     WordAnswer::Word(s.members, s.used)
@@ -176,14 +191,15 @@ fn effects(
     outline: &[u64; PREPARED_WORDS],
     state: &[u64; STATE_WORDS],
     child: &mut [u64; STATE_WORDS],
+    sums: &mut [u64; SUM_WORDS],
 ) -> EffectsAnswer
-    requires { ⌜ Outlined (now model) (now outline) × EffectsRead (now model) at × StateRoom (now child) ⌝ }
-    ensures { λ r. ⌜ EffectsSays (now (model .entry)) at (now (state .entry)) (now (child .entry)) (now (child .exit)) r ⌝ }
+    requires { ⌜ Outlined (now model) (now outline) × EffectsRead (now model) at × StateRoom (now child) × Remembers (now model) (now outline) (now sums) ⌝ }
+    ensures { λ r. ⌜ EffectsSays (now (model .entry)) at (now (state .entry)) (now (child .entry)) (now (child .exit)) r × Remembers (now (model .entry)) (now (outline .entry)) (now (sums .exit)) ⌝ }
 {
     let mut next = at;
     while byte_at(model, next) == 10 {
         let v = byte_at(model, next + 1) as usize;
-        match word_for(model, next + 2, outline, state, v) {
+        match word_for(model, next + 2, outline, state, v, sums) {
             WordAnswer::Word(w, used) => {
                 child[v] = w;
                 next = next + 2 + used;
@@ -201,14 +217,15 @@ fn take(
     outline: &[u64; PREPARED_WORDS],
     state: &[u64; STATE_WORDS],
     child: &mut [u64; STATE_WORDS],
+    sums: &mut [u64; SUM_WORDS],
 ) -> AttemptAnswer
-    requires { ⌜ Outlined (now model) (now outline) × TakenRead (now model) at × StateRoom (now state) ⌝ }
-    ensures { λ r. ⌜ TakenSays (now (model .entry)) at (now (state .entry)) (now (child .exit)) r ⌝ }
+    requires { ⌜ Outlined (now model) (now outline) × TakenRead (now model) at × StateRoom (now state) × Remembers (now model) (now outline) (now sums) ⌝ }
+    ensures { λ r. ⌜ TakenSays (now (model .entry)) at (now (state .entry)) (now (child .exit)) r × Remembers (now (model .entry)) (now (outline .entry)) (now (sums .exit)) ⌝ }
 {
-    match costs_at(model, at, outline, state) {
+    match costs_at(model, at, outline, state, sums) {
         CostAnswer::Costs(cost, used) => {
             *child = *state;
-            match effects(model, at + used, outline, state, child) {
+            match effects(model, at + used, outline, state, child, sums) {
                 EffectsAnswer::Done => AttemptAnswer::Taken(cost),
                 EffectsAnswer::Trouble(t) => AttemptAnswer::Trouble(t),
             }
@@ -224,12 +241,13 @@ fn attempt(
     outline: &[u64; PREPARED_WORDS],
     state: &[u64; STATE_WORDS],
     child: &mut [u64; STATE_WORDS],
+    sums: &mut [u64; SUM_WORDS],
 ) -> AttemptAnswer
-    requires { ⌜ Outlined (now model) (now outline) × TransitionRead (now model) at × StateRoom (now state) ⌝ }
-    ensures { λ r. ⌜ AttemptSays (now (model .entry)) at (now (state .entry)) (now (child .exit)) r ⌝ }
+    requires { ⌜ Outlined (now model) (now outline) × TransitionRead (now model) at × StateRoom (now state) × Remembers (now model) (now outline) (now sums) ⌝ }
+    ensures { λ r. ⌜ AttemptSays (now (model .entry)) at (now (state .entry)) (now (child .exit)) r × Remembers (now (model .entry)) (now (outline .entry)) (now (sums .exit)) ⌝ }
 {
-    match conditions_hold(model, at, outline, state) {
-        HeldAnswer::All(next) => take(model, next, outline, state, child),
+    match rest_holds(model, at, outline, state) {
+        HeldAnswer::All(next) => take(model, next, outline, state, child, sums),
         HeldAnswer::Fails => AttemptAnswer::NotTaken,
         HeldAnswer::Trouble(t) => AttemptAnswer::Trouble(t),
     }
@@ -245,7 +263,7 @@ fn constrained(
     requires { ⌜ Outlined (now model) (now outline) ⌝ }
     ensures { λ r. ⌜ r ≡ moveAnswer (steps.constrained rangeEnd (modelOf (now (model .entry))) cost (stateIn (now (model .entry)) (now (child .entry))) (systemIn (now (model .entry)) .admits (stateIn (now (model .entry)) (now (child .entry))))) ⌝ }
 {
-    match constraints_hold(model, outline, child) {
+    match child_holds(model, outline, child) {
         HeldAnswer::All(_) => MoveAnswer::Moved(cost),
         HeldAnswer::Fails => MoveAnswer::Blocked,
         HeldAnswer::Trouble(t) => MoveAnswer::After(cost, t),
@@ -279,17 +297,42 @@ pub fn transitions(model: &[u8], outline: &[u64; PREPARED_WORDS]) -> usize
     word_at(outline, TRANSITION_COUNT) as usize
 }
 
-// Whether the guard of transition t passes in a state: where it does not, the transition is blocked.
-pub fn allowed(
+// 1 for true.
+fn digit(b: bool) -> u64
+    ensures { λ r. ⌜ r ≡ cond b 1 0 ⌝ }
+{
+    if b { 1 } else { 0 }
+}
+
+// Which transitions from `first` to `end` have guards that pass in a state: bit k for transition first + k. The others are blocked.
+pub fn allowed(outline: &[u64; PREPARED_WORDS], state: &[u64], first: usize, end: usize) -> u64
+    requires { ⌜ (first ≤ end) × (end ≤ first + 64) × (end ≤ mostTransitions) ⌝ }
+    ensures { λ r. ⌜ r ≡ allowedFrom (now (outline .entry)) (now (state .entry)) (end - first) first ⌝ }
+{
+    let mut mask: u64 = 0;
+    let mut t = end;
+    while first < t {
+        t -= 1;
+        mask = mask + mask + digit(passes(outline, GUARDS + 4 * t, state));
+    }
+    mask
+}
+
+// Tries transition t, whose guard passes, and writes the new state's words.
+pub fn allowed_step(
     model: &[u8],
     outline: &[u64; PREPARED_WORDS],
     state: &[u64; STATE_WORDS],
     t: usize,
-) -> bool
-    requires { ⌜ Outlined (now model) (now outline) × (t < systemIn (now model) .transitions) ⌝ }
-    ensures { λ r. ⌜ AllowedSays (now (model .entry)) (now (state .entry)) t r ⌝ }
+    child: &mut [u64; STATE_WORDS],
+    sums: &mut [u64; SUM_WORDS],
+) -> MoveAnswer
+    requires { ⌜ Outlined (now model) (now outline) × Allowed (now model) (now outline) (now state) t × Remembers (now model) (now outline) (now sums) ⌝ }
+    ensures { λ r. ⌜ MoveSays (now (model .entry)) (now (state .entry)) t (now (child .exit)) r × Remembers (now (model .entry)) (now (outline .entry)) (now (sums .exit)) ⌝ }
 {
-    passes(outline, GUARDS + 4 * t, state)
+    let at = word_at(outline, GUARDS + 4 * t + 3) as usize;
+    let tried = attempt(model, at, outline, state, child, sums);
+    settle(model, outline, state, t, child, tried)
 }
 
 // Tries transition t in a state, and writes the new state's words. A number that is not declared is blocked.
@@ -299,17 +342,16 @@ pub fn step(
     state: &[u64; STATE_WORDS],
     t: usize,
     child: &mut [u64; STATE_WORDS],
+    sums: &mut [u64; SUM_WORDS],
 ) -> MoveAnswer
-    requires { ⌜ Outlined (now model) (now outline) ⌝ }
-    ensures { λ r. ⌜ MoveSays (now (model .entry)) (now (state .entry)) t (now (child .exit)) r ⌝ }
+    requires { ⌜ Outlined (now model) (now outline) × Remembers (now model) (now outline) (now sums) ⌝ }
+    ensures { λ r. ⌜ MoveSays (now (model .entry)) (now (state .entry)) t (now (child .exit)) r × Remembers (now (model .entry)) (now (outline .entry)) (now (sums .exit)) ⌝ }
 {
     if transitions(model, outline) <= t {
         return MoveAnswer::Blocked;
     }
     if passes(outline, GUARDS + 4 * t, state) {
-        let at = word_at(outline, GUARDS + 4 * t + 3) as usize;
-        let tried = attempt(model, at, outline, state, child);
-        return settle(model, outline, state, t, child, tried);
+        return allowed_step(model, outline, state, t, child, sums);
     }
     MoveAnswer::Blocked
 }

@@ -1,10 +1,11 @@
-// Expressions where they stand in the model's bytes.
+// Expressions where they stand in the model's bytes. Numbers are lent the sums that are remembered.
 
 ghost use Prim.Native.Nat.{_≤_, _<_, _-_};
 ghost use lib.ListN.{length};
 ghost use Rattle.model.specs.Numbers.{mostObjects};
 ghost use Rattle.eval_sets.specs.Bounds.{NumberWithin, ConditionWithin};
 ghost use Rattle.nested.specs.Known.{KnownAt};
+ghost use Rattle.quick.specs.Sums.{Remembers};
 ghost use Rattle.steps.specs.InBytes.{Outlined};
 ghost use Rattle.steps.specs.Says.{ConditionSays, NumberSays, ElementSays, SetSays};
 use cursor::numbers::SILENT;
@@ -20,6 +21,9 @@ use eval_tests::test;
 use nested::rounded::rounded;
 use outline::layout::PREPARED_WORDS;
 use outline::layout::STATE_WORDS;
+use prepare::tests::is_member;
+use quick::sets::membership;
+use quick::sums::SUM_WORDS;
 
 // Whether the condition at a place holds, and its bytes where it does.
 pub fn condition_at(
@@ -34,7 +38,7 @@ pub fn condition_at(
     test(&model[at..], model, state, outline, 32)
 }
 
-// The same, along a cursor where that tells it, else by the evaluators.
+// The same: a membership in place, else along a cursor where that tells it, else by the evaluators.
 pub fn condition_near(
     model: &[u8],
     at: usize,
@@ -44,6 +48,12 @@ pub fn condition_near(
     requires { ⌜ Outlined (now model) (now outline) × (at ≤ length (now model)) ⌝ }
     ensures { λ r. ⌜ ConditionSays (now (model .entry)) at (now (state .entry)) r × ConditionWithin (length (now (model .entry)) - at) r ⌝ }
 {
+    if is_member(model, at) {
+        if membership(model, at, state) {
+            return ConditionValue::Holds(true, 5);
+        }
+        return ConditionValue::Holds(false, 0);
+    }
     let whole = model;
     let mut end = at;
     let told = cursor_conditions::conditions::test(&whole, &mut end, outline, state);
@@ -78,13 +88,14 @@ fn number_with(
     state: &[u64; STATE_WORDS],
     place: usize,
     sum: i64,
+    sums: &mut [u64; SUM_WORDS],
 ) -> NumberValue
-    requires { ⌜ Outlined (now model) (now outline) × (at ≤ length (now model)) × KnownAt (now model) (now outline) (now state) place sum ⌝ }
-    ensures { λ r. ⌜ NumberSays (now (model .entry)) at (now (state .entry)) r × NumberWithin (length (now (model .entry)) - at) r ⌝ }
+    requires { ⌜ Outlined (now model) (now outline) × (at ≤ length (now model)) × KnownAt (now model) (now outline) (now state) place sum × Remembers (now model) (now outline) (now sums) ⌝ }
+    ensures { λ r. ⌜ NumberSays (now (model .entry)) at (now (state .entry)) r × NumberWithin (length (now (model .entry)) - at) r × Remembers (now (model .entry)) (now (outline .entry)) (now (sums .exit)) ⌝ }
 {
     let whole = model;
     let mut end = at;
-    let told = nested::number(&whole, &mut end, outline, state, place, sum);
+    let told = nested::number(&whole, &mut end, outline, state, place, sum, sums);
     if told < SILENT {
         let used = end - at;
         return NumberValue::Value(told, used);
@@ -100,9 +111,10 @@ pub fn number_knowing(
     state: &[u64; STATE_WORDS],
     place: usize,
     sum: i64,
+    sums: &mut [u64; SUM_WORDS],
 ) -> NumberValue
-    requires { ⌜ Outlined (now model) (now outline) × (at ≤ length (now model)) × KnownAt (now model) (now outline) (now state) place sum ⌝ }
-    ensures { λ r. ⌜ NumberSays (now (model .entry)) at (now (state .entry)) r × NumberWithin (length (now (model .entry)) - at) r ⌝ }
+    requires { ⌜ Outlined (now model) (now outline) × (at ≤ length (now model)) × KnownAt (now model) (now outline) (now state) place sum × Remembers (now model) (now outline) (now sums) ⌝ }
+    ensures { λ r. ⌜ NumberSays (now (model .entry)) at (now (state .entry)) r × NumberWithin (length (now (model .entry)) - at) r × Remembers (now (model .entry)) (now (outline .entry)) (now (sums .exit)) ⌝ }
 {
     if place < model.len() {
         let whole = model;
@@ -113,7 +125,7 @@ pub fn number_knowing(
             return NumberValue::Value(told, used);
         }
     }
-    number_with(model, at, outline, state, place, sum)
+    number_with(model, at, outline, state, place, sum, sums)
 }
 
 // The same with nothing known.
@@ -122,11 +134,12 @@ pub fn number_near(
     at: usize,
     outline: &[u64; PREPARED_WORDS],
     state: &[u64; STATE_WORDS],
+    sums: &mut [u64; SUM_WORDS],
 ) -> NumberValue
-    requires { ⌜ Outlined (now model) (now outline) × (at ≤ length (now model)) ⌝ }
-    ensures { λ r. ⌜ NumberSays (now (model .entry)) at (now (state .entry)) r × NumberWithin (length (now (model .entry)) - at) r ⌝ }
+    requires { ⌜ Outlined (now model) (now outline) × (at ≤ length (now model)) × Remembers (now model) (now outline) (now sums) ⌝ }
+    ensures { λ r. ⌜ NumberSays (now (model .entry)) at (now (state .entry)) r × NumberWithin (length (now (model .entry)) - at) r × Remembers (now (model .entry)) (now (outline .entry)) (now (sums .exit)) ⌝ }
 {
-    number_with(model, at, outline, state, model.len(), 0)
+    number_with(model, at, outline, state, model.len(), 0, sums)
 }
 
 // The same, a variable with a literal added or taken off in place.
@@ -135,9 +148,10 @@ pub fn number_short(
     at: usize,
     outline: &[u64; PREPARED_WORDS],
     state: &[u64; STATE_WORDS],
+    sums: &mut [u64; SUM_WORDS],
 ) -> NumberValue
-    requires { ⌜ Outlined (now model) (now outline) × (at ≤ length (now model)) ⌝ }
-    ensures { λ r. ⌜ NumberSays (now (model .entry)) at (now (state .entry)) r × NumberWithin (length (now (model .entry)) - at) r ⌝ }
+    requires { ⌜ Outlined (now model) (now outline) × (at ≤ length (now model)) × Remembers (now model) (now outline) (now sums) ⌝ }
+    ensures { λ r. ⌜ NumberSays (now (model .entry)) at (now (state .entry)) r × NumberWithin (length (now (model .entry)) - at) r × Remembers (now (model .entry)) (now (outline .entry)) (now (sums .exit)) ⌝ }
 {
     let whole = model;
     let mut end = at;
@@ -146,7 +160,7 @@ pub fn number_short(
         let used = end - at;
         return NumberValue::Value(told, used);
     }
-    number_near(model, at, outline, state)
+    number_near(model, at, outline, state, sums)
 }
 
 // The object of the element at a place.

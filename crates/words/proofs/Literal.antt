@@ -2,18 +2,17 @@
 use mathlib.Core.Path.{_≡_, refl, sym, ap, _∙_}
 use mathlib.Core.Bool.{Bool, true, false}
 use mathlib.Core.List.{List, [], _∷_}
-use Prim.Native.Nat.{ℕ, zero, suc, _+_, _-_, _*_, _^_, _<_, _≤_}
+use Prim.Native.Nat.{ℕ, zero, suc, _+_, _-_, _*_, _%_, _^_, _<_, _≤_}
 use native.Mathlib.Omega.{arith}
 use lib.ListN.{length, take, drop, getD, length-drop, drop-of-length-le}
 use lib.Seq.{drop-drop, drop-length, getD-drop, take-all}
-use lib.IntN.{ℤ, pos, _-ℤ_}
+use lib.IntN.{ℤ, pos, negsuc, _-ℤ_}
 use lib.Signed.{mag}
 use lib.Dec.{leb}
 use borrow.Author.Tests.{leb-true, leb-false, lt-ltb, le-ltb}
-use mir.Syntax.{w64}
-use mir.Val.{SFits}
 use Rattle.model.specs.Numbers.{endsEarly, rangeEnd}
 use Rattle.model.specs.Readers.{read, refused, after, continue, _>>=_, give, byte, word, signed, one, integer}
+use Rattle.words.proofs.Integers.{lowered}
 
 -- the part of a slice from n on
 pub suffix : (n : ℕ) (e : List ℕ) → take (length e - n) (drop n e) ≡ drop n e
@@ -92,5 +91,16 @@ pub signed-high : (w : ℕ) → 0x8000_0000 ≤ w → w < 2 ^ 32 → (pos w -ℤ
 unfolding signed
 signed-high w h l = rw (le-ltb w 0x8000_0000 h) (refl, rw (lt-ltb w 0x1_0000_0000 l) (omega arith))
 
-pub high-fits : (w : ℕ) → 0x8000_0000 ≤ w → w < 2 ^ 32 → SFits w64 (pos w -ℤ pos 0x1_0000_0000)
-high-fits w h l = record { sfits = omega (arith, signed-high w h l .1) }
+-- counted on by half the words, and back by as much
+pub signed-back : (w : ℕ) → w < 2 ^ 32 → (pos ((w + 2 ^ 31) % 2 ^ 32) -ℤ pos rangeEnd ≡ signed w) × (mag (pos ((w + 2 ^ 31) % 2 ^ 32) -ℤ pos rangeEnd) < rangeEnd)
+signed-back w l = (by-test (leb 0x8000_0000 w) (leb-true 0x8000_0000 w) (leb-false 0x8000_0000 w), lowered ((w + 2 ^ 31) % 2 ^ 32) (omega arith))
+  where
+    by-test : (t : Bool) → (t ≡ true → 0x8000_0000 ≤ w) → (t ≡ false → w < 0x8000_0000) → pos ((w + 2 ^ 31) % 2 ^ 32) -ℤ pos rangeEnd ≡ signed w
+    by-test true f g =
+        let h : 0x8000_0000 ≤ w = f refl in
+        let e : (w + 2 ^ 31) % 2 ^ 32 ≡ w - 2 ^ 31 = omega arith in
+        rw (e, lt-ltb w 0x1_0000_0000 l, lt-ltb (w - 2 ^ 31) rangeEnd (omega arith)) (ap negsuc (omega arith)) ∙ signed-high w h l .0
+    by-test false f g =
+        let h : w < 0x8000_0000 = g refl in
+        let e : (w + 2 ^ 31) % 2 ^ 32 ≡ w + 2 ^ 31 = omega arith in
+        rw (e, le-ltb (w + 2 ^ 31) rangeEnd (omega arith)) (ap pos (omega arith)) ∙ signed-low w h .0

@@ -27,16 +27,12 @@ pub fn long(e: &[u8]) -> u64
     word(e) + WORD_END * word(&e[4..])
 }
 
-// 32 bits in two's complement.
+// 32 bits in two's complement: counted on from the first that stands for a negative number, and back. No test: one instruction does it.
 fn signed(w: u64) -> i64
     requires { ⌜ w < readers.wordEnd ⌝ }
     ensures { λ r. ⌜ (r ≡ readers.signed w) × (mag r < rangeEnd) ⌝ }
 {
-    if w < NEGATIVE_FROM {
-        w as i64
-    } else {
-        (w as i64) - (WORD_END as i64)
-    }
+    (((w + NEGATIVE_FROM) % WORD_END) as i64) - (NEGATIVE_FROM as i64)
 }
 
 // The i32 in the first four bytes.

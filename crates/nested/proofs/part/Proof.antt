@@ -13,19 +13,19 @@ use Rattle.nested.proofs.part.Statement.{statement}
 use Rattle.nested.proofs.part.Tie as tie
 
 returns : tie.Need-returns
-returns c = let f : SFits w64 (c .literal .result) = search needs in rw (back f) (c .literal .ensures)
+returns c = let start : tie.Start = search in let f : SFits w64 (c .literal .result) = search needs in rw (back f) (c .literal .ensures, start .pre .2)
 
 variable-requires : tie.Need-variable-requires
 variable-requires c κs = let start : tie.Start = search in let here : tie.Then2 = search in begun 0x21 (start .pre .0) (here .if2 .taken) (λ z. absurd (omega (arith, z)))
 
 returns-2 : tie.Need-returns-2
-returns-2 c = let f : SFits w64 (c .variable .result) = search needs in rw (back f) (c .variable .ensures)
+returns-2 c = let start : tie.Start = search in let f : SFits w64 (c .variable .result) = search needs in rw (back f) (c .variable .ensures, start .pre .2)
 
 entry-on-requires : tie.Need-entry-on-requires
 entry-on-requires c κs = let start : tie.Start = search in let here : tie.Then3 = search in begun 0x28 (start .pre .0) (here .if3 .taken) (λ z. absurd (omega (arith, z)))
 
 returns-3 : tie.Need-returns-3
-returns-3 c = let f : SFits w64 (c .entry-on .result) = search needs in rw (back f) (c .entry-on .ensures)
+returns-3 c = let start : tie.Start = search in let f : SFits w64 (c .entry-on .result) = search needs in rw (back f) (c .entry-on .ensures, start .pre .2)
 
 abbrev start-of : tie.Then5 → tie.Start
 start-of c = search
@@ -45,7 +45,7 @@ returns-4 c =
     let here : tie.Then5 = search in
     let start : tie.Start = search in
     let f : SFits w64 (start .args .sum) = search needs in
-    rw (back f, here .if5 .taken) (λ l. known-is here)
+    rw (back f, here .if5 .taken) (λ l. known-is here, start .pre .2)
 
 pub part-spec : {M : Type 1} → statement M
 part-spec =
@@ -62,7 +62,7 @@ part-spec =
     (λ c κs. search needs)
     (λ c. let first : tie.After-summed = search in let f : SFits w64 (first .summed .result) = search needs in rw (back f) (first .summed .ensures))
     (λ c κs. let start : tie.Start = search in let here : tie.Then4 = search in begun 0x2a (start .pre .0) (here .if4 .taken) (λ z. absurd (omega (arith, z))))
-    (λ c. let f : SFits w64 (c .summed-near .result) = search needs in rw (back f) (c .summed-near .ensures))
+    (λ c. let f : SFits w64 (c .summed-near .result) = search needs in let first : tie.After-summed = search in rw (back f) (c .summed-near .ensures, first .summed .ensures .1))
     (λ c κs. let start : tie.Start = search in let here : tie.Then7 = search in begun 0x2b (start .pre .0) (here .if7 .taken) (λ z. absurd (omega (arith, z))))
-    (λ c. let f : SFits w64 (c .choice .result) = search needs in rw (back f) (c .choice .ensures))
-    (λ c l. absurd (false≢true l)))
+    (λ c. let start : tie.Start = search in let f : SFits w64 (c .choice .result) = search needs in rw (back f) (c .choice .ensures, start .pre .2))
+    (λ c. let start : tie.Start = search in (λ l. absurd (false≢true l), start .pre .2)))

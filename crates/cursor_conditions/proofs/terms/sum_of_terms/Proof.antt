@@ -30,6 +30,11 @@ returns c =
     let f : SFits w64 (c .terms .result) = search needs in
     rw (back f) (c .terms .ensures)
 
+returns-2 : tie.Need-returns-2
+returns-2 c =
+    let f : SFits w64 (c .simple .result) = search needs in
+    rw (back f) (c .simple .ensures)
+
 pub sum-of-terms-spec : {M : Type 1} → statement M
 sum-of-terms-spec =
     tie.close
@@ -42,5 +47,9 @@ sum-of-terms-spec =
     (λ c κs. search needs)
     (λ c κs. search needs)
     returns
+    (λ c. let stand : tie.Then1 = search in omega (arith, seven stand .near))
+    (λ c. let stand : tie.Then1 = search in omega (arith, seven stand .inside))
+    (λ c κs. search needs)
+    returns-2
     (λ c e. absurd (false≢true e))
     (λ c e. absurd (false≢true e)))

@@ -11,10 +11,10 @@ use Rattle.search_expansion.proofs.children.bounded.Tie as tie
 abbrev begun : tie.After-combine → tie.Start
 begun c = search
 
-abbrev summed : tie.After-bound → tie.After-combine
+abbrev summed : tie.After-child-bound → tie.After-combine
 summed c = search
 
-abbrev asked : tie.After-combine2 → tie.After-bound
+abbrev asked : tie.After-combine2 → tie.After-child-bound
 asked c = search
 
 combine-requires : tie.Need-combine-requires
@@ -26,11 +26,11 @@ combine-requires-2 : tie.Need-combine-requires-2
 combine-requires-2 c κs =
     let start : tie.Start = search in
     let summed : tie.After-combine = search in
-    let asked : tie.After-bound = search in
+    let asked : tie.After-child-bound = search in
     let told : tie.After-h = search in
     let hours : tie.After-hours = search in
     rw (hours .hours .ensures)
-    (start .pre .0 .outlined, f-fits _ _ _ _ _ _ (start .pre .0 .small) (start .pre .1 .cost) (summed .combine .ensures) (sym (asked .bound .ensures .0) ∙ told .h .given .1))
+    (start .pre .0 .outlined, f-fits _ _ _ _ _ _ (start .pre .0 .small) (start .pre .1 .cost) (summed .combine .ensures) (sym (asked .child-bound .ensures .0) ∙ told .h .given .1))
 
 mul-back : tie.Need-mul-back
 mul-back c = let start : tie.Start = search in record { fits = omega (arith, start .pre .0 .slot) }
@@ -52,23 +52,23 @@ returns c =
     let here = asked total in (
       record {
         grows = λ state.
-            bounded-value _ _ _ _ state _ _ _ _ (offered .offer .result) (begun (summed here) .pre .1 .transition) (sym (here .bound .ensures .0) ∙ told .h .given .1)
+            bounded-value _ _ _ _ state _ _ _ _ (offered .offer .result) (begun (summed here) .pre .1 .transition) (sym (here .child-bound .ensures .0) ∙ told .h .given .1)
             (summed here .combine .ensures) (joined _ _ (hours .hours .ensures) (total .combine2 .ensures)) (offered .offer .ensures);
       },
-      here .bound .ensures .1,
+      here .child-bound .ensures .1,
     )
 
 returns-2 : tie.Need-returns-2
 returns-2 c =
     let start : tie.Start = search in
     let summed : tie.After-combine = search in
-    let asked : tie.After-bound = search in
+    let asked : tie.After-child-bound = search in
     let told : tie.After-e = search in (
       record {
         grows = λ state.
-            bounded-trouble _ _ _ _ state _ _ _ _ (start .pre .1 .transition) (sym (asked .bound .ensures .0) ∙ told .e .given .1) (summed .combine .ensures) (start .pre .0 .held);
+            bounded-trouble _ _ _ _ state _ _ _ _ (start .pre .1 .transition) (sym (asked .child-bound .ensures .0) ∙ told .e .given .1) (summed .combine .ensures) (start .pre .0 .held);
       },
-      asked .bound .ensures .1,
+      asked .child-bound .ensures .1,
     )
 
 pub bounded-spec : {M : Type 1} → statement M

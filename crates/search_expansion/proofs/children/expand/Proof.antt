@@ -1,89 +1,151 @@
--- `search_expansion::children::expand` meets its contract. The invariant: the first t transitions are tried, the definition goes on from there,
--- and the bounds' sums are remembered.
+-- `search_expansion::children::expand` meets its contract. The invariant: the transitions whose bits are left wait, those before them are tried or
+-- blocked, the definition goes on behind the block's end, and the bounds' sums are remembered. The measure: what is left of the mask, and, before it, of the transitions.
 use borrow.Author.Needs.{needs}
-use Prim.Native.Nat.{_-_, _<_}
+use Prim.Native.Nat.{ℕ, zero, suc, _+_, _-_, _*_, _^_, _<_}
 use native.Mathlib.Omega.{arith}
-use mathlib.Core.Path.{_∙_}
+use mathlib.Core.Path.{_≡_, refl, _∙_}
+use mathlib.Core.List.{[]}
+use lib.Bits.{bitAnd}
+use lib.Count.{trailing-le}
+use Rattle.model.specs.Sets.{membersFrom, members}
 use Rattle.quick.specs.Sums.{Remembers}
+use Rattle.words.proofs.Members.{and-falls}
 use Rattle.steps.specs.InBytes.{systemIn}
 use Rattle.steps.proofs.Promises.{few-transitions}
-use Rattle.search_expansion.proofs.TrialLoop.{Expanding, expanding-first, expanding-more, expanding-past, expanded-all, expanded-before, expanded-at}
+use Rattle.search_expansion.proofs.TrialLoop.{block-falls, mask-falls, waiting, none-waits, one-waits, Expanding, expanding-first, expanding-block, expanding-more, expanded-all, expanded-before, expanded-at, first-allowed}
 use Rattle.search_expansion.proofs.children.expand.Statement.{statement}
 use Rattle.search_expansion.proofs.children.expand.Tie as tie
 
 abbrev Inv-loop : tie.InvT-loop
-Inv-loop layer₀ model outline n state parent all count₀ cut₀ sums₀ child₀ t₀ layer count cut sums child t = Expanding model outline n parent state layer₀ layer count cut t × Remembers model outline sums
+Inv-loop layer₀ model outline n state parent all count₀ cut₀ sums₀ child₀ first₀ end₀ left₀ layer count cut sums child first end left =
+    Expanding model outline n parent state layer₀ layer count cut (waiting model outline parent state first left) end × Remembers model outline sums × (left < 2 ^ 64)
 
 abbrev μ-loop : tie.MeasureT-loop
-μ-loop layer₀ model outline n state parent all count₀ cut₀ sums₀ child₀ t₀ layer count cut sums child t = all - t
+μ-loop layer₀ model outline n state parent all count₀ cut₀ sums₀ child₀ first₀ end₀ left₀ layer count cut sums child first end left = (all - end) * 2 ^ 64 + left
 
-abbrev begun : tie.After-transitions Inv-loop μ-loop → tie.Start Inv-loop μ-loop
-begun c = c .before .before .before
-
--- the transitions were counted before the sums were forgotten
-abbrev counted : tie.After-forget Inv-loop μ-loop → tie.After-transitions Inv-loop μ-loop
-counted c = c .before .before
-
--- the turn in which a transition is allowed or not, and that in which it is tried
-abbrev asked : tie.After-allowed Inv-loop μ-loop → tie.In-loop Inv-loop μ-loop
-asked c = c .before
-
-abbrev turn : tie.After-try-transition Inv-loop μ-loop → tie.In-loop Inv-loop μ-loop
-turn c = asked (c .before .before .before .before .before)
-
--- transition t is one of the model's
-one-left : (c : tie.In-loop Inv-loop μ-loop) → c .before .loop .t < systemIn (begun (counted (c .before .before)) .args .model .now) .transitions
-one-left c = omega (arith, c .loop-test .taken, counted (c .before .before) .transitions .ensures)
+-- ---- a block is asked
 
 loop-holds : tie.Need-loop-holds Inv-loop μ-loop
-loop-holds c = (expanding-first _ _ _ _ _ _ (begun (counted c) .pre .held), c .forget .ensures _ _)
-
-try-transition-requires : tie.Need-try-transition-requires Inv-loop μ-loop
-try-transition-requires c κs =
-    let here = asked (c .before .before .before .before) in
-    let pre = begun (counted (here .before .before)) .pre in (
-      record { outlined = pre .outlined; held = here .before .loop .inv .0 .held; small = pre .small; slot = pre .slot },
-      omega (arith, one-left here, few-transitions (pre .outlined)),
-      here .before .loop .inv .1,
-    )
-
-loop-again : tie.Need-loop-again Inv-loop μ-loop
-loop-again c =
-    let tried = c .before .before .before .before .before in (
-      expanding-more _ _ _ _ _ _ (turn tried .before .loop .inv .0) (one-left (turn tried)) (tried .try-transition .ensures .0) (c .before .before .either .ensures)
-          (tried .try-transition .kept .0) (c .enum-told .given .1),
-      tried .try-transition .ensures .1,
-    )
-
-same-length : tie.Need-same-length Inv-loop μ-loop
-same-length c =
-    let tried = c .before .before .before .before .before .before in
-    tried .try-transition .kept .0 ∙ turn tried .before .loop .inv .0 .long
+unfolding members membersFrom
+loop-holds c =
+    let start : tie.Start Inv-loop μ-loop = search in
+    (expanding-first _ _ _ _ _ _ (start .pre .held), c .forget .ensures _ _, omega arith)
 
 returns : tie.Need-returns Inv-loop μ-loop
 returns c =
-    let tried = c .before .before .before .before .before .before in
-    expanded-before _ _ _ _ _ _ (turn tried .before .loop .inv .0) (one-left (turn tried)) (tried .try-transition .ensures .0) (c .before .before .before .either .ensures)
-    (c .before .trial .given .1)
+    let here : tie.Then1 Inv-loop μ-loop = search in
+    let done : tie.Then2 Inv-loop μ-loop = search in
+    let all : tie.After-transitions Inv-loop μ-loop = search in
+    expanded-all _ _ _ _ _ _ (none-waits _ _ _ _ _ _ _ _ (here .before .loop .inv .0) (here .if1 .taken)) (omega (arith, done .if2 .taken, all .transitions .ensures))
 
-same-length-2 : tie.Need-same-length-2 Inv-loop μ-loop
-same-length-2 c =
-    let tried = c .before .before .before .before .before .before in
-    tried .try-transition .kept .0 ∙ turn tried .before .loop .inv .0 .long
+block-end-requires : tie.Need-block-end-requires Inv-loop μ-loop
+block-end-requires c κs =
+    let here : tie.Then1 Inv-loop μ-loop = search in
+    let all : tie.After-transitions Inv-loop μ-loop = search in
+    let start : tie.Start Inv-loop μ-loop = search in
+    (omega (arith, here .before .loop .inv .0 .within, all .transitions .ensures), omega (arith, all .transitions .ensures, few-transitions (start .pre .outlined)))
 
-returns-2 : tie.Need-returns-2 Inv-loop μ-loop
-returns-2 c =
-    let tried = c .before .before .before .before .before .before in
-    expanded-at _ _ _ _ _ _ (turn tried .before .loop .inv .0) (one-left (turn tried)) (tried .try-transition .ensures .0) (c .before .before .before .either .ensures)
-    (c .before .trial2 .given .1)
+allowed-requires : tie.Need-allowed-requires Inv-loop μ-loop
+allowed-requires c κs =
+    let end : tie.After-block-end Inv-loop μ-loop = search in
+    let all : tie.After-transitions Inv-loop μ-loop = search in
+    let start : tie.Start Inv-loop μ-loop = search in
+    (end .block-end .ensures .first-within, end .block-end .ensures .short, omega (arith, end .block-end .ensures .within, all .transitions .ensures, few-transitions (start .pre .outlined)))
+
+loop-less : tie.Need-loop-less Inv-loop μ-loop
+loop-less c =
+    let end : tie.After-block-end Inv-loop μ-loop = search in
+    let here : tie.Else2 Inv-loop μ-loop = search in
+    let all : tie.After-transitions Inv-loop μ-loop = search in
+    block-falls _ _ _ _ _ (c .allowed .ok) (end .block-end .ensures .some (omega (arith, here .if2 .left, here .before .before .loop .inv .0 .within, all .transitions .ensures))) (end .block-end .ensures .within)
+
+loop-again : tie.Need-loop-again Inv-loop μ-loop
+loop-again c =
+    let here : tie.Then1 Inv-loop μ-loop = search in
+    let end : tie.After-block-end Inv-loop μ-loop = search in
+    let all : tie.After-transitions Inv-loop μ-loop = search in
+    let start : tie.Start Inv-loop μ-loop = search in
+    let none = none-waits _ _ _ _ _ _ _ _ (here .before .loop .inv .0) (here .if1 .taken) in
+    (rw (c .allowed .ensures) (expanding-block _ _ _ _ _ _ _ (start .pre .outlined) (omega arith) none (end .block-end .ensures .first-within) (omega (arith, end .block-end .ensures .within, all .transitions .ensures))), here .before .loop .inv .1, c .allowed .ok)
+
+-- ---- the first transition that waits is tried
+
+some : (n : ℕ) → (n ≡ 0 → ⊥) → 0 < n
+some zero h = absurd (h refl)
+some (suc n) h = omega arith
+
+first-waits : (c : tie.Else1 Inv-loop μ-loop) → 0 < c .before .loop .left
+first-waits c = some (c .before .loop .left) (c .if1 .left)
+
+cast-t : tie.Need-cast-t Inv-loop μ-loop
+cast-t c = let here : tie.Else1 Inv-loop μ-loop = search in record { fits = omega (arith, trailing-le 64 (here .before .loop .left)) }
+
+add-t : tie.Need-add-t Inv-loop μ-loop
+add-t c =
+    let here : tie.Else1 Inv-loop μ-loop = search in
+    let start : tie.Start Inv-loop μ-loop = search in
+    let waits = one-waits _ _ _ _ _ _ _ _ (here .before .loop .inv .0) (here .before .loop .inv .2) (first-waits here) in
+    record { fits = omega (arith, first-allowed _ _ _ _ _ _ waits .declared, few-transitions (start .pre .outlined)) }
+
+sub-left : tie.Need-sub-left Inv-loop μ-loop
+sub-left c = let here : tie.Else1 Inv-loop μ-loop = search in first-waits here
+
+try-transition-requires : tie.Need-try-transition-requires Inv-loop μ-loop
+try-transition-requires c κs =
+    let here : tie.Else1 Inv-loop μ-loop = search in
+    let start : tie.Start Inv-loop μ-loop = search in
+    let waits = one-waits _ _ _ _ _ _ _ _ (here .before .loop .inv .0) (here .before .loop .inv .2) (first-waits here) in
+    let pre = start .pre in (
+      record { outlined = pre .outlined; held = waits .held; small = pre .small; slot = pre .slot },
+      first-allowed _ _ _ _ _ _ waits,
+      here .before .loop .inv .1,
+    )
+
+-- the bit is taken off
+falls : (c : tie.Else1 Inv-loop μ-loop) → bitAnd (c .before .loop .left) (c .before .loop .left - 1) < c .before .loop .left
+falls c = and-falls (c .before .loop .left) (first-waits c)
+
+loop-less-2 : tie.Need-loop-less-2 Inv-loop μ-loop
+loop-less-2 c = let here : tie.Else1 Inv-loop μ-loop = search in mask-falls _ _ _ (falls here)
 
 loop-again-2 : tie.Need-loop-again-2 Inv-loop μ-loop
 loop-again-2 c =
-    let here = asked (c .before) in
-    (expanding-past _ _ _ _ _ _ (here .before .loop .inv .0) (one-left here) (c .before .allowed .ensures (c .if1 .left)), here .before .loop .inv .1)
+    let tried : tie.After-try-transition Inv-loop μ-loop = search in
+    let marked : tie.After-either Inv-loop μ-loop = search in
+    let here : tie.Else1 Inv-loop μ-loop = search in
+    let waits = one-waits _ _ _ _ _ _ _ _ (here .before .loop .inv .0) (here .before .loop .inv .2) (first-waits here) in (
+      expanding-more _ _ _ _ _ _ waits (tried .try-transition .ensures .0) (marked .either .ensures) (tried .try-transition .kept .0) (c .enum-told .given .1),
+      tried .try-transition .ensures .1,
+      omega (arith, falls here, here .before .loop .inv .2),
+    )
+
+same-length-2 : tie.Need-same-length-2 Inv-loop μ-loop
+same-length-2 c =
+    let tried : tie.After-try-transition Inv-loop μ-loop = search in
+    let here : tie.Else1 Inv-loop μ-loop = search in
+    tried .try-transition .kept .0 ∙ here .before .loop .inv .0 .long
+
+returns-2 : tie.Need-returns-2 Inv-loop μ-loop
+returns-2 c =
+    let tried : tie.After-try-transition Inv-loop μ-loop = search in
+    let marked : tie.After-either Inv-loop μ-loop = search in
+    let here : tie.Else1 Inv-loop μ-loop = search in
+    let waits = one-waits _ _ _ _ _ _ _ _ (here .before .loop .inv .0) (here .before .loop .inv .2) (first-waits here) in
+    expanded-before _ _ _ _ _ _ waits (tried .try-transition .ensures .0) (marked .either .ensures) (c .before .trial .given .1)
+
+same-length-3 : tie.Need-same-length-3 Inv-loop μ-loop
+same-length-3 c =
+    let tried : tie.After-try-transition Inv-loop μ-loop = search in
+    let here : tie.Else1 Inv-loop μ-loop = search in
+    tried .try-transition .kept .0 ∙ here .before .loop .inv .0 .long
 
 returns-3 : tie.Need-returns-3 Inv-loop μ-loop
-returns-3 c = expanded-all _ _ _ _ _ _ (c .before .loop .inv .0) (omega (arith, c .loop-test .left, counted (c .before .before) .transitions .ensures))
+returns-3 c =
+    let tried : tie.After-try-transition Inv-loop μ-loop = search in
+    let marked : tie.After-either Inv-loop μ-loop = search in
+    let here : tie.Else1 Inv-loop μ-loop = search in
+    let waits = one-waits _ _ _ _ _ _ _ _ (here .before .loop .inv .0) (here .before .loop .inv .2) (first-waits here) in
+    expanded-at _ _ _ _ _ _ waits (tried .try-transition .ensures .0) (marked .either .ensures) (c .before .trial2 .given .1)
 
 pub expand-spec : {M : Type 1} → statement M
 expand-spec =
@@ -94,21 +156,23 @@ expand-spec =
     (λ c κs. search needs)
     (λ c κs. search needs)
     loop-holds
-    (λ c κs. (begun (counted (c .before .before)) .pre .outlined, one-left c))
+    (λ c. search needs)
+    returns
+    block-end-requires
+    allowed-requires
+    loop-less
+    loop-again
+    cast-t
+    add-t
+    sub-left
     try-transition-requires
     (λ c κs. search needs)
     (λ c. search needs)
-    (λ c. search needs)
-    (λ c. search needs)
-    loop-again
-    (λ c. search needs)
-    same-length
-    returns
+    loop-less-2
+    loop-again-2
     (λ c. search needs)
     same-length-2
     returns-2
     (λ c. search needs)
-    (λ c. search needs)
-    loop-again-2
-    (λ c. c .before .loop .inv .0 .long)
+    same-length-3
     returns-3)

@@ -39,10 +39,11 @@ number-knowing-requires c κs =
     let start : tie.Start = search in
     let place : tie.After-word-at = search in
     let sum : tie.After-inner-sum = search in
+    let inner : tie.After-inner-place = search in
     let a = start .args in
     let z = sum .inner-sum .result in
     let f : SFits w64 z = record { sfits = sum .inner-sum .ok } in
-    let told : InnerPlace (a .model .now) (boundPlace (a .outline .now) (a .k)) z (c .inner-place .result) = rw (back f, place .word-at .ensures) at (c .inner-place .ensures) in
+    let told : InnerPlace (a .model .now) (boundPlace (a .outline .now) (a .k)) z (inner .inner-place .result) = rw (back f, place .word-at .ensures) at (inner .inner-place .ensures) in
     rw (back f) (
       start .pre .0,
       bound-at (start .pre .0) (start .pre .2) (place .word-at .ensures) .inside,
@@ -50,15 +51,15 @@ number-knowing-requires c κs =
           let is = sum .inner-sum .ensures .0 (here .1) in
           rw (here .0)
           (total-is (a .model .now) (a .outline .now) (a .state .now) (boundPlace (a .outline .now) (a .k) + 14) z (record { inside = is .form .inside; near = omega (arith, is .form .inside, start .good) }) (is .form) (is .total) (here .1)),
+      sum .inner-sum .ensures .1,
     )
 
 returns-2 : tie.Need-returns-2
 returns-2 c =
     let start : tie.Start = search in
     let place : tie.After-word-at = search in
-    let sum : tie.After-inner-sum = search in
     let says = rw (place .word-at .ensures) at (c .number-knowing .ensures) in
-    (bound-evaluated (start .pre .0) (start .args .state .now) (start .args .k) (c .number-knowing .result) (says .0) (says .1), sum .inner-sum .ensures .1)
+    (bound-evaluated (start .pre .0) (start .args .state .now) (start .args .k) (c .number-knowing .result) (says .0) (says .1), says .2)
 
 pub bound-number-spec : {M : Type 1} → statement M
 bound-number-spec =

@@ -10,24 +10,28 @@ enum-told c = search needs
 take-requires : tie.Need-take-requires
 take-requires c κs =
     let start : tie.Start = search in
-    let held : tie.After-conditions-hold = search in
+    let held : tie.After-rest-holds = search in
     let passed : tie.After-next = search in
-    (start .pre .0, rest-read _ _ _ _ (held .conditions-hold .ensures) (passed .next .given .1) (start .pre .1), start .pre .2)
+    (start .pre .0, rest-read _ _ _ _ (held .rest-holds .ensures) (passed .next .given .1) (start .pre .1), start .pre .2, start .pre .3)
 
 returns : tie.Need-returns
 returns c =
-    let held : tie.After-conditions-hold = search in
+    let held : tie.After-rest-holds = search in
     let passed : tie.After-next = search in
-    attempt-taken _ _ _ _ (held .conditions-hold .ensures) (passed .next .given .1) _ _ (c .take .ensures)
+    (attempt-taken _ _ _ _ (held .rest-holds .ensures) (passed .next .given .1) _ _ (c .take .ensures .0), c .take .ensures .1)
 
 returns-2 : tie.Need-returns-2
-returns-2 c = let held : tie.After-conditions-hold = search in attempt-blocked _ _ _ _ (held .conditions-hold .ensures) _ (c .enum-told .given .1)
+returns-2 c =
+    let start : tie.Start = search in
+    let held : tie.After-rest-holds = search in
+    (attempt-blocked _ _ _ _ (held .rest-holds .ensures) _ (c .enum-told .given .1), start .pre .3)
 
 returns-3 : tie.Need-returns-3
 returns-3 c =
-    let held : tie.After-conditions-hold = search in
+    let start : tie.Start = search in
+    let held : tie.After-rest-holds = search in
     let troubled : tie.After-t = search in
-    attempt-stops _ _ _ _ (held .conditions-hold .ensures) _ (troubled .t .given .1)
+    (attempt-stops _ _ _ _ (held .rest-holds .ensures) _ (troubled .t .given .1), start .pre .3)
 
 pub attempt-spec : {M : Type 1} → statement M
 attempt-spec =

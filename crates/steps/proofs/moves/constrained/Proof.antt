@@ -9,13 +9,13 @@ enum-told : tie.Need-enum-told
 enum-told c = search needs
 
 returns : tie.Need-returns
-returns c = constraints-met _ _ _ _ _ (sym (c .enum-told .given .1) ∙ c .before .before .constraints-hold .ensures)
+returns c = constraints-met _ _ _ _ _ (sym (c .enum-told .given .1) ∙ c .before .before .child-holds .ensures)
 
 returns-2 : tie.Need-returns-2
-returns-2 c = constraint-fails _ _ _ _ _ (sym (c .enum-told2 .given .1) ∙ c .before .before .constraints-hold .ensures)
+returns-2 c = constraint-fails _ _ _ _ _ (sym (c .enum-told2 .given .1) ∙ c .before .before .child-holds .ensures)
 
 returns-3 : tie.Need-returns-3
-returns-3 c = constraint-troubles _ _ _ _ _ (sym (c .before .t .given .1) ∙ c .before .before .before .constraints-hold .ensures)
+returns-3 c = constraint-troubles _ _ _ _ _ (sym (c .before .t .given .1) ∙ c .before .before .before .child-holds .ensures)
 
 pub constrained-spec : {M : Type 1} → statement M
 constrained-spec =

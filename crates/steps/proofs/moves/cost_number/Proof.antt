@@ -21,8 +21,8 @@ returns : tie.Need-returns
 returns c =
     let start : tie.Start = search in
     let form = c .before .before .is-entry .ensures (c .before .if1 .taken) in
-    rw (back (range-fits {z = c .entry-at .result} (c .entry-at .ensures .1)))
-    (entry-promised _ _ (start .pre .0) (start .args .at) _ form (c .entry-at .result) (c .entry-at .ensures .0) (c .entry-at .ensures .1))
+    let says = entry-promised _ _ (start .pre .0) (start .args .at) _ form (c .entry-at .result) (c .entry-at .ensures .0) (c .entry-at .ensures .1) in
+    rw (back (range-fits {z = c .entry-at .result} (c .entry-at .ensures .1))) (says .0, says .1, start .pre .2)
 
 -- a code below those that tell nothing
 below : (c : tie.Then2) → ltZ (c .before .number .result) (pos silentFrom) ≡ true
@@ -37,8 +37,8 @@ returns-2 c =
     let branch : tie.Then2 = search in
     let run = branch .before .number in
     let is = run .ensures (below branch) in
-    rw (back (range-fits {z = run .result} (is .is .fits)))
-    (number-told _ _ (start .pre .0) (start .args .at) _ _ (run .result) (run .ensures) (below branch))
+    let says = number-told _ _ (start .pre .0) (start .args .at) _ _ (run .result) (run .ensures) (below branch) in
+    rw (back (range-fits {z = run .result} (is .is .fits))) (says .0, says .1, start .pre .2)
 
 pub cost-number-spec : {M : Type 1} → statement M
 cost-number-spec =

@@ -31,13 +31,14 @@ returns c =
           (run .number-short .ensures .0) (c .before .before .z .given .1)
           (rw (back (range-fits (w .0))) at (c .biased .ensures)),
       w .1,
+      run .number-short .ensures .2,
     )
 
 returns-2 : tie.Need-returns-2
 returns-2 c =
     let start : tie.Start = search in
     let run : tie.After-number-short = search in
-    (number-word-troubles _ (start .args .at) _ _ (run .number-short .ensures .0) (c .before .t .given .1), tt)
+    (number-word-troubles _ (start .args .at) _ _ (run .number-short .ensures .0) (c .before .t .given .1), tt, run .number-short .ensures .2)
 
 pub number-word-spec : {M : Type 1} → statement M
 number-word-spec =

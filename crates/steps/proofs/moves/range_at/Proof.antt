@@ -33,7 +33,7 @@ returns c =
     let start : tie.Start = search in
     let valued : tie.After-number-near = search in
     let number : tie.After-z = search in
-    (range-refused _ (start .args .at) _ _ _ (valued .number-near .ensures .0) (number .z .given .1) (high-negative _ _ (rw (back (fits number)) at (c .if1 .taken))), tt)
+    (range-refused _ (start .args .at) _ _ _ (valued .number-near .ensures .0) (number .z .given .1) (high-negative _ _ (rw (back (fits number)) at (c .if1 .taken))), tt, valued .number-near .ensures .2)
 
 cast-high : tie.Need-cast-high
 cast-high c = let number : tie.After-z = search in unsigned-cast _ (fits number) (natural c)
@@ -44,9 +44,9 @@ returns-2 c =
     let valued : tie.After-number-near = search in
     let number : tie.After-z = search in
     let other : tie.Else1 = search in
-    (range-refused _ (start .args .at) _ _ _ (valued .number-near .ensures .0) (number .z .given .1) (high-below _ (fits number) (natural other) _ (c .if2 .taken)), tt)
+    (range-refused _ (start .args .at) _ _ _ (valued .number-near .ensures .0) (number .z .given .1) (high-below _ (fits number) (natural other) _ (c .if2 .taken)), tt, valued .number-near .ensures .2)
 
-add-used : tie.Need-add-t15
+add-used : tie.Need-add-t17
 add-used c =
     let start : tie.Start = search in
     let number : tie.After-z = search in
@@ -59,14 +59,14 @@ returns-3 c =
     let number : tie.After-z = search in
     let other : tie.Else1 = search in
     let not-less : tie.Else2 = search in
-    (range-says _ (start .args .at) _ _ _ (valued .number-near .ensures .0) (number .z .given .1) (high-is _ (fits number) (natural other) _ (not-less .if2 .left)), omega (arith, within number .1, start .pre .1))
+    (range-says _ (start .args .at) _ _ _ (valued .number-near .ensures .0) (number .z .given .1) (high-is _ (fits number) (natural other) _ (not-less .if2 .left)), omega (arith, within number .1, start .pre .1), valued .number-near .ensures .2)
 
 returns-4 : tie.Need-returns-4
 returns-4 c =
     let start : tie.Start = search in
     let valued : tie.After-number-near = search in
     let troubled : tie.After-t = search in
-    (range-trouble _ (start .args .at) _ _ _ (valued .number-near .ensures .0) (troubled .t .given .1), tt)
+    (range-trouble _ (start .args .at) _ _ _ (valued .number-near .ensures .0) (troubled .t .given .1), tt, valued .number-near .ensures .2)
 
 pub range-at-spec : {M : Type 1} → statement M
 range-at-spec =

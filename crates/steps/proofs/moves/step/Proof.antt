@@ -1,17 +1,14 @@
 -- `steps::moves::step` meets its contract.
-use Prim.Native.Nat.{_+_, _*_, _≤_, _<_}
+use Prim.Native.Nat.{_≤_, _<_}
 use mathlib.Core.Path.{_≡_, sym, _∙_}
-use mathlib.Core.Bool.{true}
 use native.Mathlib.Omega.{arith}
 use borrow.Author.Needs.{needs}
 use lib.ListN.{length}
 use Rattle.model.specs.Numbers.{mostTransitions}
 use Rattle.model.specs.Steps.{systemOf}
 use Rattle.outline.specs.Outline.{modelOf}
-use Rattle.prepare.specs.Layout.{guardsFrom}
-use Rattle.prepare.specs.Guards.{passes, guardIn}
 use Rattle.steps.specs.InBytes.{StateRoom}
-use Rattle.steps.proofs.Moving.{guard-within, transition-read, tried, move-guarded, move-undeclared}
+use Rattle.steps.proofs.Moving.{guard-within, move-guarded, move-undeclared}
 use Rattle.steps.proofs.moves.step.Statement.{statement}
 use Rattle.steps.proofs.moves.step.Tie as tie
 
@@ -35,14 +32,14 @@ unfolding systemOf
 declared c = omega (arith, c .if1 .left, c .before .transitions .ensures)
 
 few : (c : tie.Else1) → start c .args .t < mostTransitions
-few c = omega (arith, declared c, start c .pre .outlines .few-transitions)
+few c = omega (arith, declared c, start c .pre .0 .outlines .few-transitions)
 
 -- the place where the guard is tried
 abbrev guard : tie.After-passes → tie.Else1
 guard c = c .before .before .before
 
 returns : tie.Need-returns
-returns c = move-undeclared _ _ _ _ (undeclared c)
+returns c = let s : tie.Start = search in (move-undeclared _ _ _ _ (undeclared c), s .pre .1)
 
 mul-passes : tie.Need-mul-passes
 mul-passes c = record { fits = omega (arith, few (c .before)) }
@@ -51,41 +48,22 @@ add-passes : tie.Need-add-passes
 add-passes c = record { fits = omega (arith, few (c .before)) }
 
 passes-requires : tie.Need-passes-requires
-passes-requires c κs = let here = c .before .before in guard-within _ _ (start here .pre) (start here .args .state .now) _ (declared here)
+passes-requires c κs = let here = c .before .before in guard-within _ _ (start here .pre .0) (start here .args .state .now) _ (declared here)
 
-mul-word-at : tie.Need-mul-word-at
-mul-word-at c = record { fits = omega (arith, few (guard (c .before .before))) }
-
-add-word-at : tie.Need-add-word-at
-add-word-at c = record { fits = omega (arith, few (guard (c .before .before))) }
-
-add-word-at-2 : tie.Need-add-word-at-2
-add-word-at-2 c = record { fits = omega (arith, few (guard (c .before .before))) }
-
-attempt-requires : tie.Need-attempt-requires
-attempt-requires c κs =
-    let here = guard (c .before .before .before .before) in
-    let s = start here in
-    (s .pre, transition-read _ _ (s .pre) (s .args .state .now) (s .args .t) (declared here) (c .before .word-at .ensures), room (c .before .before .before .before .before))
-
-passed : (c : tie.Then2) → (let a = start (guard (c .before)) .args in true ≡ passes (guardIn (a .outline .now) (guardsFrom + 4 * a .t)) (a .state .now))
-passed c = sym (c .if2 .taken) ∙ c .before .passes .ensures
-
-settle-requires : tie.Need-settle-requires
-settle-requires c κs =
-    let behind = c .before .before .before in
-    let then = behind .before .before in
-    let here = guard (then .before) in
-    let s = start here in
-    (s .pre, tried _ _ (s .pre) _ _ (declared here) (behind .word-at .ensures) _ _ (passed then) (c .before .attempt .ensures))
+allowed-step-requires : tie.Need-allowed-step-requires
+allowed-step-requires c κs =
+    let behind : tie.After-passes = search in
+    let here = guard behind in
+    let passed : tie.Then2 = search in
+    (start here .pre .0, record { room = room (behind .before); declared = omega (arith, here .if1 .left, here .before .transitions .ensures); passes-there = sym (behind .passes .ensures) ∙ passed .if2 .taken }, start here .pre .1)
 
 returns-2 : tie.Need-returns-2
-returns-2 c = c .settle .ensures
+returns-2 c = c .allowed-step .ensures
 
 returns-3 : tie.Need-returns-3
 returns-3 c =
     let here = guard (c .before) in
-    move-guarded _ _ (start here .pre) _ _ (declared here) _ (sym (c .if2 .left) ∙ c .before .passes .ensures)
+    (move-guarded _ _ (start here .pre .0) _ _ (declared here) _ (sym (c .if2 .left) ∙ c .before .passes .ensures), start here .pre .1)
 
 pub step-spec : {M : Type 1} → statement M
 step-spec =
@@ -96,11 +74,6 @@ step-spec =
     mul-passes
     add-passes
     passes-requires
-    mul-word-at
-    add-word-at
-    add-word-at-2
-    (λ c κs. search needs)
-    attempt-requires
-    settle-requires
+    allowed-step-requires
     returns-2
     returns-3)

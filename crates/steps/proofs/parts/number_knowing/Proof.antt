@@ -30,11 +30,11 @@ returns c =
     let branch : tie.Then2 = search in
     let run = branch .before .rounded in
     let is = run .ensures (below branch) in
-    rw (back (range-fits {z = run .result} (is .is .fits)))
-    (number-told _ _ (start .pre .0) (start .args .at) _ _ (run .result) (run .ensures) (below branch))
+    let says = number-told _ _ (start .pre .0) (start .args .at) _ _ (run .result) (run .ensures) (below branch) in
+    rw (back (range-fits {z = run .result} (is .is .fits))) (says .0, says .1, start .pre .3)
 
 number-with-requires : tie.Need-number-with-requires
-number-with-requires c κs = let start : tie.Start = search in rw (back (start .fits .sum)) (start .pre .0, start .pre .1, start .pre .2)
+number-with-requires c κs = let start : tie.Start = search in rw (back (start .fits .sum)) (start .pre .0, start .pre .1, start .pre .2, start .pre .3)
 
 pub number-knowing-spec : {M : Type 1} → statement M
 number-knowing-spec = tie.close (tie.spec rounded-requires sub-used returns number-with-requires (λ c. search needs))

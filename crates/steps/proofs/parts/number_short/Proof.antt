@@ -27,8 +27,8 @@ returns c =
     let branch : tie.Then1 = search in
     let run = branch .before .shifted in
     let is = run .ensures (below branch) in
-    rw (back (range-fits {z = run .result} (is .is .fits)))
-    (number-told _ _ (start .pre .0) (start .args .at) _ _ (run .result) (run .ensures) (below branch))
+    let says = number-told _ _ (start .pre .0) (start .args .at) _ _ (run .result) (run .ensures) (below branch) in
+    rw (back (range-fits {z = run .result} (is .is .fits))) (says .0, says .1, start .pre .2)
 
 pub number-short-spec : {M : Type 1} → statement M
 number-short-spec = tie.close (tie.spec (λ c κs. search needs) sub-used returns (λ c κs. search needs) (λ c. search needs))

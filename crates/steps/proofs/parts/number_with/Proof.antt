@@ -18,23 +18,23 @@ number-requires : tie.Need-number-requires
 number-requires c κs =
     let start : tie.Start = search in
     let f : SFits w64 (start .args .sum) = search needs in
-    rw (back f) (start .pre .2)
+    rw (back f) (start .pre .2, start .pre .3)
 
 -- a code below those that tell nothing
 below : (c : tie.Then1) → ltZ (c .before .number .result) (pos silentFrom) ≡ true
 below c = let f : SFits w64 (c .before .number .result) = search needs in rw (back f) at (c .if1 .taken)
 
 sub-used : tie.Need-sub-used
-sub-used c = let is = c .before .number .ensures (below c) in omega (arith, is .ends)
+sub-used c = let is = c .before .number .ensures .0 (below c) in omega (arith, is .ends)
 
 returns : tie.Need-returns
 returns c =
     let start : tie.Start = search in
     let branch : tie.Then1 = search in
     let run = branch .before .number in
-    let is = run .ensures (below branch) in
-    rw (back (range-fits {z = run .result} (is .is .fits)))
-    (number-told _ _ (start .pre .0) (start .args .at) _ _ (run .result) (run .ensures) (below branch))
+    let is = run .ensures .0 (below branch) in
+    let says = number-told _ _ (start .pre .0) (start .args .at) _ _ (run .result) (run .ensures .0) (below branch) in
+    rw (back (range-fits {z = run .result} (is .is .fits))) (says .0, says .1, run .ensures .1)
 
 pub number-with-spec : {M : Type 1} → statement M
 number-with-spec =
@@ -44,4 +44,4 @@ number-with-spec =
     sub-used
     returns
     (λ c κs. let start : tie.Start = search in (start .pre .0, start .pre .1))
-    (λ c. search needs))
+    (λ c. let run : tie.After-number = search in (c .number-at .ensures .0, c .number-at .ensures .1, run .number .ensures .1)))
