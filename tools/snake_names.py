@@ -6,7 +6,8 @@ usage: python3 tools/snake_names.py           at the top of the repository: rewr
 
 tools/snake_names.txt has each old name with its new one. Names of types, modules and facts, which begin with a capital, stay. So do functions
 of src/, strings, and names that the check makes. Where a function and a lemma would fall together, the lemma has `_lem`, and a field or a case
-of a type has a name of its own. It ran once, behind /opt/rattle/port/port.py; a second run changes nothing.
+of a type has a name of its own. It runs once, behind the kit's port.py; where no old name
+is left in specs/ it changes nothing.
 """
 import glob
 import re
@@ -67,6 +68,10 @@ def main():
         for p in ["README.md", "CONTRIBUTING.md"] + sorted(glob.glob("docs/*.md")):
             t = read(p)
             write(p, re.sub(r"`([^`\n]*)`", lambda m: "`" + turn(m.group(1), names) + "`", t), t)
+        return
+    specs = "\n".join(read(p) for p in glob.glob("crates/*/specs/**/*.antt", recursive=True))
+    if not any(a != a.lower() and a in names for a in TOKEN.findall(specs)):
+        print("no old name is left")
         return
     # Rust has no capitals and no dashes in such names, so these alone are a clause's.
     clauses = {a: b for a, b in names.items() if "-" in a or a != a.lower()}

@@ -25,9 +25,9 @@ unfolding kept_in
 kept_by slots order n l e = e
 
 -- three lists hold n nodes that have these words, in order
-pub record KeepingParts (outline : List ℕ) (w size n : ℕ) (slots order links : List ℕ) (kept-words : List (List ℕ)) : Type 0 where
+pub record KeepingParts (outline : List ℕ) (w size n : ℕ) (slots order links : List ℕ) (kept_words : List (List ℕ)) : Type 0 where
   pub held : IndexedParts outline w size n slots order links
-  pub kept : kept_in slots order n ≡ kept-words
+  pub kept : kept_in slots order n ≡ kept_words
 
 -- ---- a child's header goes where all its words go
 

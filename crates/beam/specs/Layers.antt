@@ -42,9 +42,9 @@ pub record Indexed (outline : List ℕ) (w n : ℕ) (layer : List ℕ) : Type 0 
   pub parts : P.IndexedParts outline w (4 * w) n (slots_of w layer) (order_of w layer) (links_of w layer)
 
 -- a layer of n nodes that have these words, in order
-pub record Keeping (outline : List ℕ) (w n : ℕ) (layer : List ℕ) (kept-words : List (List ℕ)) : Type 0 where
+pub record Keeping (outline : List ℕ) (w n : ℕ) (layer : List ℕ) (kept_words : List (List ℕ)) : Type 0 where
   pub held : Indexed outline w n layer
-  pub kept : kept_of w layer n ≡ kept-words
+  pub kept : kept_of w layer n ≡ kept_words
 
 -- a layer of n nodes, and a child whose bucket is k
 pub record Offering (outline : List ℕ) (w n k : ℕ) (layer header state : List ℕ) : Type 0 where

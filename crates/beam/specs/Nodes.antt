@@ -43,5 +43,5 @@ unfoldable pub beats : (bytes a b : List ℕ) → Bool
 beats bytes a b = dominates_at bytes (g_of a) (state_words a) (g_of b) (state_words b)
 
 -- the node in slot i of a layer, by its words; path: the path to each slot of this layer
-unfoldable pub node_at_lem : (bytes : List ℕ) (path : ℕ → List ℕ) (i : ℕ) (words : List ℕ) → Node State Cost
-node_at_lem bytes path i ws = record { state = state_in bytes (state_words ws); g = g_of ws; h = h_of ws; f = f_of ws; path = path i }
+unfoldable pub node_at : (bytes : List ℕ) (path : ℕ → List ℕ) (i : ℕ) (words : List ℕ) → Node State Cost
+node_at bytes path i ws = record { state = state_in bytes (state_words ws); g = g_of ws; h = h_of ws; f = f_of ws; path = path i }

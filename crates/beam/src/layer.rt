@@ -7,7 +7,7 @@ ghost use Rattle.beam_order.specs.Slots.{header_words, layer_words, placed};
 ghost use Rattle.beam_order.specs.Order.{without, earlier_at, Rising, Cutoff};
 ghost use Rattle.beam_index.specs.Links.{Found};
 ghost use Rattle.beam.specs.Nodes.{ChildWords};
-ghost use Rattle.beam.specs.Parts.{sought as slotSought};
+ghost use Rattle.beam.specs.Parts.{sought as slot_sought};
 ghost use Rattle.beam.specs.Layers.{slots_of, order_of, links_of, kept_of, Indexed, Keeping, Offering, Walkable, PlaceIn, SlotIn, SlotRemoved, unbeaten, InsertedInto, Layer, Below, Emptied};
 
 use crate::buckets::{bucket, slot_bucket};
@@ -19,7 +19,7 @@ use model::Cost;
 use outline::layout::{PREPARED_WORDS, STATE_WORDS};
 
 // How many nodes a layer has after an insertion, and whether one was cut.
-#[derive(Drop)]
+#[derive(Clone, Copy)]
 pub struct Inserted {
     pub count: usize,
     pub cut: bool,
@@ -89,7 +89,7 @@ fn find_in(
     beaten: bool,
 ) -> usize
     requires { Outlined model.now outline.now × (Walkable w k layer.now × ChildWords header.now state.now) }
-    ensures { Found (links_of w layer.now) w k (slotSought model.now (slots_of w layer.now) (header.now ++ state.now) beaten) result }
+    ensures { Found (links_of w layer.now) w k (slot_sought model.now (slots_of w layer.now) (header.now ++ state.now) beaten) result }
 {
     let b = LINKS_AT * w;
     let mut next = layer[b + (w + k)] as usize;

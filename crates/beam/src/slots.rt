@@ -4,7 +4,7 @@ ghost use Rattle.std.specs.Prelude.{◌≡◌, ◌++◌, ◌*◌, ◌+◌, ◌�
 ghost use Rattle.steps.specs.InBytes.{Outlined};
 ghost use Rattle.beam_order.specs.Slots.{slot_words};
 ghost use Rattle.beam.specs.Nodes.{ChildWords, dominates_at};
-ghost use Rattle.beam.specs.Parts.{written, sought as slotSought};
+ghost use Rattle.beam.specs.Parts.{written, sought as slot_sought};
 
 use beam_order::slots::{HEADER_WORDS, SLOT_WORDS, STATE_AT, g_in};
 use costs::at_most;
@@ -57,7 +57,7 @@ pub fn sought(
     beaten: bool,
 ) -> bool
     requires { Outlined model.now outline.now × ((s * slot_words + slot_words ≤ length slots.now) × ChildWords header.now state.now) }
-    ensures { result ≡ slotSought model.now slots.now (header.now ++ state.now) beaten s }
+    ensures { result ≡ slot_sought model.now slots.now (header.now ++ state.now) beaten s }
 {
     let at = s * SLOT_WORDS;
     let g = g_in(header, 0);

@@ -1,5 +1,7 @@
 // The index of a layer: which slots are used in which bucket. Each chain falls in slot number, so a walk ends at 0.
 
+#![tactic(auto)]
+
 ghost use Rattle.std.specs.Prelude.{◌+◌, ◌≤◌, ◌<◌, length};
 ghost use Rattle.beam_index.specs.Links.{Falling, LowLink, Added, Removed, Cleared};
 

@@ -1,5 +1,7 @@
 // The order array of a layer: places are found by halving, and slots are put in and taken out by shifts.
 
+#![tactic(auto)]
+
 pub mod slots;
 
 ghost use Rattle.std.specs.Prelude.{◌≡◌, ◌+◌, ◌-◌, ◌*◌, ◌≤◌, ◌<◌, length, get_or};

@@ -1,5 +1,7 @@
 // Lists of widths: whether one rises, the built-in one, the last entry, and the place of the next.
 
+#![tactic(auto)]
+
 ghost use Rattle.std.specs.Prelude.{◌≡◌, ◌<◌, length, get_or};
 ghost use Rattle.search.specs.Run.{listed, rising_from, rising, widest_of};
 ghost use Rattle.beam_widths.specs.Lists.{place_behind, BuiltIn};

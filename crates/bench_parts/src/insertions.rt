@@ -80,9 +80,8 @@ fn layer_fits(w: usize, words: usize) -> bool
     LAYER_WORDS * w <= words
 }
 
-// The same from C: 0 where the model is too long or refused, the width is not from 1 to 4,096 or less than LAYER_WORDS × width words are lent.
-#[unsafe(no_mangle)]
-pub extern "C" fn repgypsum_insertions(
+// The same on the bytes of a model: 0 where the model is too long or refused, the width is not from 1 to 4,096 or less than LAYER_WORDS × width words are lent.
+pub fn repgypsum_insertions(
     model: &[u8],
     words: &mut [u64],
     width: u32,

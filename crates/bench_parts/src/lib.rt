@@ -1,5 +1,6 @@
-// The evaluators and the insertion for C, to be timed; see host/bench. To C a lent array is a bare pointer,
-// a lent slice a pointer and a length.
+// The evaluators and the insertion, to be timed; see host/bench. crates/bench_parts_c exports these functions to C.
+
+#![tactic(auto)]
 
 pub mod insertions;
 
@@ -11,8 +12,7 @@ use eval_sets::answers::{ConditionValue, NumberValue};
 use outline::layout::{PREPARED_WORDS, STATE_WORDS};
 
 // The value of the number at the front of e, or the least i64 for trouble.
-#[unsafe(no_mangle)]
-pub extern "C" fn repgypsum_number_value(
+pub fn repgypsum_number_value(
     e: &[u8],
     model: &[u8],
     state: &[u64; STATE_WORDS],
@@ -27,8 +27,7 @@ pub extern "C" fn repgypsum_number_value(
 }
 
 // Whether the condition at the front of e holds: 1, 0, or 2 for trouble.
-#[unsafe(no_mangle)]
-pub extern "C" fn repgypsum_condition_value(
+pub fn repgypsum_condition_value(
     e: &[u8],
     model: &[u8],
     state: &[u64; STATE_WORDS],

@@ -1,5 +1,7 @@
 // Costs in code: their order, and how the cost rule joins them. The struct is the definitions' own.
 
+#![tactic(auto)]
+
 ghost use Rattle.std.specs.Prelude.{◌≡◌, not, max};
 ghost use Rattle.model.specs.Commands.{rule_of};
 ghost use Rattle.model.specs.Costs.{at_most, hours as Costs·hours, fixed as Costs·fixed, combine as Costs·combine};

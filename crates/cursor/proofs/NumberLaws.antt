@@ -13,7 +13,7 @@ use lib.Signed.{mag, lt_z, le_z}
 use borrow.Author.Tests.{eqb-true, eqb-false, leb-true, ltb-true}
 use Rattle.model.specs.Numbers.{range_end, range_size}
 use Rattle.model.specs.Values.{Value, value, in_range, floor_quotient}
-use Rattle.model.specs.Values.{◌>>=◌ as ◌andthen◌}
+use Rattle.model.specs.Values.{◌>>=◌ as ◌and_then◌}
 use Rattle.model.specs.Readers.{read, integer}
 use Rattle.model.specs.Meaning.{two}
 use Rattle.laws.proofs.Bools.{and_both}
@@ -74,7 +74,7 @@ module _ (bytes words state : List ℕ) where
   two_run : (d p b n m : ℕ) (x y z : ℤ) (o : Operation) → (d ≡ 0 → ⊥) → p < length bytes → get_or bytes p 0 ≡ b → number_form b ≡ NF.Arithmetic o
       → run_number (d - 1) (here bytes words state) (drop (p + 1) bytes) ≡ N.Value x n → run_number (d - 1) (here bytes words state) (drop n (drop (p + 1) bytes)) ≡ N.Value y m → arithmetic o x y ≡ value z
       → run_number d (here bytes words state) (drop p bytes) ≡ N.Value z (1 + (n + m))
-  unfolding number_answer number_at number_behind two ◌andthen◌
+  unfolding number_answer number_at number_behind two ◌and_then◌
   two_run d p b n m x y z o some l byte form first second e =
       let rest = drop (p + 1) bytes in
       (number_opens (here bytes words state)).opened d p bytes some l byte
@@ -175,7 +175,7 @@ pub operation_told : (b : ℕ) (o : Operation) (x y z code : ℤ) → number_for
 operation_told b o x y z code form is e u other l = ap (λ (v : Operation). arithmetic v x y) (sym (same_operation b o u form other)) ∙ is ∙ ranged_value z code e l
 
 pub quotient_told : (x y z code : ℤ) → floor_quotient x y ≡ value z → code ≡ ranged_code z → OperationTold 0x25 x y code
-unfolding number_form arithmetic ◌andthen◌
+unfolding number_form arithmetic ◌and_then◌
 quotient_told x y z code q e = operation_told 0x25 Op.Quotient x y z code refl (rw q) e
 
 -- one of two numbers in range is in range

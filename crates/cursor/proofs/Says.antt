@@ -11,7 +11,7 @@ use Rattle.model.specs.Values.{value}
 use Rattle.model.specs.Readers.{read}
 use Rattle.model.specs.Syntax.{Set, Number, Condition, Variable, Table}
 use Rattle.model.specs.Expressions as reading
-use Rattle.model.specs.Meaning.{State, set_value_lem, number_value, condition_value}
+use Rattle.model.specs.Meaning.{State, set_value, number_value, condition_value}
 use Rattle.words.specs.States.{state_of}
 use Rattle.outline.specs.Outline.{model_of, Outlines}
 use Rattle.eval_sets.specs.declared.answers.NumberValue.TheVariants as N
@@ -61,7 +61,7 @@ module _ (bytes words state : List ℕ) (outlined : Outlines bytes words (model_
   fails_says told x n reads = (holds_value _ n (sym (run_says told.is x n reads))).0
 
   pub set_says_lem : {s q : ℕ} → SetTo bytes words state p s q → (x : Set) (n : ℕ) → reading.set variables tables most_nesting (drop p bytes) ≡ read x n
-      → (s ≡ set_value_lem x meant) × (q - p ≡ n)
+      → (s ≡ set_value x meant) × (q - p ≡ n)
   set_says_lem {s} {q} told x n reads =
       let top = most_nesting + told.used in
       let took : q - p ≡ told.used = omega (arith, told.ends) in

@@ -15,7 +15,7 @@ use lib.Signed.{lt_z, le_z}
 use mir.Syntax.{w64}
 use mir.Val.{SFits, of_z, to_z}
 use Rattle.words.proofs.Integers.{back}
-use Rattle.model.specs.Values.{value, ◌>>=◌ as ◌andthen◌}
+use Rattle.model.specs.Values.{value, ◌>>=◌ as ◌and_then◌}
 use Rattle.model.specs.Readers.{read, word}
 use Rattle.model.specs.Sets as Sets
 use Rattle.model.specs.Meaning.{two, equal_z}
@@ -28,7 +28,7 @@ use Rattle.eval_sets.specs.declared.first_bytes.ConditionForm.{ConditionForm}
 use Rattle.eval_sets.specs.declared.first_bytes.ConditionForm.TheVariants as CF
 use Rattle.eval_sets.specs.Answers.{number_answer, condition_answer, element_answer, set_answer, absent_set, past_condition, negated}
 use Rattle.eval_sets.specs.Forms.{number_form, condition_form, shape_of, operands, parts, span}
-use Rattle.eval_sets.specs.Runs.{arithmetic, compared, run_element, run_set, run_number, run_condition, same_elements, member_of_lem, empty_set, subset_of, agree, decided, connective_first, run_connective, condition_behind, condition_at}
+use Rattle.eval_sets.specs.Runs.{arithmetic, compared, run_element, run_set, run_number, run_condition, same_elements, member_of, empty_set, subset_of, agree, decided, connective_first, run_connective, condition_behind, condition_at}
 use Rattle.eval_sets.proofs.Opening.{condition_opens}
 use Rattle.eval_sets.proofs.Parts.{test_is, elements_are, element_set_is, sets_are}
 use Rattle.eval_sets.proofs.Spans.{span_within, span_operands, span_none}
@@ -211,7 +211,7 @@ module _ (bytes words state : List ℕ) where
   -- 50 to 52
   pub compared_is : {p b q r : ℕ} {x y : ℤ} (o : Relation) → Begins bytes p b → condition_form b ≡ CF.Comparison o → NumberTo bytes words state (p + 1) x q → NumberTo bytes words state q y r
       → ConditionTo bytes words state p (compared o x y) r
-  unfolding condition_at condition_behind number_answer condition_answer two ◌andthen◌
+  unfolding condition_at condition_behind number_answer condition_answer two ◌and_then◌
   compared_is {p} {b} {q} {r} {x} {y} o begins f s t = whole_is (s.used + t.used) r begins f (omega (arith, s.ends, t.ends)) (number_there t)
       (λ d h. test_is (λ g. run_number d (here bytes words state) g) (λ g. run_condition d (here bytes words state) g) (drop (p + 1) bytes) (compared o) (value x) (value y) s.used t.used
       (s.is.runs d (omega arith)) (next_number (p + 1) s.used s.ends t d (omega arith)))
@@ -238,10 +238,10 @@ module _ (bytes words state : List ℕ) where
 
   -- 54 and an element
   pub member_is : (p : ℕ) {s q : ℕ} → Begins bytes p 0x54 → Stands bytes p 3 → begins_element (get_or bytes (p + 1) 0) ≡ true → SetTo bytes words state (p + 3) s q
-      → ConditionTo bytes words state p (Sets.is_member_lem (object_in (get_or bytes (p + 1) 0) (get_or bytes (p + 2) 0) state) s) q
-  unfolding condition_at condition_behind condition_form member_of_lem
+      → ConditionTo bytes words state p (Sets.is_member (object_in (get_or bytes (p + 1) 0) (get_or bytes (p + 2) 0) state) s) q
+  unfolding condition_at condition_behind condition_form member_of
   member_is p {s} {q} begins there x t = whole_is (2 + t.used) q begins refl (omega (arith, t.ends)) (set_there t)
-      (λ d h. ap member_of_lem (element_set_is state (λ g. run_set d state words g) (drop (p + 1) bytes) _ 2 s _ _ first (next_set (p + 1) 2 (omega arith) t d (omega arith))))
+      (λ d h. ap member_of (element_set_is state (λ g. run_set d state words g) (drop (p + 1) bytes) _ 2 s _ _ first (next_set (p + 1) 2 (omega arith) t d (omega arith))))
     where
       at_one : p + 1 + 1 ≡ p + 2
       at_one = omega arith
@@ -319,12 +319,12 @@ module _ (bytes words state : List ℕ) where
   same_told {p} begins there a b hx hy e = truth_told (e ∙ rw (hx, hy)) (same_is p begins there a b)
 
   pub near_member_told : {p x s q code : ℕ} {m : Bool} → Begins bytes p 0x54 → Stands bytes p 3 → begins_element (get_or bytes (p + 1) 0) ≡ true
-      → x ≡ object_in (get_or bytes (p + 1) 0) (get_or bytes (p + 2) 0) state → SetTo bytes words state (p + 3) s q → m ≡ Sets.is_member_lem x s → code ≡ truth_code m → ConditionTold bytes words state p code q
+      → x ≡ object_in (get_or bytes (p + 1) 0) (get_or bytes (p + 2) 0) state → SetTo bytes words state (p + 3) s q → m ≡ Sets.is_member x s → code ≡ truth_code m → ConditionTold bytes words state p code q
   near_member_told {p} begins there a hx set hm e = truth_told (e ∙ rw (hm, hx)) (member_is p begins there a set)
 
   -- 54, an element and 41 v
   variable_member_is : {p x s : ℕ} → Begins bytes p 0x54 → Stands bytes p 5 → get_or bytes (p + 3) 0 ≡ 0x41 → begins_element (get_or bytes (p + 1) 0) ≡ true
-      → x ≡ object_in (get_or bytes (p + 1) 0) (get_or bytes (p + 2) 0) state → s ≡ get_or state (get_or bytes (p + 4) 0) 0 → ConditionTo bytes words state p (Sets.is_member_lem x s) (p + 5)
+      → x ≡ object_in (get_or bytes (p + 1) 0) (get_or bytes (p + 2) 0) state → s ≡ get_or state (get_or bytes (p + 4) 0) 0 → ConditionTo bytes words state p (Sets.is_member x s) (p + 5)
   variable_member_is {p} {x} {s} begins there v a hx hs =
       let at_three : p + 3 + 1 ≡ p + 4 = omega arith in
       let at_five : p + 3 + 2 ≡ p + 5 = omega arith in
@@ -332,7 +332,7 @@ module _ (bytes words state : List ℕ) where
       rw hx (member_is p begins (record { inside = omega (arith, there.inside); near = omega (arith, there.near) }) a set)
 
   pub member_told : {p x s code : ℕ} {m : Bool} → Begins bytes p 0x54 → Stands bytes p 5 → get_or bytes (p + 3) 0 ≡ 0x41 → begins_element (get_or bytes (p + 1) 0) ≡ true
-      → x ≡ object_in (get_or bytes (p + 1) 0) (get_or bytes (p + 2) 0) state → s ≡ get_or state (get_or bytes (p + 4) 0) 0 → m ≡ Sets.is_member_lem x s → code ≡ truth_code m
+      → x ≡ object_in (get_or bytes (p + 1) 0) (get_or bytes (p + 2) 0) state → s ≡ get_or state (get_or bytes (p + 4) 0) 0 → m ≡ Sets.is_member x s → code ≡ truth_code m
       → ConditionTold bytes words state p code (p + 5)
   member_told begins there v a hx hs hm e = truth_told (e ∙ rw hm) (variable_member_is begins there v a hx hs)
 
@@ -393,7 +393,7 @@ module _ (bytes words state : List ℕ) where
 
   -- 58 54 30 k 41 v and such a condition
   pub member_and_common_told : {p x s t u code : ℕ} {m : Bool} → MemberAndCommon bytes p → x ≡ object_in (get_or bytes (p + 2) 0) (get_or bytes (p + 3) 0) state → s ≡ get_or state (get_or bytes (p + 5) 0) 0
-      → t ≡ get_or state (get_or bytes (p + 20) 0) 0 → word 8 (drop (p + 11) bytes) ≡ read u 8 → m ≡ Sets.is_member_lem x s → code ≡ truth_code (m && not (eqb (Sets.intersection u t) 0))
+      → t ≡ get_or state (get_or bytes (p + 20) 0) 0 → word 8 (drop (p + 11) bytes) ≡ read u 8 → m ≡ Sets.is_member x s → code ≡ truth_code (m && not (eqb (Sets.intersection u t) 0))
       → ConditionTold bytes words state p code (p + 21)
   unfolding begins_element
   member_and_common_told {p} {x} {s} {t} {u} form hx hs ht members hm e =
@@ -406,7 +406,7 @@ module _ (bytes words state : List ℕ) where
       let on-twenty : p + 6 + 14 ≡ p + 20 = omega arith in
       let on-end : p + 6 + 15 ≡ p + 21 = omega arith in
       let begins : Begins bytes p 0x58 = record { there = record { inside = omega (arith, form.there.inside); near = omega (arith, form.there.near) }; byte = form.both } in
-      let member : ConditionTo bytes words state (p + 1) (Sets.is_member_lem x s) (p + 1 + 5) = variable_member_is (record { there = inner 1 1 (omega arith) form.there; byte = form.member }) (inner 1 5 (omega arith) form.there) (rw on_four form.variable)
+      let member : ConditionTo bytes words state (p + 1) (Sets.is_member x s) (p + 1 + 5) = variable_member_is (record { there = inner 1 1 (omega arith) form.there; byte = form.member }) (inner 1 5 (omega arith) form.there) (rw on_four form.variable)
       (rw (on_two, form.object) refl) (rw (on_two, on_three) hx) (rw on-five hs) in
       let common : ConditionTo bytes words state (p + 6) (not (eqb (Sets.intersection u t) 0)) (p + 6 + 15) = common_is form.common (rw on-eleven members) (rw on-twenty ht) in
       truth_told (e ∙ rw hm) (both_are begins (rw on-six at member) (rw on-end at common) (rw on-end at (common_passed bytes form.common)))
@@ -450,6 +450,7 @@ module _ (bytes words state : List ℕ) where
 
       fails : OneBroken 1 p → FailsAt bytes words state p
       fails (now t) = t
+      fails (later {r = r} _ x6) = elim x6 [ ]
 
   pub tests_and : (p due a : ℕ) → length bytes < 2 ^ 63 → Tests p due a → (due ≡ 0 → ⊥) → Begins bytes a 0x58 → Tests p (due + 1) (a + 1)
   tests_and p zero a small j some begins = absurd (some refl)

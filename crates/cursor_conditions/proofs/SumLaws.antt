@@ -14,18 +14,15 @@ use lib.Signed.{mag, lt_z, le_z}
 use mir.Syntax.{w64}
 use mir.Val.{SFits}
 use Rattle.model.specs.Numbers.{range_end, most_objects}
-use Rattle.model.specs.Values.{Value, value, in_range, ◌>>=◌ as ◌andthen◌}
+use Rattle.model.specs.Values.{Value, value, in_range, ◌>>=◌ as ◌and_then◌}
 use Rattle.model.specs.Readers.{read, signed, integer}
 use Rattle.model.specs.Sets as Sets
-use Rattle.model.specs.Meaning.{two}
 use Rattle.words.proofs.Integers.{sum_fits}
 use Rattle.words.proofs.Literal.{word_four, integer_is, signed_low, signed_high}
 use Rattle.eval_sets.proofs.Slices.{first_at}
 use Rattle.eval_sets.specs.declared.answers.NumberValue.TheVariants as N
-use Rattle.eval_sets.specs.declared.first_bytes.Operation.{Operation}
 use Rattle.eval_sets.specs.declared.first_bytes.Operation.TheVariants as Op
 use Rattle.eval_sets.specs.declared.first_bytes.NumberForm.{NumberForm}
-use Rattle.eval_sets.specs.declared.first_bytes.NumberForm.TheVariants as NF
 use Rattle.eval_sets.specs.Answers.{number_answer, condition_answer, past_number}
 use Rattle.eval_sets.specs.Forms.{number_form, shape_of, operands, parts, span}
 use Rattle.eval_sets.specs.Runs.{arithmetic, fits, run_number, run_condition, size_number, number_behind, number_at}
@@ -61,7 +58,7 @@ unfolding in_range
 is_in_range z h = rw (lt-ltb (mag z) range_end h)
 
 picked : (b : Bool) (x y z : ℤ) (k : ℕ) → z ≡ cond b x y → number_answer (value b and_then (λ holds. cond holds (value x) (value y))) k ≡ N.Value z k
-unfolding number_answer ◌andthen◌
+unfolding number_answer ◌and_then◌
 picked true x y z k e = rw e
 picked false x y z k e = rw e
 

@@ -14,7 +14,7 @@ use Rattle.eval_sets.specs.Forms.{condition_form}
 use Rattle.eval_sets.specs.Runs.{run_condition}
 use Rattle.cursor.specs.Places.{Stands, Begins, BehindAll}
 use Rattle.cursor.specs.Told.{here, ConditionIs, ConditionTo, ConditionTold}
-use Rattle.cursor_conditions.specs.Waiting.{is_connective, Wait, turn, join, code_of, coded, going_on, Comes, Due, Told, Settled}
+use Rattle.cursor_conditions.specs.Waiting.{is_connective, Wait, turn, join, code_of, coded, goes_on, Comes, Due, Told, Settled}
 use Rattle.cursor_conditions.proofs.ConditionLaws.{condition_there, untold, negated_is, second_is, decided_is}
 
 -- ---- codes
@@ -31,12 +31,12 @@ code_turned (suc zero) h = refl
 code_turned (suc (suc c)) h = absurd (omega (arith, h))
 
 -- what the second part decides behind, and what it does not
-goes_joined : (o c : ℕ) → o ≡ 1 → going_on o c ≡ eqb c 1
-unfolding going_on
+goes_joined : (o c : ℕ) → o ≡ 1 → goes_on o c ≡ eqb c 1
+unfolding goes_on
 goes_joined o c e = rw e
 
-goes_either : (o c : ℕ) → o ≡ 2 → going_on o c ≡ eqb c 0
-unfolding going_on
+goes_either : (o c : ℕ) → o ≡ 2 → goes_on o c ≡ eqb c 0
+unfolding goes_on
 goes_either o c e = rw e
 
 -- ---- first bytes
@@ -128,7 +128,7 @@ module _ (bytes words state : List ℕ) where
         go (join false ∷ x) e h = absurd (omega (arith, e, last))
         go (join true ∷ x) e h = absurd (omega (arith, e, last))
 
-    pub told_goes : {w c q : ℕ} → Told bytes words state p w c q → 1 < w → (w % 4 ≡ 0 → ⊥) → going_on (w % 4) c ≡ true → Due bytes words state p (w / 4) q
+    pub told_goes : {w c q : ℕ} → Told bytes words state p w c q → 1 < w → (w % 4 ≡ 0 → ⊥) → goes_on (w % 4) c ≡ true → Due bytes words state p (w / 4) q
     unfolding coded code_of Comes
     told_goes {w} {c} {q} t some other on = go t.waits t.word t.comes
       where
@@ -142,7 +142,7 @@ module _ (bytes words state : List ℕ) where
             let o : w % 4 ≡ 2 = omega (arith, e) in
             record { waits = x; word = omega (arith, e); due = λ v r u. h.1 (code_fails c (eqb-true c 0 (sym (goes_either (w % 4) c o) ∙ on))) v r u }
 
-    pub told_decided : {w c q r : ℕ} → Told bytes words state p w c q → 1 < w → c < 2 → (w % 4 ≡ 0 → ⊥) → going_on (w % 4) c ≡ false → BehindAll bytes q 1 r → Told bytes words state p (w / 4) c r
+    pub told_decided : {w c q r : ℕ} → Told bytes words state p w c q → 1 < w → c < 2 → (w % 4 ≡ 0 → ⊥) → goes_on (w % 4) c ≡ false → BehindAll bytes q 1 r → Told bytes words state p (w / 4) c r
     unfolding coded code_of Comes
     told_decided {w} {c} {q} {r} t some l other off passed = go t.waits t.word t.comes
       where
@@ -192,7 +192,7 @@ module _ {bytes : List ℕ} {w₀ c₀ q₀ : ℕ} where
       tells = λ words state p t. told_turn bytes words state (s.tells words state p t) some s.small last;
     }
 
-    pub settling_decided : {r : ℕ} → Settling bytes w₀ c₀ q₀ w c q → 1 < w → (w % 4 ≡ 0 → ⊥) → going_on (w % 4) c ≡ false → BehindAll bytes q 1 r → Settling bytes w₀ c₀ q₀ (w / 4) c r
+    pub settling_decided : {r : ℕ} → Settling bytes w₀ c₀ q₀ w c q → 1 < w → (w % 4 ≡ 0 → ⊥) → goes_on (w % 4) c ≡ false → BehindAll bytes q 1 r → Settling bytes w₀ c₀ q₀ (w / 4) c r
     settling_decided s some other off passed = record {
       further = omega (arith, s.further, passed.ends);
       there = passed.there;
@@ -200,7 +200,7 @@ module _ {bytes : List ℕ} {w₀ c₀ q₀ : ℕ} where
       tells = λ words state p t. told_decided bytes words state (s.tells words state p t) some s.small other off passed;
     }
 
-    pub settled_goes : Settling bytes w₀ c₀ q₀ w c q → 1 < w → (w % 4 ≡ 0 → ⊥) → going_on (w % 4) c ≡ true → Settled bytes w₀ c₀ q₀ (w / 4) 2 q
+    pub settled_goes : Settling bytes w₀ c₀ q₀ w c q → 1 < w → (w % 4 ≡ 0 → ⊥) → goes_on (w % 4) c ≡ true → Settled bytes w₀ c₀ q₀ (w / 4) 2 q
     settled_goes s some other on = record {
       further = s.further;
       told = λ words state p t. untold bytes words state;

@@ -24,8 +24,8 @@ coded [] = 1
 coded (x ∷ l) = coded l * 4 + code_of x
 
 -- behind a first part with code c the second one decides: of 58 where it holds, of 59 where it does not
-unfoldable pub going_on : (o c : ℕ) → Bool
-going_on o c = cond (eqb o 1) (eqb c 1) (eqb c 0)
+unfoldable pub goes_on : (o c : ℕ) → Bool
+goes_on o c = cond (eqb o 1) (eqb c 1) (eqb c 0)
 
 module _ (bytes words state : List ℕ) (p : ℕ) where
   -- what the condition at p comes to by those that wait, where the part behind them has the value c and ends at q

@@ -221,7 +221,6 @@ fn sum_of_terms(
     outline: &[u64; PREPARED_WORDS],
     state: &[u64; STATE_WORDS],
 ) -> i64
-    requires { Begins m.now.now at.old 0x22 }
     ensures { NumberTold m.now.now outline.now state.now at.old result at.new }
 {
     let e = *m;
@@ -231,7 +230,10 @@ fn sum_of_terms(
             return terms(m, at, outline, state);
         }
         if e[p + 1] == 0x28 {
-            return entry_first(m, at, outline, state);
+            if e[p] == 0x22 {
+                return entry_first(m, at, outline, state);
+            }
+            return simple(m, at, outline, state);
         }
     }
     SILENT

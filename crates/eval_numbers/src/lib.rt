@@ -1,5 +1,7 @@
 // The evaluators of numbers and conditions, which contain each other: each call has less depth left.
 
+#![tactic(auto)]
+
 ghost use Rattle.std.specs.Prelude.{◌≡◌, ◌≤◌, length, drop};
 ghost use Rattle.eval_sets.specs.Runs as runs;
 ghost use Rattle.eval_sets.specs.Runs.{environment, run_number, run_condition};

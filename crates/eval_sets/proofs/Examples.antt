@@ -52,7 +52,7 @@ pub data Told : Type 0 where
   bytes : ℕ → Told
 
 unfoldable pub opened : Asked → Told
-unfolding hex ◌bind_values◌ of_values.in_range of_values.floor_by of_values.floor_quotient of_sets.is_member_lem of_sets.union of_sets.intersection of_sets.difference of_full_sets.full_of
+unfolding hex ◌bind_values◌ of_values.in_range of_values.floor_by of_values.floor_quotient of_sets.is_member of_sets.union of_sets.intersection of_sets.difference of_full_sets.full_of
     of_sets.is_subset of_sets.cons_if of_sets.members_from of_sets.members of_readers.after of_readers.continue ◌bind_readers◌ ◌then_readers◌ of_readers.give
     of_readers.require of_readers.byte of_readers.word of_readers.signed of_readers.one of_readers.integer of_meaning.equal_z of_meaning.sum_over
     of_tables.or_zero of_tables.cell_at of_tables.entry_in of_states.value_of the_forms.number_form the_forms.set_form the_forms.condition_form the_forms.shape_of
@@ -60,7 +60,7 @@ unfolding hex ◌bind_values◌ of_values.in_range of_values.floor_by of_values.
     of_answers.condition_of_two of_answers.negated of_runs.element_of of_runs.run_element of_runs.two_elements of_runs.element_then_set of_runs.set_then_element
     of_runs.two_sets of_runs.literal_members of_runs.literal_set of_runs.set_variable_at of_runs.changed of_runs.combined of_runs.complemented of_runs.set_behind
     of_runs.run_set of_runs.literal_value of_runs.literal_number of_runs.number_variable_at of_runs.arithmetic of_runs.entry_of of_runs.entry_number
-    of_runs.size_number of_runs.total_number of_runs.compared of_runs.same_elements of_runs.member_of_lem of_runs.empty_set of_runs.subset_of of_runs.pair_second
+    of_runs.size_number of_runs.total_number of_runs.compared of_runs.same_elements of_runs.member_of of_runs.empty_set of_runs.subset_of of_runs.pair_second
     of_runs.pair_first of_runs.run_pair of_runs.number_before of_runs.chosen of_runs.choice_first of_runs.run_choice of_runs.agree of_runs.decided
     of_runs.connective_first of_runs.run_connective of_runs.number_behind of_runs.condition_behind of_runs.run_number
 opened (number_at d e) = number (run_number d here e)

@@ -15,7 +15,7 @@ use Rattle.model.specs.Readers.{Read, read, two, integer}
 use Rattle.model.specs.Syntax.{Element, object, Set, add, remove, union, intersection, difference, complement, Number, literal, plus, minus, times, quotient, lesser, greater, entry, size, total, choice, Condition, equal, less, at_most, same, member, is_empty, subset, negation, both, either, element_count, set_count, Kind, a_set, an_element, a_number, Variable, Table, table_at}
 use Rattle.model.specs.Expressions.{objects_and_members, object_number, variable, element, set, number, condition}
 use Rattle.model.specs.Meaning as Meaning
-use Rattle.model.specs.Meaning.{State, number_at, natural_at, element_value, set_value_lem, entry_at, sum_over, fit, number_value, condition_value}
+use Rattle.model.specs.Meaning.{State, number_at, natural_at, element_value, set_value, entry_at, sum_over, fit, number_value, condition_value}
 use Rattle.eval_sets.specs.declared.answers.SetValue.{SetValue}
 use Rattle.eval_sets.specs.declared.first_bytes.Operation.{Operation}
 use Rattle.eval_sets.specs.declared.first_bytes.Operation.TheVariants as Op
@@ -80,8 +80,8 @@ module _ (vs : List Variable) (ts : List Table) (ws : List ℕ) where
   -- ---- sets
 
   -- a set's answer: its members, how many objects it may have, the bytes
-  abbrev set_says_lem : Set → ℕ → SetValue
-  set_says_lem x n = set_answer (set_value_lem x here) (set_count x) n
+  abbrev set_says : Set → ℕ → SetValue
+  set_says x n = set_answer (set_value x here) (set_count x) n
 
   module _ (os : List ℕ) (known : (v objects : ℕ) → Declared vs a_set v objects → Known os v objects) where
     literal_set_lem : (objects members n : ℕ) (f : List ℕ) → Members f objects members n → R.literal_set f ≡ set_answer members objects n
@@ -118,10 +118,10 @@ module _ (vs : List Variable) (ts : List Table) (ws : List ℕ) where
 
     -- what is behind the first byte
     Behind : (List ℕ → SetValue) → List ℕ → ℕ → SetForm → Read Set → Type 0
-    Behind rs f b form r = Of (λ x n. set_behind ws os rs form f ≡ set_says_lem x n) r
+    Behind rs f b form r = Of (λ x n. set_behind ws os rs form f ≡ set_says x n) r
 
-    pub set_runs : (d : ℕ) (e : List ℕ) → Of (λ x n. run_set d ws os e ≡ set_says_lem x n) (set vs ts d e)
-    unfolding set run_set set_form Behind set_behind set_value_lem set_count natural_at R.changed R.combined
+    pub set_runs : (d : ℕ) (e : List ℕ) → Of (λ x n. run_set d ws os e ≡ set_says x n) (set vs ts d e)
+    unfolding set run_set set_form Behind set_behind set_value set_count natural_at R.changed R.combined
     set_runs zero e = of_no_depth e
     set_runs (suc d) e = of_forms _ e (λ b f q. rw q (of_map (λ x n h. ap (past_set 1) h)
         (pick (Behind (λ g. run_set d ws os g) f) b f 0x40 _ _ _ _ (of_one objects_and_members _ f (of_objects_and_members f) (λ a n p. literal_set_lem a.0 a.1 n f p))
@@ -137,7 +137,7 @@ module _ (vs : List Variable) (ts : List Table) (ws : List ℕ) where
         (pick (Behind (λ g. run_set d ws os g) f) b f 0x46 _ _ _ _ (of_two_sets (set vs ts d) difference f (set_runs d f) (set_runs d)
         (λ a n y m p q. ap (R.combined Co.Difference) (sets_are ws (λ g. run_set d ws os g) f _ _ n _ _ m p q)))
         (pick (Behind (λ g. run_set d ws os g) f) b f 0x47 _ _ _ _ (of_one (set vs ts d) complement f (of_both (set_runs d f) (set_counted d f))
-        (λ a n p. ap R.complemented p.0 ∙ complement_is (set_count a) (set_value_lem a here) n p.1))
+        (λ a n p. ap R.complemented p.0 ∙ complement_is (set_count a) (set_value a here) n p.1))
         (pick_none (Behind (λ g. run_set d ws os g) f) b f SF.Other (λ t. unsaid))))))))))))
 
 -- ---- numbers and conditions
@@ -155,7 +155,7 @@ module _ (vs : List Variable) (ts : List Table) (p : Environment) (known : Descr
   elements_run : (d : ℕ) (e : List ℕ) → Of (λ x n. run_element p.state e ≡ element_answer (element_value x now) n) (element vs ts d e)
   elements_run d e = element_runs vs ts p.state d e
 
-  sets_run : (d : ℕ) (e : List ℕ) → Of (λ x n. set_at d e ≡ set_answer (set_value_lem x now) (set_count x) n) (set vs ts d e)
+  sets_run : (d : ℕ) (e : List ℕ) → Of (λ x n. set_at d e ≡ set_answer (set_value x now) (set_count x) n) (set vs ts d e)
   sets_run d e = set_runs vs ts p.state p.outline (kinds_known vs p.outline known.sets) d e
 
   literal_number_lem : (z : ℤ) (n : ℕ) (f : List ℕ) → integer f ≡ read z n → Long 4 f n → R.literal_number f ≡ number_answer (R.fits z) n
@@ -216,7 +216,7 @@ module _ (vs : List Variable) (ts : List Table) (p : Environment) (known : Descr
         (λ x n y m h k. test_is (λ g. run_number d p g) (λ g. run_condition d p g) f (R.compared o) _ _ n m h k ∙ ap (λ (v : Value Bool). condition_answer v (n + m)) (sym (is x y)))
 
   mutual
-    unfolding number run_number number_form condition_form NumberBehind ConditionBehind number_behind condition_behind number_value R.arithmetic R.compared fit R.size_number R.same_elements R.member_of_lem R.empty_set R.subset_of condition_answer
+    unfolding number run_number number_form condition_form NumberBehind ConditionBehind number_behind condition_behind number_value R.arithmetic R.compared fit R.size_number R.same_elements R.member_of R.empty_set R.subset_of condition_answer
 
     pub number_runs : (d : ℕ) (e : List ℕ) → Of (λ x n. run_number d p e ≡ number_answer (number_value range_end ts x now) n) (number vs ts d e)
     number_runs zero e = of_no_depth e
@@ -248,7 +248,7 @@ module _ (vs : List Variable) (ts : List Table) (p : Environment) (known : Descr
         (pick (ConditionBehind d f) b f 0x53 _ _ _ _ (of_two (element vs ts d) (element vs ts d) same f (elements_run d f) (elements_run d)
         (λ x n y m h k. ap R.same_elements (elements_are p.state (λ g. set_at d g) f _ n _ m h k)))
         (pick (ConditionBehind d f) b f 0x54 _ _ _ _ (of_element_and_set (element vs ts d) (set vs ts d) member f (elements_run d f) (sets_run d)
-        (λ x n y m h k. ap R.member_of_lem (element_set_is p.state (λ g. set_at d g) f _ n _ _ m h k)))
+        (λ x n y m h k. ap R.member_of (element_set_is p.state (λ g. set_at d g) f _ n _ _ m h k)))
         (pick (ConditionBehind d f) b f 0x55 _ _ _ _ (of_one (set vs ts d) is_empty f (sets_run d f) (λ x n h. ap R.empty_set h))
         (pick (ConditionBehind d f) b f 0x56 _ _ _ _ (of_two_sets (set vs ts d) subset f (sets_run d f) (sets_run d)
         (λ x n y m h k. ap R.subset_of (sets_are p.state (λ g. set_at d g) f _ _ n _ _ m h k)))

@@ -11,7 +11,7 @@ use lib.Seq.{drop-drop}
 use lib.Dec.{ltb}
 use borrow.Author.Tests.{ltb-true, ltb-false}
 use lib.IntN.{ℤ, pos}
-use Rattle.model.specs.Values.{Value, value, trouble, ◌>>=◌ as ◌andthen◌}
+use Rattle.model.specs.Values.{Value, value, trouble, ◌>>=◌ as ◌and_then◌}
 use Rattle.model.specs.Syntax.{Variable, Table}
 use Rattle.model.specs.Meaning.{two, entry_at, sum_over}
 use Rattle.words.specs.Tables.{cell_at, entry_in, columns_of, cells_of, at_of, table_word, Tabled}
@@ -71,27 +71,27 @@ condition_past (trouble t) n m = refl
 module _ (rn : List ℕ → NumberValue) (rc : List ℕ → ConditionValue) (e : List ℕ) where
   pub pair_is : (g : ℤ → ℤ → Value ℤ) (x y : Value ℤ) (n m : ℕ) → rn e ≡ number_answer x n → rn (drop n e) ≡ number_answer y m
       → number_of_two g (run_pair rn e) ≡ number_answer (two x y g) (n + m)
-  unfolding run_pair pair_first pair_second number_of_two number_answer two ◌andthen◌
+  unfolding run_pair pair_first pair_second number_of_two number_answer two ◌and_then◌
   pair_is g (value x) (value y) n m p q = rw (p, q)
   pair_is g (value x) (trouble t) n m p q = rw (p, q)
   pair_is g (trouble t) y n m p q = rw p
 
   pub test_is : (g : ℤ → ℤ → Bool) (x y : Value ℤ) (n m : ℕ) → rn e ≡ number_answer x n → rn (drop n e) ≡ number_answer y m
       → condition_of_two g (run_pair rn e) ≡ condition_answer (two x y (λ a b. value (g a b))) (n + m)
-  unfolding run_pair pair_first pair_second condition_of_two number_answer condition_answer two ◌andthen◌
+  unfolding run_pair pair_first pair_second condition_of_two number_answer condition_answer two ◌and_then◌
   test_is g (value x) (value y) n m p q = rw (p, q)
   test_is g (value x) (trouble t) n m p q = rw (p, q)
   test_is g (trouble t) y n m p q = rw p
 
   pub negation_is : (c : Value Bool) (n : ℕ) → rc e ≡ condition_answer c n → negated (rc e) ≡ condition_answer (c and_then (λ holds. value (not holds))) n
-  unfolding negated condition_answer ◌andthen◌
+  unfolding negated condition_answer ◌and_then◌
   negation_is (value b) n p = rw p
   negation_is (trouble t) n p = rw p
 
   -- "and": a first part that fails decides
   pub both_is : (c d : Value Bool) (n m : ℕ) → rc e ≡ condition_answer c n → rc (drop n e) ≡ condition_answer d m → span (drop n e) 0 1 ≡ m
       → run_connective false rc e ≡ condition_answer (c and_then (λ holds. cond holds d (value false))) (n + m)
-  unfolding run_connective connective_first decided agree condition_answer ◌andthen◌
+  unfolding run_connective connective_first decided agree condition_answer ◌and_then◌
   both_is (value true) d n m p q z = rw (p, q) (condition_past d n m)
   both_is (value false) d n m p q z = rw (p, z)
   both_is (trouble t) d n m p q z = rw p
@@ -99,7 +99,7 @@ module _ (rn : List ℕ → NumberValue) (rc : List ℕ → ConditionValue) (e :
   -- "or": a first part that holds decides
   pub either_is : (c d : Value Bool) (n m : ℕ) → rc e ≡ condition_answer c n → rc (drop n e) ≡ condition_answer d m → span (drop n e) 0 1 ≡ m
       → run_connective true rc e ≡ condition_answer (c and_then (λ holds. cond holds (value true) d)) (n + m)
-  unfolding run_connective connective_first decided agree condition_answer ◌andthen◌
+  unfolding run_connective connective_first decided agree condition_answer ◌and_then◌
   either_is (value true) d n m p q z = rw (p, z)
   either_is (value false) d n m p q z = rw (p, q) (condition_past d n m)
   either_is (trouble t) d n m p q z = rw p
@@ -113,7 +113,7 @@ module _ (rn : List ℕ → NumberValue) (rc : List ℕ → ConditionValue) (e :
       → rn (drop n e) ≡ number_answer x m → span (drop n e) 0 1 ≡ m
       → rn (drop m (drop n e)) ≡ number_answer y l → span (drop m (drop n e)) 0 1 ≡ l
       → run_choice rn rc e ≡ number_answer (c and_then (λ holds. cond holds x y)) (n + (m + l))
-  unfolding run_choice choice_first chosen number_answer condition_answer ◌andthen◌
+  unfolding run_choice choice_first chosen number_answer condition_answer ◌and_then◌
   choice_is (value true) x y n m l p q z r w = rw (p, q) (before_is x n m l w)
   choice_is (value false) x y n m l p q z r w = rw (p, z, ← (drop-drop m n e), r) (number_past y (n + m) l ∙ ap (number_answer y) (add_assoc n m l))
   choice_is (trouble t) x y n m l p q z r w = rw p

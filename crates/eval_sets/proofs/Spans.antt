@@ -3,7 +3,7 @@ use Prim.Native.Nat.{ℕ, zero, suc, ◌+◌, ◌≤◌}
 use mathlib.Core.Path.{◌≡◌, refl, sym, ap, ◌∙◌}
 use mathlib.Core.List.{List, [], ◌∷◌}
 use native.Mathlib.Nat.{zero-add}
-use native.Mathlib.Numerals.{one_add}
+use native.Mathlib.Numerals.{one-add}
 use native.Mathlib.Omega.{arith}
 use lib.ListN.{length, drop}
 use lib.Seq.{drop-drop}
@@ -44,7 +44,7 @@ headed : {e : List ℕ} (b n : ℕ) (f : List ℕ) → e ≡ b ∷ f → Behind 
 unfolding span
 headed b n f q h c =
     let t : span (b ∷ f) 0 (suc c) ≡ suc (n + span (drop n f) 0 c) = ap suc (h c) in
-    rw (q, one_add c, one_add n) (t ∙ omega arith)
+    rw (q, one-add c, one-add n) (t ∙ omega arith)
 
 ends_two : (j k : ℕ) (e : List ℕ) (n m : ℕ) → Ends j e n → Ends k (drop n e) m → Ends (j + k) e (n + m)
 ends_two j k e n m h g c =

@@ -11,7 +11,7 @@ use lib.Signed.{mag}
 use borrow.Author.Tests.{ltb-true, ltb-false}
 use Rattle.laws.proofs.Bools.{by_cond}
 use Rattle.model.specs.Numbers.{range_end}
-use Rattle.model.specs.Values.{Value, value, trouble, in_range, floor_quotient, ◌>>=◌ as ◌andthen◌}
+use Rattle.model.specs.Values.{Value, value, trouble, in_range, floor_quotient, ◌>>=◌ as ◌and_then◌}
 use Rattle.model.specs.Readers.{Read, read, refused, word, integer}
 use Rattle.eval_sets.specs.declared.answers.NumberValue.{NumberValue}
 use Rattle.eval_sets.specs.declared.answers.NumberValue.TheVariants as N
@@ -130,7 +130,7 @@ fits_within z n L h = go (ltb (mag z) range_end) refl
     go false q = tt
 
 quotient_within : (v : Value ℤ) (n L : ℕ) → n ≤ L → NumberWithin L (number_answer (v and_then (λ z. R.fits z)) n)
-unfolding number_answer ◌andthen◌
+unfolding number_answer ◌and_then◌
 quotient_within (value z) n L h = fits_within z n L h
 quotient_within (trouble t) n L h = tt
 
@@ -248,7 +248,7 @@ module _ (rn : List ℕ → NumberValue) (rc : List ℕ → ConditionValue)
     number_behind_within NF.Other e = tt
 
     pub condition_behind_within : (form : ConditionForm) (e : List ℕ) → ConditionWithin (length e) (condition_behind p rs rn rc form e)
-    unfolding condition_behind R.same_elements R.member_of_lem R.empty_set R.subset_of
+    unfolding condition_behind R.same_elements R.member_of R.empty_set R.subset_of
     condition_behind_within (CF.Comparison r) e = test_within (R.compared r) (length e) (run_pair rn e) (pair_within e)
     condition_behind_within CF.Same e = elements_within p.state e
     condition_behind_within CF.Member e = element_set_within p.state rs hs e
@@ -375,7 +375,7 @@ module _ (d : ℕ) (p : Environment) where
   literal_room e h = number_room 1 (length e) (R.literal_number e) (number_at_within NF.Literal e) h
 
   pub member_room : (e : List ℕ) → 1 + length e < 2 ^ 64
-      → ConditionRoom 1 (R.member_of_lem (R.element_then_set p.state (λ f. run_set d p.state p.outline f) e))
+      → ConditionRoom 1 (R.member_of (R.element_then_set p.state (λ f. run_set d p.state p.outline f) e))
   unfolding R.condition_at condition_behind
   member_room e h =
-      condition_room 1 (length e) (R.member_of_lem (R.element_then_set p.state (λ f. run_set d p.state p.outline f) e)) (condition_at_within CF.Member e) h
+      condition_room 1 (length e) (R.member_of (R.element_then_set p.state (λ f. run_set d p.state p.outline f) e)) (condition_at_within CF.Member e) h

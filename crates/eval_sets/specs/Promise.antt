@@ -6,7 +6,7 @@ use Rattle.model.specs.Numbers.{range_end, most_objects}
 use Rattle.model.specs.Readers.{read}
 use Rattle.model.specs.Syntax.{Element, Set, Number, Condition, a_set, Variable, Table, table_at, set_count}
 use Rattle.model.specs.Expressions as reading
-use Rattle.model.specs.Meaning.{element_value, set_value_lem, number_value, condition_value}
+use Rattle.model.specs.Meaning.{element_value, set_value, number_value, condition_value}
 use Rattle.words.specs.Tables.{Tabled}
 use Rattle.outline.specs.Outline.{kinds_from}
 use Rattle.eval_sets.specs.declared.answers.NumberValue.{NumberValue}
@@ -34,7 +34,7 @@ ElementPromise ws e r = (vs : List Variable) (ts : List Table) (d : ℕ) (x : El
 
 abbrev pub SetPromise : (d : ℕ) (state outline e : List ℕ) → SetValue → Type 0
 SetPromise d ws os e r = (vs : List Variable) (ts : List Table) (x : Set) (n : ℕ) → SetKinds vs os
-    → reading.set vs ts d e ≡ read x n → r ≡ set_answer (set_value_lem x (state_of vs ws)) (set_count x) n
+    → reading.set vs ts d e ≡ read x n → r ≡ set_answer (set_value x (state_of vs ws)) (set_count x) n
 
 abbrev pub NumberPromise : (d : ℕ) (p : Environment) (e : List ℕ) → NumberValue → Type 0
 NumberPromise d p e r = (vs : List Variable) (ts : List Table) (x : Number) (n : ℕ) → Describes vs ts p

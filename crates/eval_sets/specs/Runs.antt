@@ -194,8 +194,8 @@ compared Re.AtMost a b = le_z a b
 unfoldable pub same_elements : Parts → ConditionValue
 same_elements p = C.Holds (eqb p.first p.second) p.used
 
-unfoldable pub member_of_lem : Parts → ConditionValue
-member_of_lem p = C.Holds (Sets.is_member_lem p.first p.second) p.used
+unfoldable pub member_of : Parts → ConditionValue
+member_of p = C.Holds (Sets.is_member p.first p.second) p.used
 
 unfoldable pub empty_set : SetValue → ConditionValue
 empty_set v = C.Holds (eqb v.members 0) v.used
@@ -269,7 +269,7 @@ module _ (p : Environment) (rs : List ℕ → SetValue) (rn : List ℕ → Numbe
   unfoldable pub condition_behind : ConditionForm → List ℕ → ConditionValue
   condition_behind (CF.Comparison r) e = condition_of_two (compared r) (run_pair rn e)
   condition_behind CF.Same e = same_elements (two_elements p.state e)
-  condition_behind CF.Member e = member_of_lem (element_then_set p.state rs e)
+  condition_behind CF.Member e = member_of (element_then_set p.state rs e)
   condition_behind CF.Empty e = empty_set (rs e)
   condition_behind CF.Subset e = subset_of (two_sets rs e)
   condition_behind CF.Negation e = negated (rc e)

@@ -12,35 +12,35 @@ pub const DIVISOR_ZERO: u8 = 12;
 pub const NOTHING: u8 = 0;
 
 // A number.
-#[derive(Drop)]
+#[derive(Clone, Copy)]
 pub enum NumberValue {
     Value(i64, usize),
     Trouble(u8),
 }
 
 // Two numbers, one behind the other.
-#[derive(Drop)]
+#[derive(Clone, Copy)]
 pub enum PairValue {
     Values(i64, i64, usize),
     Trouble(u8),
 }
 
 // A condition.
-#[derive(Drop)]
+#[derive(Clone, Copy)]
 pub enum ConditionValue {
     Holds(bool, usize),
     Trouble(u8),
 }
 
 // An element, below 64.
-#[derive(Drop)]
+#[derive(Clone, Copy)]
 pub struct ElementValue {
     pub object: u64,
     pub used: usize,
 }
 
 // A set: its members, how many objects it may have, and the bytes.
-#[derive(Drop)]
+#[derive(Clone, Copy)]
 pub struct SetValue {
     pub members: u64,
     pub objects: u64,
@@ -48,7 +48,7 @@ pub struct SetValue {
 }
 
 // Two parts that are elements or sets, with the object count of the first set among them.
-#[derive(Drop)]
+#[derive(Clone, Copy)]
 pub struct Parts {
     pub first: u64,
     pub second: u64,

@@ -23,7 +23,7 @@ pub fn name(e: &[u8]) -> usize
 }
 
 // The bytes of operands behind a first byte, and the expressions behind those.
-#[derive(Drop)]
+#[derive(Clone, Copy)]
 pub struct Shape {
     pub operands: usize,
     pub parts: usize,

@@ -4,7 +4,7 @@ ghost use Rattle.std.specs.Prelude.{◌≡◌};
 ghost use Rattle.eval_sets.specs.Forms as forms;
 
 // 22 to 27
-#[derive(Drop)]
+#[derive(Clone, Copy)]
 pub enum Operation {
     Sum,
     Difference,
@@ -15,7 +15,7 @@ pub enum Operation {
 }
 
 // 20 to 2B
-#[derive(Drop)]
+#[derive(Clone, Copy)]
 pub enum NumberForm {
     Literal,
     Variable,
@@ -28,14 +28,14 @@ pub enum NumberForm {
 }
 
 // 42 and 43
-#[derive(Drop)]
+#[derive(Clone, Copy)]
 pub enum Change {
     Add,
     Remove,
 }
 
 // 44 to 46
-#[derive(Drop)]
+#[derive(Clone, Copy)]
 pub enum Combination {
     Union,
     Intersection,
@@ -43,7 +43,7 @@ pub enum Combination {
 }
 
 // 40 to 47
-#[derive(Drop)]
+#[derive(Clone, Copy)]
 pub enum SetForm {
     Literal,
     Variable,
@@ -54,7 +54,7 @@ pub enum SetForm {
 }
 
 // 50 to 52
-#[derive(Drop)]
+#[derive(Clone, Copy)]
 pub enum Relation {
     Equal,
     Less,
@@ -62,7 +62,7 @@ pub enum Relation {
 }
 
 // 50 to 59; a connective says which truth of its first part decides
-#[derive(Drop)]
+#[derive(Clone, Copy)]
 pub enum ConditionForm {
     Comparison(Relation),
     Same,

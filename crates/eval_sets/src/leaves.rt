@@ -4,7 +4,7 @@ ghost use Rattle.std.specs.Prelude.{◌≡◌, cond, ◌<◌, drop};
 ghost use Rattle.std.specs.Int.Signed.{mag, le_z};
 ghost use Rattle.model.specs.Numbers.{range_end};
 ghost use Rattle.model.specs.Values.{floor_quotient};
-ghost use Rattle.model.specs.Values.{◌>>=◌ as ◌andthen◌};
+ghost use Rattle.model.specs.Values.{◌>>=◌ as ◌and_then◌};
 ghost use Rattle.eval_sets.specs.Answers.{number_answer, number_of_two, condition_of_two, negated};
 ghost use Rattle.eval_sets.specs.Bounds.{PairInRange};
 ghost use Rattle.eval_sets.specs.Runs as runs;

@@ -1,5 +1,7 @@
 // Conditions tested no further than their truth needs: the parts of a conjunction behind one that does not hold are not visited.
 
+#![tactic(auto)]
+
 ghost use Rattle.std.specs.Prelude.{◌≡◌, false, drop};
 ghost use Rattle.eval_sets.specs.Answers.{past_condition};
 ghost use Rattle.eval_sets.specs.Bounds.{ConditionRoom};

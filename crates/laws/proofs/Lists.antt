@@ -22,10 +22,12 @@ module _ {A : Type 0} where
   some_none s = elim s [ ]
 
   pub some_all : {P Q : A → Type 0} {X : Type 0} (l : List A) → All P l → Some Q l → ((x : A) → P x → Q x → X) → X
+  some_all {P = P} {Q = Q} {X = X} [] a x3 f = elim x3 [ ]
   some_all (x ∷ xs) a (here q) f = f x a.0 q
   some_all (x ∷ xs) a (there s) f = some_all xs a.1 s f
 
   pub some_map : {P Q R : A → Type 0} (l : List A) → All P l → Some Q l → ((x : A) → P x → Q x → R x) → Some R l
+  some_map {P = P} {Q = Q} {R = R} [] a x3 f = elim x3 [ ]
   some_map (x ∷ xs) a (here q) f = here (f x a.0 q)
   some_map (x ∷ xs) a (there s) f = there (some_map xs a.1 s f)
 
@@ -71,6 +73,7 @@ module _ {A : Type 0} where
   -- a member with P is selected, or fails the test
   pub some_filter : {P : A → Type 0} (p : A → Bool) (l : List A) → Some P l → Some P (filter p l) ⊎ Some (λ x. P x × (p x ≡ false)) l
   unfolding filter
+  some_filter {P = P} p [] x' = elim x' [ ]
   some_filter {P} p (x ∷ xs) (here h) = by_cond (λ l. Some P l ⊎ Some (λ y. P y × (p y ≡ false)) (x ∷ xs)) (p x) (λ e. inl (here h)) (λ e. inr (here (h, e)))
   some_filter {P} p (x ∷ xs) (there h) = by_cond (λ l. Some P l ⊎ Some (λ y. P y × (p y ≡ false)) (x ∷ xs)) (p x) (λ e. selected (some_filter p xs h)) (λ e. passed_over (some_filter p xs h))
     where

@@ -1,6 +1,8 @@
 // What several crates share: a byte of a string by its place, a byte as a wider number, words copied. The laws of lists and truth
 // values are in specs/ and proofs/.
 
+#![tactic(auto)]
+
 ghost use Rattle.std.specs.Prelude.{◌≡◌, ◌<◌, length, get_or};
 
 // The byte at a place, or 0 where there is none.

@@ -1,57 +1,53 @@
 // The line that is written for an answer: its fields, a colon and the plan; or "refused" and the number.
 
-use io::{print_decimal, write_all};
-use libc::STDOUT_FILENO;
+#![tactic(auto)]
+
 use search_report::answers::{Answer, Outcome};
 use search_report::figures::numbers;
 use solver::buffers::plan_part;
+use std::io;
 
 // Writes the numbers, with one space before each but the first.
-pub fn write_numbers(numbers: &[u64]) {
-    let mut i: usize = 0;
-    while i < numbers.len() {
+pub fn write_numbers(rt: &impl Print, numbers: &[u64]) -> io::Result<()> {
+    for (i, number) in numbers.iter().enumerate() {
         if 0 < i {
-            write_all(STDOUT_FILENO, b" ");
+            print!(rt; " ")?;
         }
-        print_decimal(STDOUT_FILENO, numbers[i]);
-        i += 1;
+        print!(rt; "{number}")?;
     }
+    Ok(())
 }
 
 // Writes the steps, with one space before each.
-fn write_steps(steps: &[u8]) {
-    let mut i: usize = 0;
-    while i < steps.len() {
-        write_all(STDOUT_FILENO, b" ");
-        print_decimal(STDOUT_FILENO, laws::wide(steps[i]));
-        i += 1;
+fn write_steps(rt: &impl Print, steps: &[u8]) -> io::Result<()> {
+    for step in steps {
+        print!(rt; " {step}")?;
     }
+    Ok(())
 }
 
 // Writes all fields and the steps.
-pub fn write_fields(answer: Answer, plan: &mut [u8]) {
+pub fn write_fields(rt: &impl Print, answer: Answer, plan: &mut [u8]) -> io::Result<()> {
     let line = numbers(answer);
-    write_numbers(&line);
-    write_all(STDOUT_FILENO, b" :");
+    write_numbers(rt, &line)?;
+    print!(rt; " :")?;
     let n = answer.length;
     let steps = plan_part(plan, n);
-    write_steps(steps);
-    write_all(STDOUT_FILENO, b"\n");
+    write_steps(rt, steps)?;
+    println!(rt)
 }
 
 // Writes the line of a refusal.
-pub fn write_refused(number: u8) {
-    write_all(STDOUT_FILENO, b"refused ");
-    print_decimal(STDOUT_FILENO, laws::wide(number));
-    write_all(STDOUT_FILENO, b"\n");
+pub fn write_refused(rt: &impl Print, number: u8) -> io::Result<()> {
+    println!(rt; "refused {number}")
 }
 
 // Writes the line of an answer whose steps are at the front of the plan buffer.
-pub fn write_answer(answer: Answer, plan: &mut [u8]) {
+pub fn write_answer(rt: &impl Print, answer: Answer, plan: &mut [u8]) -> io::Result<()> {
     let outcome = answer.outcome;
     match outcome {
-        Outcome::Verdict(_) => write_fields(answer, plan),
-        Outcome::ByState(t) => write_refused(t),
-        Outcome::ByInput(t) => write_refused(t),
+        Outcome::Verdict(_) => write_fields(rt, answer, plan),
+        Outcome::ByState(t) => write_refused(rt, t),
+        Outcome::ByInput(t) => write_refused(rt, t),
     }
 }

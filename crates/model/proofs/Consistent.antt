@@ -51,6 +51,7 @@ module _ {S C : Type 0} (K : Costs C) (M : System S C) where
 
   at_member : {s : S} (l : List S) → consistent_all l ≡ true → Member s l → consistent_at (M.bound s) (M.status s) s ≡ true
   unfolding consistent_all
+  at_member {s = s} [] e x'' = elim x'' [ ]
   at_member (v ∷ l) e (here q) = subst (λ x. consistent_at (M.bound x) (M.status x) x ≡ true) q (and_both _ (consistent_all l) e).0
   at_member (v ∷ l) e (there m) = at_member l (and_both (consistent_at (M.bound v) (M.status v) v) _ e).1 m
 
@@ -94,10 +95,10 @@ module _ {S C : Type 0} (K : Costs C) (M : System S C) where
       below_plan : {k : ℕ} {s : S} {h r : C} {p : List ℕ} → InLayer M start k s → M.bound s ≡ value h → Plan K M s p r → K.at_most h r ≡ true
       unfolding consistent_at below_move
       below_plan i b (finish x) = rw (b, x) at (at_state i)
-      below_plan {s = s} {h = h} i b (step {u = u} {t = t} {c = c} x plan) =
+      below_plan {k = k} {s = s} {h = h} i b (step {u = u} {t = t} {c = c} x plan) =
           let all : below_moves M.transitions 0 s h ≡ true = rw (b, x.open_state) at (at_state i) in
           let one : below_bound h c (M.bound u) ≡ true = rw x.allowed at (below_transition h M.transitions 0 t s all (omega arith) (omega (arith, x.declared))) in
-          below_behind (M.bound u) one (λ y e. below_plan (next i x) e plan)
+          below_behind (M.bound u) one (λ y e. below_plan {k = suc k} (next i x) e plan)
 
       -- bounds that pass the test are true
       pub consistent_bounds_true : TrueBounds K M start

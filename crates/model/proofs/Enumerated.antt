@@ -20,6 +20,7 @@ module _ {A : Type 0} where
   Member x l = Some (λ y. y ≡ x) l
 
   some_left : {P : A → Type 0} (a b : List A) → Some P a → Some P (a ++ b)
+  some_left {P = P} [] b x' = elim x' [ ]
   some_left (x ∷ a) b (here p) = here p
   some_left (x ∷ a) b (there s) = there (some_left a b s)
 
@@ -106,6 +107,7 @@ module _ {S C : Type 0} (M : System S C) where
 
     by_some : {s u : S} (l : List S) → Member s l → Member u (reached_from (M.status s) s) → Member u (reached_from_all l)
     unfolding reached_from_all
+    by_some {s = s} {u = u} [] x'' m = elim x'' [ ]
     by_some {s} {u} (v ∷ l) (here e) m = some_left (reached_from (M.status v) v) (reached_from_all l) (rw e m)
     by_some (v ∷ l) (there n) m = some_right (reached_from (M.status v) v) (by_some l n m)
 

@@ -4,7 +4,7 @@ use Prim.Native.Nat.{ℕ, zero, suc}
 use mathlib.Core.List.{List, [], ◌∷◌, ◌++◌}
 use lib.IntN.{pos, negsuc}
 use Rattle.laws.specs.Hex.{hex}
-use Rattle.model.specs.Numbers.{ends_early, not_due, mismatch, off_limits, too_deep, bytes_after_end, out_of_range, divisor_zero, negative_cost, not_aplan}
+use Rattle.model.specs.Numbers.{ends_early, not_due, mismatch, off_limits, too_deep, bytes_after_end, out_of_range, divisor_zero, negative_cost, not_a_plan}
 use Rattle.model.specs.Values.{value, trouble}
 use Rattle.model.specs.Costs.{free, fixed}
 use Rattle.model.proofs.Opened.{Asked, number_of, check_of, Told, valued, checked, opened, all_opened}
@@ -117,12 +117,12 @@ told =
     ∷ checked (trouble out_of_range)
     ∷ checked (trouble negative_cost)
     ∷ checked (value (fixed 5))
-    ∷ checked (trouble not_aplan)
-    ∷ checked (trouble not_aplan)
-    ∷ checked (trouble not_aplan)
-    ∷ checked (trouble not_aplan)
-    ∷ checked (trouble not_aplan)
-    ∷ checked (trouble not_aplan)
+    ∷ checked (trouble not_a_plan)
+    ∷ checked (trouble not_a_plan)
+    ∷ checked (trouble not_a_plan)
+    ∷ checked (trouble not_a_plan)
+    ∷ checked (trouble not_a_plan)
+    ∷ checked (trouble not_a_plan)
     ∷ checked (value (fixed 5))
     ∷ checked (trouble divisor_zero)
     ∷ checked (value (fixed 5))

@@ -20,7 +20,7 @@ use Rattle.model.specs.Syntax.{Number, literal, number_variable, plus, minus, ti
 use Rattle.model.specs.declared.Cost.{Cost}
 use Rattle.model.specs.Costs.{fixed, CostUpTo, CostBelow}
 use Rattle.model.specs.Meaning.{State, two, fit, number_value, condition_value, expression_value, all_hold, some_holds}
-use Rattle.model.specs.Steps.{status_of, cost_of, not_below, raise, Attempt, not_taken_lem, taken, admits, status, effects, with_high, step_cost, attempt, constrained, move_of, move_by, move, greatest, bound_hours, bound}
+use Rattle.model.specs.Steps.{status_of, cost_of, not_below, raise, Attempt, not_taken, taken, admits, status, effects, with_high, step_cost, attempt, constrained, move_of, move_by, move, greatest, bound_hours, bound}
 
 -- ---- a value with P, or a trouble whose number has Q
 
@@ -160,7 +160,7 @@ pub data MoveOutcome (end n : ℕ) : Move State Cost → Type 0 where
   trouble_after_lem : {c : Cost} {t : ℕ} → Priced end c → StateTrouble t → MoveOutcome end n (trouble_after c t)
 
 data AttemptOutcome (end n : ℕ) : Attempt → Type 0 where
-  not_taken_lem : AttemptOutcome end n not_taken_lem
+  not_taken_lem : AttemptOutcome end n not_taken
   is_taken : {c : Cost} {new : State} → Priced end c → length new ≡ n → AttemptOutcome end n (taken c new)
 
 status_of_outcome : {x : Value Bool} → Outcome Anything StateTrouble x → StatusOutcome (status_of x)

@@ -10,7 +10,7 @@ use native.Mathlib.Omega.{arith}
 use lib.ListN.{length}
 use lib.Dec.{ltb}
 use borrow.Author.Tests.{ltb-true, ltb-false, lt-ltb, le-ltb}
-use Rattle.model.specs.Numbers.{model_too_long, bad_setting, not_aplan, most_model_bytes, most_steps, range_end}
+use Rattle.model.specs.Numbers.{model_too_long, bad_setting, not_a_plan, most_model_bytes, most_steps, range_end}
 use Rattle.model.specs.Values.{Value, value, trouble}
 use Rattle.model.specs.System.{Costs, CostLaws, System, Status, base, unfinished, no_status, Move, blocked, moved, trouble_before, trouble_after}
 use Rattle.model.specs.Plans.{Step, Plan, finish, step, PlanFrom}
@@ -125,7 +125,7 @@ check_exact bytes plan c = (check_sound bytes plan c, check_complete bytes plan 
 -- the target's constraints decide before anything else about states
 module _ (bytes plan : List ℕ) (m : Model) (n : ℕ) (reads : model bytes ≡ read m n) (model_fits : length bytes ≤ most_model_bytes) (plan_fits : length plan ≤ most_steps) where
   -- "If one fails, … the plan check gives 14", for every plan
-  pub check_of_broken_target : (system_of range_end m).admits (target m) ≡ value false → check bytes plan ≡ trouble not_aplan
+  pub check_of_broken_target : (system_of range_end m).admits (target m) ≡ value false → check bytes plan ≡ trouble not_a_plan
   unfolding check check_model follow_from after_constraints
   check_of_broken_target e = rw (le-ltb most_model_bytes (length bytes) model_fits, le-ltb most_steps (length plan) plan_fits, reads, e)
 

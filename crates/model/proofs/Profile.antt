@@ -17,15 +17,15 @@ use Rattle.laws.proofs.Bools.{by_cond, and_both, not_true, not_false}
 use Rattle.laws.proofs.Lists.{Some, here, there, any_some, any_none}
 use Rattle.model.specs.Numbers.{most_objects}
 use Rattle.model.specs.Values.{Value, value, ◌>>=◌}
-use Rattle.model.specs.Sets.{is_member_lem, difference}
+use Rattle.model.specs.Sets.{is_member, difference}
 use Rattle.model.specs.System.{unfinished}
 use Rattle.model.specs.Plans.{InLayer, first, next, OpenAt}
-use Rattle.model.specs.Syntax.{Element, object, element_variable, Set, some_of_lem, set_variable, add, remove, union, intersection, difference as without, complement, Condition, equal, less, at_most, same, member, is_empty, subset, negation, both, either, Expression, of_set, of_element, of_number, Kind, a_set, an_element, a_number, Variable, Table, Effect, Transition, Model}
+use Rattle.model.specs.Syntax.{Element, object, element_variable, Set, some_of, set_variable, add, remove, union, intersection, difference as without, complement, Condition, equal, less, at_most, same, member, is_empty, subset, negation, both, either, Expression, of_set, of_element, of_number, Kind, a_set, an_element, a_number, Variable, Table, Effect, Transition, Model}
 use Rattle.model.specs.Readers.{read}
 use Rattle.model.specs.Expressions.{kind_number}
 use Rattle.model.specs.Commands.{model}
 use Rattle.model.specs.declared.Cost.{Cost}
-use Rattle.model.specs.Meaning.{State, number_at, natural_at, element_value, set_value_lem, condition_value, expression_value, all_hold, some_holds}
+use Rattle.model.specs.Meaning.{State, number_at, natural_at, element_value, set_value, condition_value, expression_value, all_hold, some_holds}
 use Rattle.model.specs.Steps.{target, status_of, status, effects, system_of}
 use Rattle.model.specs.Profile.{of_only, is_variable_zero, object_beside, required_object, removed_by, removed_object, same_object, loads, begins_with_set, asks_for_empty, ends_empty, in_profile, loading_length}
 use Rattle.model.proofs.Taken.{bind_value, all_found, Takes, step_takes}
@@ -40,7 +40,7 @@ no_object e = let z : ◌≡◌ {A = ℕ} 0 1 = cc in absurd (omega arith)
 
 pub variable_zero_is : (x : Set) → is_variable_zero x ≡ true → (n : ℕ) × (x ≡ set_variable n 0)
 unfolding is_variable_zero
-variable_zero_is (some_of_lem n w) e = absurd (false≢true e)
+variable_zero_is (some_of n w) e = absurd (false≢true e)
 variable_zero_is (set_variable n v) e = (n, ap (set_variable n) (eqb-true v 0 e))
 variable_zero_is (add i x) e = absurd (false≢true e)
 variable_zero_is (remove i x) e = absurd (false≢true e)
@@ -73,7 +73,7 @@ required_is (either c d) e = no_object e
 -- 43 30 k 41 00
 pub removed_is : (x : Expression) {k : ℕ} → removed_by x ≡ some k → (n : ℕ) × (x ≡ of_set (remove (object k) (set_variable n 0)))
 unfolding removed_by
-removed_is (of_set (some_of_lem n w)) e = no_object e
+removed_is (of_set (some_of n w)) e = no_object e
 removed_is (of_set (set_variable n v)) e = no_object e
 removed_is (of_set (add i x)) e = no_object e
 removed_is (of_set (remove i x)) e = let (n, at, of) = object_beside_is i x e in (n, cc)
@@ -131,19 +131,20 @@ module _ (end : ℕ) (tables : List Table) (s : State) where
 
   -- where all hold, so does a certain one
   one_holds : (P : Condition → Type 0) (cs : List Condition) → Some P cs → all_hold end tables cs s ≡ value true → (c : Condition) × P c × (condition_value end tables c s ≡ value true)
+  one_holds P [] x'' e = elim x'' [ ]
   one_holds P (c ∷ cs) (here p) e = (c, p, (both_hold c cs e).0)
   one_holds P (c ∷ cs) (there i) e = one_holds P cs i (both_hold c cs e).1
 
-  required_member : (c : Condition) {k : ℕ} → required_object c ≡ some k → condition_value end tables c s ≡ value true → is_member_lem k (natural_at s 0) ≡ true
-  unfolding condition_value element_value set_value_lem
+  required_member : (c : Condition) {k : ℕ} → required_object c ≡ some k → condition_value end tables c s ≡ value true → is_member k (natural_at s 0) ≡ true
+  unfolding condition_value element_value set_value
   required_member c e h = let (n, is) = required_is c e in let held = rw is at h in cc
 
   removed_value : (x : Expression) {k : ℕ} → removed_by x ≡ some k → expression_value end tables x s ≡ value (pos (difference (natural_at s 0) (2 ^ k)))
-  unfolding expression_value element_value set_value_lem
+  unfolding expression_value element_value set_value
   removed_value x e = let (n, is) = removed_is x e in rw is
 
   empty_holds : (bs : List (List Condition)) → ends_empty bs ≡ true → natural_at s 0 ≡ 0 → some_holds end tables bs s ≡ value true
-  unfolding some_holds all_hold ◌>>=◌ condition_value set_value_lem
+  unfolding some_holds all_hold ◌>>=◌ condition_value set_value
   empty_holds bs e none_left = let (n, is) = ends_empty_is bs e in rw (is, none_left)
 
 -- ---- the model

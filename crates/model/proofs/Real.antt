@@ -10,7 +10,7 @@ use native.Mathlib.Decide.{dec_lt}
 use native.Mathlib.Omega.{arith}
 use Rattle.laws.proofs.Bools.{not_both}
 use Rattle.model.specs.Numbers.{range_end}
-use Rattle.model.specs.Values.{Value, value, trouble, ◌>>=◌}
+use Rattle.model.specs.Values.{value}
 use Rattle.model.specs.System.{moved}
 use Rattle.model.specs.Plans.{Plan, finish, step, Leads, arrived, further, TrueDeclarations}
 use Rattle.model.specs.Syntax.{Rule, sum, largest, Model}

@@ -10,7 +10,7 @@ use lib.Bits.{bit_and, and_high}
 use lib.Count.{ones, ones_step, ones_cat, ones-le}
 use lib.Pow.{pow_pos}
 use borrow.Author.Tests.{eqb-true}
-use Rattle.model.specs.Sets.{is_member_lem, difference, cons_if, members_from, members}
+use Rattle.model.specs.Sets.{is_member, difference, cons_if, members_from, members}
 
 abbrev pub size : (s : ℕ) → ℕ
 size s = length (members s)
@@ -64,8 +64,8 @@ only_member k s e =
     let power : 2 ^ (1 + k) - 2 ^ k ≡ 2 ^ k = rw shifted (omega (arith, pow-suc 2 k)) in
     (rw power at (and_high s 1 k)) ∙ rw e (omega arith)
 
-pub size_removed : (k s : ℕ) → is_member_lem k s ≡ true → suc (size (difference s (2 ^ k))) ≡ size s
-unfolding is_member_lem difference
+pub size_removed : (k s : ℕ) → is_member k s ≡ true → suc (size (difference s (2 ^ k))) ≡ size s
+unfolding is_member difference
 size_removed k s e =
     let digit : s / 2 ^ k % 2 ≡ 1 = eqb-true (s / 2 ^ k % 2) 1 e in
     let before : ℕ = s / 2 ^ k - 1 in

@@ -13,7 +13,7 @@ use Rattle.model.specs.Syntax.{Number, StepCosts, Transition, Model}
 use Rattle.model.specs.declared.Cost.{Cost}
 use Rattle.model.specs.Costs.{fixed}
 use Rattle.model.specs.Meaning.{State, number_value, all_hold}
-use Rattle.model.specs.Steps.{Attempt, not_taken_lem, taken, cost_of, admits, effects, with_high, step_cost, attempt, constrained, move_of, move_by, move, system_of}
+use Rattle.model.specs.Steps.{Attempt, not_taken, taken, cost_of, admits, effects, with_high, step_cost, attempt, constrained, move_of, move_by, move, system_of}
 use Rattle.model.specs.Real.{NoRanges}
 
 -- one evaluation behind another that has a value: the first has one too
@@ -37,7 +37,7 @@ module _ (end : ℕ) (m : Model) where
 
   -- behind the conditions
   priced_takes : (t : Transition) (s u : State) (c : Cost) (b : Bool) → all_hold end m.tables t.conditions s ≡ value b
-      → cond b (step_cost end m t.costs s >>= λ d. effects end m t.effects s s >>= λ new. value (taken d new)) (value not_taken_lem) ≡ value (taken c u) → Takes t s c u
+      → cond b (step_cost end m t.costs s >>= λ d. effects end m t.effects s s >>= λ new. value (taken d new)) (value not_taken) ≡ value (taken c u) → Takes t s c u
   priced_takes t s u c true h e =
       let (d, cost, of-effects) = bind_value (step_cost end m t.costs s) _ e in
       let (new, made, same) = bind_value (effects end m t.effects s s) _ of-effects in
@@ -56,7 +56,7 @@ module _ (end : ℕ) (m : Model) where
 
   move_takes : (t : Transition) (s u : State) (c : Cost) (x : Value Attempt) → attempt end m t s ≡ x → move_of end m x ≡ moved c u → Takes t s c u
   unfolding move_of
-  move_takes t s u c (value not_taken_lem) a e = let z : ◌≡◌ {A = ℕ} 0 1 = cc in absurd (omega arith)
+  move_takes t s u c (value not_taken) a e = let z : ◌≡◌ {A = ℕ} 0 1 = cc in absurd (omega arith)
   move_takes t s u c (value (taken d new)) a e = attempt_takes t s u c (rw (constrained_same d c new u (admits end m new) e) at a)
   move_takes t s u c (trouble n) a e = let z : ◌≡◌ {A = ℕ} 0 1 = cc in absurd (omega arith)
 

@@ -8,7 +8,7 @@ use native.Mathlib.Omega.{arith}
 use lib.ListN.{length}
 use lib.Dec.{ltb}
 use Rattle.laws.proofs.Bools.{by_cond}
-use Rattle.model.specs.Numbers.{model_too_long, bad_setting, not_aplan, most_model_bytes, most_steps, range_end}
+use Rattle.model.specs.Numbers.{model_too_long, bad_setting, not_a_plan, most_model_bytes, most_steps, range_end}
 use Rattle.model.specs.Values.{Value, trouble}
 use Rattle.model.specs.System.{Costs, Status, no_status, Move, trouble_before, trouble_after}
 use Rattle.model.specs.Syntax.{Number, Condition, Table, Model}
@@ -67,14 +67,14 @@ module _ (end : ℕ) (m : Model) where
 
 -- the state's troubles and "not a plan"
 pub data PlanTrouble (t : ℕ) : Type 0 where
-  no_plan_exists : t ≡ not_aplan → PlanTrouble t
+  is_no_plan : t ≡ not_a_plan → PlanTrouble t
   of_state : StateTrouble t → PlanTrouble t
 
 abbrev PlanOutcome : Value Cost → Type 0
 PlanOutcome = Outcome Anything PlanTrouble
 
-not_a_plan : PlanOutcome (trouble not_aplan)
-not_a_plan = a_trouble {t = not_aplan} (no_plan_exists refl)
+not_a_plan_lem : PlanOutcome (trouble not_a_plan)
+not_a_plan_lem = a_trouble {t = not_a_plan} (is_no_plan refl)
 
 refused_by_state : {t : ℕ} → StateTrouble t → PlanOutcome (trouble t)
 refused_by_state q = a_trouble (of_state q)
@@ -83,21 +83,21 @@ module _ (end : ℕ) (K : Costs Cost) (m : Model) where
   final_outcome : {x : Status} (g : Cost) → StatusOutcome x → PlanOutcome (final K (system_of end m) x g)
   unfolding final
   final_outcome g is_base = a_value tt
-  final_outcome g is_unfinished_lem = not_a_plan
+  final_outcome g is_unfinished_lem = not_a_plan_lem
   final_outcome g (no_status_lem q) = refused_by_state q
 
   after_move_outcome : {n : ℕ} {x : Move State Cost} {rest : Cost → State → Value Cost} → MoveOutcome end n x → ((c : Cost) (u : State) → PlanOutcome (rest c u)) → PlanOutcome (after_move K (system_of end m) x rest)
   unfolding after_move
-  after_move_outcome no_move f = not_a_plan
+  after_move_outcome no_move f = not_a_plan_lem
   after_move_outcome (a_move {c} {u} h e) f = f c u
   after_move_outcome (trouble_before_lem q) f = refused_by_state q
   after_move_outcome (trouble_after_lem h q) f = refused_by_state q
 
   after_status_outcome : {n : ℕ} {x : Status} (declared : Bool) {y : Move State Cost} {rest : Cost → State → Value Cost} → StatusOutcome x → MoveOutcome end n y → ((c : Cost) (u : State) → PlanOutcome (rest c u)) → PlanOutcome (after_status K (system_of end m) x declared y rest)
   unfolding after_status
-  after_status_outcome declared is_base p f = not_a_plan
+  after_status_outcome declared is_base p f = not_a_plan_lem
   after_status_outcome true is_unfinished_lem p f = after_move_outcome p f
-  after_status_outcome false is_unfinished_lem p f = not_a_plan
+  after_status_outcome false is_unfinished_lem p f = not_a_plan_lem
   after_status_outcome declared (no_status_lem q) p f = refused_by_state q
 
   follow_outcome : (p : List ℕ) (s : State) (g : Cost) → PlanOutcome (follow K (system_of end m) p s g)
@@ -108,7 +108,7 @@ module _ (end : ℕ) (K : Costs Cost) (m : Model) where
   after_constraints_outcome : {x : Value Bool} {rest : Value Cost} → Outcome Anything StateTrouble x → PlanOutcome rest → PlanOutcome (after_constraints K (system_of end m) x rest)
   unfolding after_constraints
   after_constraints_outcome (a_value {a = true} p) r = r
-  after_constraints_outcome (a_value {a = false} p) r = not_a_plan
+  after_constraints_outcome (a_value {a = false} p) r = not_a_plan_lem
   after_constraints_outcome (a_trouble q) r = refused_by_state q
 
   follow_from_outcome : (p : List ℕ) (s : State) (g : Cost) → PlanOutcome (follow_from K (system_of end m) p s g)
@@ -140,6 +140,6 @@ pub check_refusal_positive : {t : ℕ} → CheckRefusal t → 0 < t
 check_refusal_positive (model_too_long_lem e) = omega arith
 check_refusal_positive (plan_too_long e) = omega arith
 check_refusal_positive (by_reading h) = omega arith
-check_refusal_positive (by_following (no_plan_exists e)) = omega arith
+check_refusal_positive (by_following (is_no_plan e)) = omega arith
 check_refusal_positive (by_following (of_state (by_value h k))) = omega arith
 check_refusal_positive (by_following (of_state (by_range e))) = omega arith

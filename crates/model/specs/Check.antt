@@ -1,6 +1,6 @@
 -- The plan check: the target's constraints, then step by step, to the first trouble; then on bytes. docs/FORMAT.md, "Plan check".
 use Rattle.std.specs.Prelude.{ℕ, ◌≤◌, ◌≡◌, Bool, true, false, cond, List, [], ◌∷◌, length, ltb}
-use Rattle.model.specs.Numbers.{model_too_long, bad_setting, not_aplan, most_model_bytes, most_steps, range_end}
+use Rattle.model.specs.Numbers.{model_too_long, bad_setting, not_a_plan, most_model_bytes, most_steps, range_end}
 use Rattle.model.specs.Values.{Value, value, trouble}
 use Rattle.model.specs.System.{Costs, System, Status, base, unfinished, no_status, Move, blocked, moved, trouble_before, trouble_after}
 use Rattle.model.specs.Plans.{PlanFrom}
@@ -15,20 +15,20 @@ module _ {S C : Type 0} (K : Costs C) (M : System S C) where
   -- "last the final state"
   unfoldable pub final : Status → (g : C) → Value C
   final base g = value g
-  final unfinished g = trouble not_aplan
+  final unfinished g = trouble not_a_plan
   final (no_status t) g = trouble t
 
   -- "conditions, cost, effects, constraints"
   unfoldable pub after_move : Move S C → (C → S → Value C) → Value C
-  after_move blocked rest = trouble not_aplan
+  after_move blocked rest = trouble not_a_plan
   after_move (moved c u) rest = rest c u
   after_move (trouble_before t) rest = trouble t
   after_move (trouble_after c t) rest = trouble t
 
   -- "base before the end, number too high", then the step
   unfoldable pub after_status : Status → (declared : Bool) → Move S C → (C → S → Value C) → Value C
-  after_status base declared move rest = trouble not_aplan
-  after_status unfinished declared move rest = cond declared (after_move move rest) (trouble not_aplan)
+  after_status base declared move rest = trouble not_a_plan
+  after_status unfinished declared move rest = cond declared (after_move move rest) (trouble not_a_plan)
   after_status (no_status t) declared move rest = trouble t
 
   -- the cost of a plan from s, g being spent on the way there
@@ -39,7 +39,7 @@ module _ {S C : Type 0} (K : Costs C) (M : System S C) where
   -- document 02, §1: the target's constraints "before everything else about states. If one fails, … the plan check gives 14"
   unfoldable pub after_constraints : Value Bool → (rest : Value C) → Value C
   after_constraints (value true) rest = rest
-  after_constraints (value false) rest = trouble not_aplan
+  after_constraints (value false) rest = trouble not_a_plan
   after_constraints (trouble t) rest = trouble t
 
   -- the cost of a plan from the target s, g being spent before

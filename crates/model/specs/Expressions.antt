@@ -6,7 +6,7 @@ use Rattle.std.proofs.Math.Option as O
 use Rattle.std.proofs.Math.ListN.{get_elem?}
 use Rattle.model.specs.Numbers.{not_due, mismatch, off_limits, too_deep, most_objects}
 use Rattle.model.specs.Readers.{Reader, ◌>>=◌, ◌>>◌, give, refuse, require, byte, word, integer, one, two, three}
-use Rattle.model.specs.Syntax.{Element, object, element_variable, Set, some_of_lem, set_variable, add, remove, union, intersection, difference, complement, Number, literal, number_variable, plus, minus, times, quotient, lesser, greater, entry, size, total, choice, Condition, equal, less, at_most, same, member, is_empty, subset, negation, both, either, element_count, set_count, Kind, a_set, an_element, a_number, Variable, Table, table_at}
+use Rattle.model.specs.Syntax.{Element, object, element_variable, Set, some_of, set_variable, add, remove, union, intersection, difference, complement, Number, literal, number_variable, plus, minus, times, quotient, lesser, greater, entry, size, total, choice, Condition, equal, less, at_most, same, member, is_empty, subset, negation, both, either, element_count, set_count, Kind, a_set, an_element, a_number, Variable, Table, table_at}
 
 -- ---- first bytes
 
@@ -116,7 +116,7 @@ module _ (variables : List Variable) (tables : List Table) where
   unfoldable pub set : (d : ℕ) → Reader Set
   set zero = no_depth
   set (suc d) = byte >>= form_of
-      (0x40 ⇒ one objects_and_members (λ p. some_of_lem p.0 p.1)
+      (0x40 ⇒ one objects_and_members (λ p. some_of p.0 p.1)
       ∷ 0x41 ⇒ one (variable a_set) (λ p. set_variable p.1 p.0)
       ∷ 0x42 ⇒ element_and_set (element d) (set d) add
       ∷ 0x43 ⇒ element_and_set (element d) (set d) remove

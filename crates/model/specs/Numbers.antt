@@ -55,8 +55,8 @@ abbrev pub negative_cost : ℕ
 negative_cost = 13
 
 -- plan check only
-abbrev pub not_aplan : ℕ
-not_aplan = 14
+abbrev pub not_a_plan : ℕ
+not_a_plan = 14
 
 -- document 02, §5
 abbrev pub high_below_low : ℕ

@@ -4,7 +4,7 @@ use Rattle.std.specs.Prelude.{ℕ, max, Bool, false, cond, not, ◌&&◌, List, 
 use Rattle.std.proofs.Math.Option.{Option, none, some}
 use Rattle.laws.specs.Lists.{any, filter}
 use Rattle.model.specs.Sets.{members}
-use Rattle.model.specs.Syntax.{Element, object, element_variable, Set, some_of_lem, set_variable, add, remove, union, intersection, difference, complement, Condition, equal, less, at_most, same, member, is_empty, subset, negation, both, either, Expression, of_set, of_element, of_number, a_set, Variable, Effect, Transition, Model}
+use Rattle.model.specs.Syntax.{Element, object, element_variable, Set, some_of, set_variable, add, remove, union, intersection, difference, complement, Condition, equal, less, at_most, same, member, is_empty, subset, negation, both, either, Expression, of_set, of_element, of_number, a_set, Variable, Effect, Transition, Model}
 use Rattle.model.specs.Expressions.{kind_number}
 use Rattle.model.specs.Meaning.{natural_at}
 use Rattle.model.specs.Steps.{target}
@@ -17,7 +17,7 @@ of_only f b (x ∷ y ∷ l) = b
 
 -- 41 00
 unfoldable pub is_variable_zero : Set → Bool
-is_variable_zero (some_of_lem n s) = false
+is_variable_zero (some_of n s) = false
 is_variable_zero (set_variable n v) = eqb v 0
 is_variable_zero (add e s) = false
 is_variable_zero (remove e s) = false
@@ -46,7 +46,7 @@ required_object (either c d) = none
 
 -- an expression that "removes that same literal from variable 0", as a whole 43 30 k 41 00: the object
 unfoldable pub removed_by : Expression → Option ℕ
-removed_by (of_set (some_of_lem n s)) = none
+removed_by (of_set (some_of n s)) = none
 removed_by (of_set (set_variable n v)) = none
 removed_by (of_set (add e s)) = none
 removed_by (of_set (remove e s)) = object_beside e s

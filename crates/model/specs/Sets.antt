@@ -3,8 +3,8 @@
 use Rattle.std.specs.Prelude.{ℕ, zero, suc, ◌-◌, ◌/◌, ◌%◌, ◌^◌, Bool, List, [], ◌∷◌, eqb}
 use Rattle.std.specs.Int.Bits.{bit_and, bit_or}
 
-unfoldable pub is_member_lem : (k s : ℕ) → Bool
-is_member_lem k s = eqb (s / 2 ^ k % 2) 1
+unfoldable pub is_member : (k s : ℕ) → Bool
+is_member k s = eqb (s / 2 ^ k % 2) 1
 
 unfoldable pub union : ℕ → ℕ → ℕ
 union s t = bit_or s t

@@ -62,7 +62,7 @@ raise h (negsuc a) = h
 
 -- blocked by a condition; or the step's cost and the new state, constraints not yet tried
 pub data Attempt : Type 0 where
-  not_taken_lem : Attempt
+  not_taken : Attempt
   taken : Cost → State → Attempt
 
 -- end: of the numbers' range
@@ -104,7 +104,7 @@ module _ (end : ℕ) (m : Model) where
           c ← step_cost t.costs s
           new ← effects t.effects s s
           value (taken c new))
-        (value not_taken_lem)
+        (value not_taken)
 
   -- "the new state meets all constraints"
   unfoldable pub constrained : Cost → State → Value Bool → Move State Cost
@@ -113,7 +113,7 @@ module _ (end : ℕ) (m : Model) where
   constrained c new (trouble t) = trouble_after c t
 
   unfoldable pub move_of : Value Attempt → Move State Cost
-  move_of (value not_taken_lem) = blocked
+  move_of (value not_taken) = blocked
   move_of (value (taken c new)) = constrained c new (admits new)
   move_of (trouble t) = trouble_before t
 

@@ -10,7 +10,7 @@ pub data Element : Type 0 where
 
 -- 40 to 47
 pub data Set : Type 0 where
-  some_of_lem : (objects members : ℕ) → Set
+  some_of : (objects members : ℕ) → Set
   set_variable : (objects v : ℕ) → Set
   add remove : Element → Set → Set
   union intersection difference : Set → Set → Set
@@ -43,7 +43,7 @@ element_count (object k) = suc k
 element_count (element_variable n v) = n
 
 unfoldable pub set_count : Set → ℕ
-set_count (some_of_lem n s) = n
+set_count (some_of n s) = n
 set_count (set_variable n v) = n
 set_count (add e s) = set_count s
 set_count (remove e s) = set_count s

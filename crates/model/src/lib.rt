@@ -1,5 +1,7 @@
 // The lower layer: a model's format, the meaning of its expressions, its steps and plans. Definitions are in specs/.
 
+#![tactic(auto)]
+
 ghost use Rattle.std.specs.Prelude.{◌≡◌, leb};
 ghost use Rattle.model.specs.Numbers.{most_model_bytes};
 
@@ -11,7 +13,7 @@ pub fn length_fits(bytes: usize) -> bool
 }
 
 // What steps and plans cost: hours at high figures, hours at low figures, cable moves.
-#[derive(Drop)]
+#[derive(Clone, Copy)]
 pub struct Cost {
     pub high: u64,
     pub low: u64,

@@ -19,7 +19,7 @@ use Rattle.model.specs.Costs.{costs_of, CostUpTo}
 use Rattle.model.specs.Steps.{system_of}
 use Rattle.model.proofs.Costs.{combine_up_to}
 use Rattle.model.proofs.Ranges.{up_to_less, below_up_to, step_cost_below}
-use Rattle.search.specs.Answer.{Verdict, cheapest, no_plan, width_stop, length_stop, budget_spent, contradicted, Outcome, verdict, refused_by_state, by_input, verdict_number, outcome_number, is_refusal, Answer}
+use Rattle.search.specs.Answer.{Verdict, cheapest, no_plan, width_stop, length_stop, budget_spent, contradicted, Outcome, verdict, by_state, by_input, verdict_number, outcome_number, is_refusal, Answer}
 use Rattle.search.specs.Demands.{Demands}
 use Rattle.search.specs.Run.{plain, Settings, Lent, refused_by_input, run, shown}
 use Rattle.search.proofs.Source.{Source, input_refused, searched, run_source}
@@ -87,7 +87,7 @@ answer_within bytes = pick (answer_to bytes).outcome refl
         (by_cond (λ (n : ℕ). n ≤ most_cost) (eqb (verdict_number v) 0)
         (λ z. cheapest_within bytes (subst (λ w. (answer_to bytes).outcome ≡ verdict w) (number_zero v (eqb-true (verdict_number v) 0 z)) e))
         (λ _. omega arith))
-    pick (refused_by_state t) e = rw e (omega arith)
+    pick (by_state t) e = rw e (omega arith)
     pick (by_input t) e = rw e (omega arith)
 
 pub numbers_within : (bytes : List ℕ) (x : Fields) → FieldsAre (answer_to bytes) x → CheapestWithin most_cost x
@@ -95,6 +95,6 @@ unfolding is_refusal outcome_number
 numbers_within bytes x is r z = subst (λ n. n ≤ most_cost) (sym is.cost) (cheapest_within bytes (pick (answer_to bytes).outcome refl))
   where
     pick : (o : Outcome) → (answer_to bytes).outcome ≡ o → (answer_to bytes).outcome ≡ verdict cheapest
-    pick (verdict v) e = subst (λ w. (answer_to bytes).outcome ≡ verdict w) (number_zero v (sym (is.verdict-number ∙ (rw e)) ∙ z)) e
-    pick (refused_by_state t) e = let one : x.refused ≡ 1 = is.refused ∙ (rw e) in absurd (omega arith)
+    pick (verdict v) e = subst (λ w. (answer_to bytes).outcome ≡ verdict w) (number_zero v (sym (is.verdict_is ∙ (rw e)) ∙ z)) e
+    pick (by_state t) e = let one : x.refused ≡ 1 = is.refused ∙ (rw e) in absurd (omega arith)
     pick (by_input t) e = let one : x.refused ≡ 1 = is.refused ∙ (rw e) in absurd (omega arith)

@@ -4,7 +4,7 @@ use mathlib.Core.Path.{◌≡◌, refl}
 use mathlib.Core.Bool.{Bool, true, false}
 use mathlib.Core.List.{List, [], ◌∷◌}
 use Rattle.model.specs.Costs.{hours, fixed}
-use Rattle.search.specs.Answer.{cheapest, no_plan, width_stop, length_stop, budget_spent, contradicted, Outcome, verdict, refused_by_state, by_input, verdict_number, is_refusal}
+use Rattle.search.specs.Answer.{cheapest, no_plan, width_stop, length_stop, budget_spent, contradicted, Outcome, verdict, by_state, by_input, verdict_number, is_refusal}
 use Rattle.month_figures.specs.Closing.{Taken, answered, unread, is_verdict, gives, is_refused, cost_of, bound_of, has_plan, is_open, count_in, refused_in, cheapest_in, gap_in, gather, whole_of, remainder_of, closing}
 
 abbrev pub one : Outcome → (plan : Bool) (cost bound : ℕ) → Taken
@@ -30,7 +30,7 @@ unfolding closes
 of_empty_name_between = refl
 
 -- two cheapest, no plan, a length stop at 100 with bound 64, refused 13, contradicted, a missing file
-pub of_seven : closes (p1 ∷ one (verdict no_plan) false 0 0 ∷ one (verdict length_stop) true 100 64 ∷ one (refused_by_state 13) false 9 2 ∷ one (verdict contradicted) true 7 8 ∷ unread ∷ one (verdict cheapest) true 3 3 ∷ [])
+pub of_seven : closes (p1 ∷ one (verdict no_plan) false 0 0 ∷ one (verdict length_stop) true 100 64 ∷ one (by_state 13) false 9 2 ∷ one (verdict contradicted) true 7 8 ∷ unread ∷ one (verdict cheapest) true 3 3 ∷ [])
     ≡ 7 ∷ 2 ∷ 1 ∷ 0 ∷ 1 ∷ 0 ∷ 1 ∷ 2 ∷ 10 ∷ 5 ∷ 0 ∷ 36 ∷ []
 unfolding closes
 of_seven = refl

@@ -1,9 +1,9 @@
 -- An answer whose gap counts is a stopped run with a plan.
 use mathlib.Core.Path.{◌≡◌}
-use mathlib.Core.Bool.{true, false, ◌||◌, false≢true}
+use mathlib.Core.Bool.{true, ◌||◌, false≢true}
 use Rattle.laws.proofs.Bools.{and_both}
 use Rattle.model.specs.declared.Cost.{Cost}
-use Rattle.search.specs.Answer.{cheapest, no_plan, width_stop, length_stop, budget_spent, contradicted, Outcome, verdict, refused_by_state, by_input, verdict_number, Answer}
+use Rattle.search.specs.Answer.{cheapest, no_plan, width_stop, length_stop, budget_spent, contradicted, Outcome, verdict, by_state, by_input, verdict_number, Answer}
 use Rattle.search.specs.Guarantee.{Stopped, by_width, by_length, by_budget}
 use Rattle.month_figures.specs.Closing.{answered, is_verdict, gives, has_plan, is_open}
 
@@ -15,7 +15,7 @@ stopped_by_number (verdict width_stop) e = by_width
 stopped_by_number (verdict length_stop) e = by_length
 stopped_by_number (verdict budget_spent) e = by_budget
 stopped_by_number (verdict contradicted) e = absurd (false≢true e)
-stopped_by_number (refused_by_state t) e = absurd (false≢true e)
+stopped_by_number (by_state t) e = absurd (false≢true e)
 stopped_by_number (by_input t) e = absurd (false≢true e)
 
 pub open_is_stopped : (a : Answer Cost) → is_open (answered a) ≡ true → Stopped a.outcome × (a.flag ≡ true)

@@ -6,7 +6,7 @@ use native.Mathlib.Omega.{arith}
 use lib.Dec.{eqb}
 use borrow.Author.Tests.{eq-eqb, ne_eqb}
 use Rattle.model.specs.declared.Cost.{Cost}
-use Rattle.search.specs.Answer.{Outcome, verdict, refused_by_state, by_input, outcome_number, is_refusal, Answer}
+use Rattle.search.specs.Answer.{Outcome, verdict, by_state, by_input, outcome_number, is_refusal, Answer}
 use Rattle.search_report.specs.Answers.{FieldsAre}
 use Rattle.search_report.specs.declared.answers.Fields.{Fields}
 use Rattle.month_figures.specs.Closing.{Taken, answered, unread, is_verdict, gives, is_refused, cost_of, bound_of, has_plan, is_open, count_in, refused_in, cheapest_in, gap_in, whole_of, remainder_of}
@@ -23,8 +23,8 @@ seen x unread is = refusal (rw is) refl (λ v. refl)
 seen x (answered a) is = pick a.outcome refl
   where
     pick : (o : Outcome) → a.outcome ≡ o → Seen x (answered a)
-    pick (verdict w) e = a_verdict {a = a} (is.refused ∙ (rw e)) (rw e) (λ v. rw (is.verdict-number, e)) is
-    pick (refused_by_state t) e = refusal {d = answered a} (is.refused ∙ (rw e)) (rw e) (λ v. rw e)
+    pick (verdict w) e = a_verdict {a = a} (is.refused ∙ (rw e)) (rw e) (λ v. rw (is.verdict_is, e)) is
+    pick (by_state t) e = refusal {d = answered a} (is.refused ∙ (rw e)) (rw e) (λ v. rw e)
     pick (by_input t) e = refusal {d = answered a} (is.refused ∙ (rw e)) (rw e) (λ v. rw e)
 
 -- the numbers of two and more alternatives

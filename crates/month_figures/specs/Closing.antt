@@ -2,7 +2,7 @@
 -- docs/FORMAT.md, "Month".
 use Rattle.std.specs.Prelude.{ℕ, ◌+◌, ◌-◌, ◌/◌, ◌%◌, max, Bool, true, false, cond, ◌&&◌, ◌||◌, List, [], ◌∷◌, length, eqb}
 use Rattle.model.specs.declared.Cost.{Cost}
-use Rattle.search.specs.Answer.{Outcome, verdict, refused_by_state, by_input, verdict_number, is_refusal, Answer}
+use Rattle.search.specs.Answer.{Outcome, verdict, by_state, by_input, verdict_number, is_refusal, Answer}
 
 -- what a name comes to: the answer to the model in its file; or no file is read by it, "refused 0"
 pub data Taken : Type 0 where
@@ -14,7 +14,7 @@ pub data Taken : Type 0 where
 -- the outcome is verdict v: no refusal is, whatever its number
 unfoldable pub is_verdict : (v : ℕ) → Outcome → Bool
 is_verdict v (verdict w) = eqb (verdict_number w) v
-is_verdict v (refused_by_state t) = false
+is_verdict v (by_state t) = false
 is_verdict v (by_input t) = false
 
 unfoldable pub gives : (v : ℕ) → Taken → Bool

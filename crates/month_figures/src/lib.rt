@@ -1,5 +1,7 @@
 // The figures of a month, kept by value: an answer more, and the twelve figures of the closing line.
 
+#![tactic(auto)]
+
 ghost use Rattle.std.specs.Prelude.{◌≡◌, ◌-◌, max, ltb};
 ghost use Rattle.month_names.specs.Names.{most_names};
 ghost use Rattle.month_figures.specs.Closing.{count_in, refused_in, gap_in, whole_of, remainder_of};
@@ -8,7 +10,7 @@ ghost use Rattle.month_figures.specs.Kept.{unread_fields, Tells, TellsUpTo, Tell
 use search_report::answers::Fields;
 
 // The figures so far.
-#[derive(Drop)]
+#[derive(Clone, Copy)]
 pub struct Figures {
     pub names: u64,
     pub cheapest: u64,
@@ -23,7 +25,7 @@ pub struct Figures {
 }
 
 // What one answer adds to each: 1 or 0, its cost, its gap.
-#[derive(Drop)]
+#[derive(Clone, Copy)]
 struct Share {
     cheapest: u64,
     planless: u64,

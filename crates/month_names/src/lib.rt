@@ -1,18 +1,20 @@
 // The lines of a list of file names, part by part: what is known of a line, and whether it is a name.
 
+#![tactic(auto)]
+
 ghost use Rattle.std.specs.Prelude.{◌≡◌, ◌||◌, ◌≤◌, eqb, length};
 ghost use Rattle.month_names.specs.Names.{most_name_bytes};
 ghost use Rattle.month_names.specs.Lines.{Started, Pushed, Scanned, Usable};
 
 // How many bytes a line has, 256 where a name may not have so many; whether one of them is 0.
-#[derive(Drop)]
+#[derive(Clone, Copy)]
 pub struct Line {
     pub length: usize,
     pub zero: bool,
 }
 
 // A line as far as a part of the list has it: the place behind what was taken, and whether a line feed closed it.
-#[derive(Drop)]
+#[derive(Clone, Copy)]
 pub struct Scan {
     pub line: Line,
     pub at: usize,

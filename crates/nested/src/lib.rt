@@ -1,5 +1,7 @@
 // Numbers of several operations, read along a cursor, sound or silent. Operations wait for their numbers in two small arrays; no function calls itself.
 
+#![tactic(auto)]
+
 pub mod rounded;
 
 ghost use Rattle.std.specs.Prelude.{◌≡◌, false, length, pos};

@@ -1,5 +1,7 @@
 // The outline of a model in words; see specs/Outline.
 
+#![tactic(auto)]
+
 pub mod layout;
 
 ghost use Rattle.std.specs.Prelude.{◌≡◌, get_or};

@@ -1,5 +1,7 @@
 // The plan check on the bytes of a model and of a plan.
 
+#![tactic(auto)]
+
 ghost use Rattle.model.specs.Check as plans;
 ghost use Rattle.steps.specs.Follow.{CheckedIs};
 

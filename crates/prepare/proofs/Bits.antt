@@ -10,7 +10,7 @@ use lib.Dec.{eqb}
 use lib.Bits.{bit_and, bit_or, and_step, or_step, and_zero_l, or_zero_l, and_comm, or_comm, and_le_l, and_le_r, or_add_and, and_mask, and_high}
 use borrow.Author.Tests.{eqb-true, eqb-false}
 use Rattle.model.specs.Numbers.{most_objects}
-use Rattle.model.specs.Sets.{is_member_lem, intersection, union}
+use Rattle.model.specs.Sets.{is_member, intersection, union}
 
 -- ---- halves and lowest digits
 
@@ -125,8 +125,8 @@ one_digit (suc zero) p l h = go (eqb (1 * p) p) refl
 one_digit (suc (suc b)) p l h = absurd (omega arith)
 
 -- object k is a member where the word under its bit is its bit
-pub member_test : (k s : ℕ) → is_member_lem k s ≡ eqb (intersection s (2 ^ k)) (2 ^ k)
-unfolding is_member_lem intersection
+pub member_test : (k s : ℕ) → is_member k s ≡ eqb (intersection s (2 ^ k)) (2 ^ k)
+unfolding is_member intersection
 member_test k s =
     let next : 1 + k ≡ suc k = omega arith in
     let bit : bit_and s (2 ^ k) ≡ s / 2 ^ k % 2 * 2 ^ k = ap (bit_and s) (rw next (omega (arith, pow-suc 2 k))) ∙ and_high s 1 k in

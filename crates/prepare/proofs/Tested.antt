@@ -10,7 +10,7 @@ use lib.Dec.{eqb}
 use borrow.Author.Tests.{le-ltb}
 use Rattle.model.specs.Numbers.{range_end, most_nesting, most_objects}
 use Rattle.model.specs.Values.{Value, value, trouble}
-use Rattle.model.specs.Values.{◌>>=◌ as ◌andthen◌}
+use Rattle.model.specs.Values.{◌>>=◌ as ◌and_then◌}
 use Rattle.model.specs.Readers.{read, word}
 use Rattle.model.specs.Sets as Sets
 use Rattle.model.specs.Syntax.{Kind, a_set, Model, Table, Condition, negation}
@@ -21,7 +21,7 @@ use Rattle.outline.specs.Outline.{model_of, Outlines}
 use Rattle.eval_sets.specs.declared.answers.ConditionValue.TheVariants as C
 use Rattle.eval_sets.specs.Answers.{condition_answer, past_condition, element_answer, set_answer, past_set, absent_set}
 use Rattle.eval_sets.specs.Forms.{set_form, condition_form}
-use Rattle.eval_sets.specs.Runs.{Environment, environment, objects_in, element_of, run_element, set_behind, combined, run_set, member_of_lem, empty_set, same_elements, condition_behind, condition_at, run_condition}
+use Rattle.eval_sets.specs.Runs.{Environment, environment, objects_in, element_of, run_element, set_behind, combined, run_set, member_of, empty_set, same_elements, condition_behind, condition_at, run_condition}
 use Rattle.eval_sets.specs.Promise.{Describes}
 use Rattle.eval_sets.proofs.Opening.{variable_some, literal_is, set_opens, condition_opens}
 use Rattle.eval_sets.proofs.Parts.{elements_are, element_set_is, sets_are}
@@ -68,8 +68,8 @@ module _ (ws os bytes : List ℕ) where
 
 module _ (p : Environment) (bytes : List ℕ) (at : ℕ) where
   -- 54 30 k 41 v
-  member_run : (v : ℕ) → MemberForm bytes at → get_or bytes (at + 4) 0 ≡ v → run_condition most_nesting p (drop at bytes) ≡ C.Holds (Sets.is_member_lem (get_or bytes (at + 2) 0 % most_objects) (get_or p.state v 0)) 5
-  unfolding condition_form condition_at condition_behind member_of_lem past_condition
+  member_run : (v : ℕ) → MemberForm bytes at → get_or bytes (at + 4) 0 ≡ v → run_condition most_nesting p (drop at bytes) ≡ C.Holds (Sets.is_member (get_or bytes (at + 2) 0 % most_objects) (get_or p.state v 0)) 5
+  unfolding condition_form condition_at condition_behind member_of past_condition
   member_run v f e =
       let ws = p.state in
       let os = p.outline in
@@ -80,8 +80,8 @@ module _ (p : Environment) (bytes : List ℕ) (at : ℕ) where
       let set : run_set 31 ws os (drop 2 (drop (at + 1) bytes)) ≡ set_answer (get_or ws v 0) (objects_in os v) 2 =
       ap (run_set 31 ws os) third ∙ variable_run ws os bytes 31 (at + 3) v (λ z. absurd (omega arith)) (omega (arith, f.inside)) f.variable (ap (λ (i : ℕ). get_or bytes i 0) (behind_three 1) ∙ e) in
       (condition_opens p).opened most_nesting at bytes (λ z. absurd (omega arith)) (omega (arith, f.inside)) f.member
-      ∙ ap (λ (i : _). past_condition 1 (member_of_lem i)) (element_set_is ws _ (drop (at + 1) bytes) _ _ _ _ _ object set)
-      ∙ ap (λ (i : ℕ). C.Holds (Sets.is_member_lem (i % most_objects) (get_or ws v 0)) 5) k
+      ∙ ap (λ (i : _). past_condition 1 (member_of i)) (element_set_is ws _ (drop (at + 1) bytes) _ _ _ _ _ object set)
+      ∙ ap (λ (i : ℕ). C.Holds (Sets.is_member (i % most_objects) (get_or ws v 0)) 5) k
     where
       behind_one : (i : ℕ) → at + 1 + i ≡ at + (1 + i)
       behind_one i = omega arith
@@ -186,7 +186,7 @@ module _ (bytes : List ℕ) (at : ℕ) where
 
 -- the value of 57
 negation_value : (ts : List Table) (c : Condition) (s : State) (b : Bool) → condition_value range_end ts c s ≡ value b → condition_value range_end ts (negation c) s ≡ value (not b)
-unfolding condition_value ◌andthen◌
+unfolding condition_value ◌and_then◌
 negation_value ts c s b e = rw e
 
 pub absent_says : (bytes : List ℕ) (at v bit : ℕ) → AbsentForm bytes at → get_or bytes (at + 5) 0 ≡ v → bit ≡ 2 ^ (get_or bytes (at + 3) 0 % most_objects) → TestSays bytes at (record { variable = v; mask = bit; need = 0; used = 6 })

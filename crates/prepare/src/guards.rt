@@ -11,7 +11,7 @@ use outline::layout::{GUARDS, TRANSITION_COUNT, TRANSITIONS};
 use outline::word_at;
 
 // A test of one word, and the place that is read where it passes.
-#[derive(Drop)]
+#[derive(Clone, Copy)]
 pub struct Guard {
     pub variable: usize,
     pub mask: u64,

@@ -1,6 +1,8 @@
 // Reads a model and prepares it, in words behind its outline: guards that decide without an evaluation, the conjuncts of the
 // constraints, what is compared and hashed of a variable, and where a table's entries stand.
 
+#![tactic(auto)]
+
 pub mod conjuncts;
 pub mod guards;
 pub mod masks;

@@ -12,7 +12,7 @@ use words::sets::single;
 use words::sizes::MOST_OBJECTS;
 
 // A test of one word: under the mask it is as needed. It takes so many bytes, none where there is no test.
-#[derive(Drop)]
+#[derive(Clone, Copy)]
 pub struct Test {
     pub variable: usize,
     pub mask: u64,

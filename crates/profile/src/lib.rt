@@ -1,5 +1,7 @@
 // The loading profile: whether a model is in it, and the length that it chooses.
 
+#![tactic(auto)]
+
 pub mod forms;
 pub mod transitions;
 

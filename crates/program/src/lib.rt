@@ -1,39 +1,39 @@
 // What the programs share: a file read to its end, and the search at their settings.
 
+#![tactic(auto)]
+
 ghost use Rattle.std.specs.Prelude.{◌≤◌, length};
 ghost use Rattle.program.specs.Program.{Planned};
 
-use libc::read;
 use search_report::answers::Answer;
 use solver::entry::search_up_to;
+use std::io::Read;
 
 // How many bytes came, and whether a read failed.
-#[derive(Drop)]
+#[derive(Clone, Copy)]
 pub struct Came {
     pub count: usize,
     pub failed: bool,
 }
 
 // Reads once.
-pub fn read_some(file: i32, buffer: &mut [u8]) -> Came
+pub fn read_some<R: Read>(file: &mut R, buffer: &mut [u8]) -> Came
     ensures { result.count ≤ length buffer.new }
 {
-    let got = read(file, buffer);
-    if got < 0 {
-        return Came {
+    match file.read(buffer) {
+        Ok(count) => Came {
+            count: count,
+            failed: false,
+        },
+        Err(_) => Came {
             count: 0,
             failed: true,
-        };
-    }
-    let count = io::count(got, buffer);
-    Came {
-        count: count,
-        failed: false,
+        },
     }
 }
 
 // Reads until the buffer is full, the file ends or a read fails.
-pub fn read_file(file: i32, buffer: &mut [u8]) -> Came
+pub fn read_file<R: Read>(file: &mut R, buffer: &mut [u8]) -> Came
     ensures { result.count ≤ length buffer.new }
 {
     let mut at: usize = 0;

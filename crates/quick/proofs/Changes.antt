@@ -13,7 +13,7 @@ use Rattle.model.specs.Values.{value}
 use Rattle.model.specs.Readers.{read, word}
 use Rattle.model.specs.Syntax.{Set, Condition}
 use Rattle.model.specs.Expressions.{set, condition}
-use Rattle.model.specs.Meaning.{set_value_lem, condition_value}
+use Rattle.model.specs.Meaning.{set_value, condition_value}
 use Rattle.words.specs.States.{state_of}
 use Rattle.words.proofs.Literal.{number, word_is}
 use Rattle.outline.specs.Outline.{model_of, Outlines}
@@ -63,7 +63,7 @@ changed_of state words runs b e h k s objects n q = go (eqb b 0x42) refl (eqb b 
 -- what the run answers is the value of the set that is read
 run_says : (bytes : List ℕ) (at : ℕ) (words state : List ℕ) (s objects k : ℕ) → run_set most_nesting state words (drop at bytes) ≡ set_answer s objects k
     → (x : Set) (n : ℕ) → Outlines bytes words (model_of bytes) → set (model_of bytes).variables (model_of bytes).tables most_nesting (drop at bytes) ≡ read x n
-    → (s ≡ set_value_lem x (state_of (model_of bytes).variables state)) × (k ≡ n)
+    → (s ≡ set_value x (state_of (model_of bytes).variables state)) × (k ≡ n)
 run_says bytes at words state s objects k run x n o reads =
     let answer = sym run ∙ run_set_lem most_nesting state words (drop at bytes) _ _ x n (outline_describes state o).sets reads in
     (ap (λ (r : SetValue). r.members) answer, ap (λ (r : SetValue). r.used) answer)
@@ -88,7 +88,7 @@ module _ (bytes : List ℕ) (at : ℕ) (words state : List ℕ) (f : ChangedForm
       on_three i = omega arith
 
   pub changed_says : (x : Set) (n : ℕ) → Outlines bytes words (model_of bytes) → set (model_of bytes).variables (model_of bytes).tables most_nesting (drop at bytes) ≡ read x n
-      → (changed_in bytes at state ≡ set_value_lem x (state_of (model_of bytes).variables state)) × (5 ≡ n)
+      → (changed_in bytes at state ≡ set_value x (state_of (model_of bytes).variables state)) × (5 ≡ n)
   changed_says x n o reads =
       run_says bytes at words state _ _ 5 (changed_run 31 (λ z. absurd (omega arith))) x n o reads
 
@@ -122,7 +122,7 @@ module _ (bytes : List ℕ) (at : ℕ) (words state : List ℕ) (f : JoinedForm 
       on_three = omega arith
 
   pub joined_says : (x : Set) (n : ℕ) → Outlines bytes words (model_of bytes) → set (model_of bytes).variables (model_of bytes).tables most_nesting (drop at bytes) ≡ read x n
-      → (joined_in bytes at state ≡ set_value_lem x (state_of (model_of bytes).variables state)) × (13 ≡ n)
+      → (joined_in bytes at state ≡ set_value x (state_of (model_of bytes).variables state)) × (13 ≡ n)
   joined_says x n o reads = run_says bytes at words state _ _ 13 joined_run x n o reads
 
 -- ---- 54 30 k 41 v

@@ -12,7 +12,7 @@ use lib.Signed.{mag, le_z}
 use borrow.Author.Tests.{ltb-true, lt-ltb, le-ltb}
 use Rattle.model.specs.Numbers.{range_end, range_size, most_nesting}
 use Rattle.model.specs.Values.{Value, value, in_range}
-use Rattle.model.specs.Values.{◌>>=◌ as ◌andthen◌}
+use Rattle.model.specs.Values.{◌>>=◌ as ◌and_then◌}
 use Rattle.model.specs.Readers.{read, integer}
 use Rattle.model.specs.Syntax.{Number, Condition}
 use Rattle.model.specs.Expressions.{number, condition}
@@ -152,7 +152,7 @@ module _ (bytes : List ℕ) (at : ℕ) (words state : List ℕ) (z c : ℤ) wher
   -- in range, the sum is compared
   summed_up : SumIs bytes at words state z → mag z < range_end → mag c < range_end
       → two (two (fits (variable_in bytes at state)) (fits (entry_in bytes at words state)) (λ a b. fits (a +ℤ b))) (fits c) (λ a b. value (le_z a b)) ≡ value (le_z z c)
-  unfolding two ◌andthen◌
+  unfolding two ◌and_then◌
   summed_up s l k =
       rw (fits_value (variable_in bytes at state) s.variable_fits, fits_value (entry_in bytes at words state) s.entry_fits, ← s.sum, fits_value z l, fits_value c k)
 

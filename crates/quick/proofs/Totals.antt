@@ -13,7 +13,7 @@ use lib.Signed.{mag}
 use borrow.Author.Tests.{ne_eqb}
 use Rattle.model.specs.Numbers.{range_end, most_objects, most_nesting}
 use Rattle.model.specs.Values.{Value, value, trouble}
-use Rattle.model.specs.Values.{◌>>=◌ as ◌andthen◌}
+use Rattle.model.specs.Values.{◌>>=◌ as ◌and_then◌}
 use Rattle.model.specs.Readers.{read, integer}
 use Rattle.model.specs.Sets.{members}
 use Rattle.model.specs.Meaning.{sum_over}
@@ -196,7 +196,7 @@ module _ (bytes words state : List ℕ) where
       on = omega arith
 
   and_value : (a b : Bool) → (value a and_then (λ holds. cond holds (value b) (value false))) ≡ value (cond a b false)
-  unfolding ◌andthen◌
+  unfolding ◌and_then◌
   and_value true b = refl
   and_value false b = refl
 

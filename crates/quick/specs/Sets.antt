@@ -57,4 +57,4 @@ module _ (bytes : List ℕ) (at : ℕ) where
 
 module _ (bytes : List ℕ) (at : ℕ) where
   abbrev pub member_in : (state : List ℕ) → Bool
-  member_in state = Sets.is_member_lem (object_in 0x30 (get_or bytes (at + 2) 0) state) (get_or state (get_or bytes (at + 4) 0) 0)
+  member_in state = Sets.is_member (object_in 0x30 (get_or bytes (at + 2) 0) state) (get_or state (get_or bytes (at + 4) 0) 0)

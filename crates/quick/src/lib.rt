@@ -1,8 +1,10 @@
 // Conditions decided in place, without a call of the evaluators, sound or silent; elements put into sets, entries of tables and
 // bounds that sum them likewise.
 
+#![tactic(auto)]
+
 ghost use Rattle.std.specs.Prelude.{◌≡◌, true, ◌+◌, ◌≤◌, length};
-ghost use Rattle.quick.specs.Quick.{QuickSays, SumForm, SumIs, decided as decidedBy};
+ghost use Rattle.quick.specs.Quick.{QuickSays, SumForm, SumIs, decided as decided_by};
 
 use crate::places::stands;
 use eval_sets::bytes::after;
@@ -64,7 +66,7 @@ fn summed(
 
 // Whether z is at most c, where z is in range.
 fn decided(z: i64, c: i64) -> u8
-    ensures { result ≡ decidedBy z c }
+    ensures { result ≡ decided_by z c }
 {
     if in_range(z) {
         if z <= c {

@@ -9,7 +9,7 @@ use lib.ListN.{length, get_or, take, drop, length-drop, get_elem?}
 use lib.Dec.{leb, ltb, eqb}
 use borrow.Author.Tests.{lt-ltb, le-ltb, ltb-true, ltb-false}
 use Rattle.model.specs.Numbers.{ends_early, mismatch, too_deep}
-use Rattle.model.specs.Syntax.{Element, object, Set, add, remove, union, intersection, difference, complement, Number, literal, plus, minus, times, quotient, lesser, greater, entry, size, total, choice, Condition, equal, less, at_most, same, member, is_empty, subset, negation, both, either, element_count, set_count, Kind, a_set, an_element, a_number, Variable, Table, table_at}
+use Rattle.model.specs.Syntax.{Element, object, add, remove, union, intersection, difference, complement, Number, literal, plus, minus, times, quotient, lesser, greater, entry, size, total, choice, Condition, equal, less, at_most, same, member, is_empty, subset, negation, both, either, element_count, set_count, Kind, a_set, an_element, a_number, Variable, Table, table_at}
 use Rattle.model.specs.Readers.{Reader, after, continue, ◌>>=◌, ◌>>◌, give, refuse, require, byte, word, one, two, three, integer}
 use Rattle.model.specs.Expressions.{Form, ◌⇒◌, form_of, no_depth, objects_and_members, object_number, kind_number, declared, variable, table_number, in_table, element, set, number, condition}
 use Rattle.words.specs.Signature.{variable_of, variables_of, table_of, tables_of}
@@ -25,7 +25,7 @@ use Rattle.read_forms.specs.declared.Parts.TheVariants as P
 use Rattle.read_forms.specs.declared.Fit.TheVariants.{Any}
 use Rattle.read_forms.specs.declared.Layout.{Layout}
 use Rattle.words.proofs.Literal.{word_one, suffix}
-use Rattle.read_forms.proofs.Counts.{counted, one_further, part_after, whole_counted, short_part, by_one, by_two, by_element_and_set, by_two_sets, by_three, in_sides_lem}
+use Rattle.read_forms.proofs.Counts.{counted, one_more, part_after, whole_counted, short_part, by_one, by_two, by_element_and_set, by_two_sets, by_three, in_sides_lem}
 use Rattle.read_forms.proofs.Bounds.{bounded_element, bounded_set, bounded_number, bounded_condition}
 
 -- ---- declared names
@@ -122,7 +122,7 @@ module _ (kinds rows columns : List ℕ) where
 
     opened : {A : Type 0} (x : Due) (h : A → ℕ) {fs : List (Form A)} {ls : List Row} → Told x h fs ls → (b : ℕ) → part_of h ((byte >>= form_of fs) (b ∷ e)) ≡ whole x (form_at kinds rows columns (layout_in ls b) d e)
     unfolding ◌>>=◌ continue byte
-    opened x h {fs} {ls} ps b = part_after h (form_of fs b e) ∙ ap one_further (told x h ps b) ∙ whole_counted x (form_at kinds rows columns (layout_in ls b) d e)
+    opened x h {fs} {ls} ps b = part_after h (form_of fs b e) ∙ ap one_more (told x h ps b) ∙ whole_counted x (form_at kinds rows columns (layout_in ls b) d e)
 
     by_name : {A : Type 0} (x : Due) (kind : Kind) (h : A → ℕ) (make : ℕ × ℕ → A) → due_number x ≡ kind_number kind → ((p : ℕ × ℕ) → h (make p) ≡ count_for x p.1)
         → part_of h (one (variable vs ts kind) make e) ≡ counted x (variable_at x kinds e)

@@ -2,6 +2,8 @@
 // is refused. A number may contain conditions and a condition numbers: the readers call each other, with less depth left each time.
 // Declared names are byte strings, as crate read_forms has them.
 
+#![tactic(auto)]
+
 ghost use Rattle.std.specs.Prelude.{◌≡◌, get_or};
 ghost use Rattle.words.specs.Signature.{variables_of, tables_of};
 ghost use Rattle.read_forms.specs.Parts.{part_at};

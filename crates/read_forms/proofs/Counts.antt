@@ -29,16 +29,16 @@ abbrev pub counted : Due → Part → Part
 counted x (Good n a) = Good n (count_for x a)
 counted x (Refused t) = Refused t
 
-abbrev pub one_further : Part → Part
-one_further (Good n a) = Good (1 + n) a
-one_further (Refused t) = Refused t
+abbrev pub one_more : Part → Part
+one_more (Good n a) = Good (1 + n) a
+one_more (Refused t) = Refused t
 
-pub part_after : {A : Type 0} (h : A → ℕ) (r : Read A) → part_of h (after 1 r) ≡ one_further (part_of h r)
+pub part_after : {A : Type 0} (h : A → ℕ) (r : Read A) → part_of h (after 1 r) ≡ one_more (part_of h r)
 unfolding after
 part_after h (read a n) = refl
 part_after h (refused t) = refl
 
-pub whole_counted : (x : Due) (p : Part) → one_further (counted x p) ≡ whole x p
+pub whole_counted : (x : Due) (p : Part) → one_more (counted x p) ≡ whole x p
 whole_counted x (Good n a) = refl
 whole_counted x (Refused t) = refl
 
@@ -132,10 +132,10 @@ abbrev in_sides : (r c : ℕ) → Parts → Part
 in_sides r c (P.Good n a b) = cond (leb a r && leb b c) (Good n 0) (Refused mismatch)
 in_sides r c (P.Refused t) = Refused t
 
-within_sides : (x : Due) → ((a : ℕ) → count_for x a ≡ 0) → (r c : ℕ) (p : Parts) → one_further (in_sides r c p) ≡ counted x (within r c p)
+within_sides : (x : Due) → ((a : ℕ) → count_for x a ≡ 0) → (r c : ℕ) (p : Parts) → one_more (in_sides r c p) ≡ counted x (within r c p)
 within_sides x q r c (P.Good n a b) = go (leb a r && leb b c)
   where
-    go : (t : Bool) → one_further (cond t (Good n 0) (Refused mismatch)) ≡ counted x (cond t (Good (1 + n) 0) (Refused mismatch))
+    go : (t : Bool) → one_more (cond t (Good n 0) (Refused mismatch)) ≡ counted x (cond t (Good (1 + n) 0) (Refused mismatch))
     go true = ap (Good (1 + n)) (sym (q 0))
     go false = refl
 within_sides x q r c (P.Refused t) = refl
@@ -145,5 +145,5 @@ pub in_sides_lem : {A : Type 0} (f : A → ℕ) (ra : Reader A) (re : Reader Ele
     ≡ counted D.Number (within r c (two_parts (part_of f (ra e)) (λ n. part_of element_count (re (drop n e)))))
 in_sides_lem f ra re make r c e =
     part_after no_count _
-    ∙ ap one_further (by_test f element_count no_count (in_sides r c) (λ t. refl) ra re make e (λ a y. leb (f a) r && leb (element_count y) c) (λ n a y. refl))
+    ∙ ap one_more (by_test f element_count no_count (in_sides r c) (λ t. refl) ra re make e (λ a y. leb (f a) r && leb (element_count y) c) (λ n a y. refl))
     ∙ within_sides D.Number (λ a. refl) r c (two_parts (part_of f (ra e)) (λ n. part_of element_count (re (drop n e))))

@@ -70,7 +70,7 @@ const LAYOUTS: [Layout; 32] = [
 ];
 
 // The bytes that begin an expression of this kind, the first and how many, and where their rows stand in the table.
-#[derive(Drop)]
+#[derive(Clone, Copy)]
 pub struct Rows {
     pub first: u8,
     pub count: u8,

@@ -2,6 +2,8 @@
 // names are byte strings: a byte for each variable (0 a number, 1 to 64 an element of so many objects, 65 to 128 a set of 64 less), a row
 // count and a column count for each table.
 
+#![tactic(auto)]
+
 pub mod bytes;
 pub mod layouts;
 pub mod sizes;
@@ -21,7 +23,7 @@ pub const TOO_DEEP: u8 = 8;
 pub const MOST_OBJECTS: u8 = 64;
 
 // The kind of expression that is due.
-#[derive(Drop)]
+#[derive(Clone, Copy)]
 pub enum Due {
     Number,
     Condition,
@@ -30,21 +32,21 @@ pub enum Due {
 }
 
 // The bytes that an expression takes and its object count, 0 of a number and of a condition; or the number of its refusal.
-#[derive(Drop)]
+#[derive(Clone, Copy)]
 pub enum Part {
     Good(usize, u8),
     Refused(u8),
 }
 
 // The bytes that two parts take and the object count of each; or the number of a refusal.
-#[derive(Drop)]
+#[derive(Clone, Copy)]
 pub enum Parts {
     Good(usize, u8, u8),
     Refused(u8),
 }
 
 // How the object counts of two parts have to fit: not at all, the first at most the second, equal.
-#[derive(Drop)]
+#[derive(Clone, Copy)]
 pub enum Fit {
     Any,
     AtMost,
@@ -53,7 +55,7 @@ pub enum Fit {
 
 // What stands behind the first byte of an expression: fixed operands, one part, two parts, a table's number and two parts, a
 // condition and two numbers; or the number of the byte's refusal.
-#[derive(Drop)]
+#[derive(Clone, Copy)]
 pub enum Layout {
     Integer,
     Object,

@@ -12,7 +12,7 @@ use Rattle.model.specs.Syntax.{Variable, Table}
 use Rattle.model.specs.Commands.{nothing_more}
 use Rattle.outline.specs.Outline.{outline_words}
 use Rattle.read_declarations.specs.Positions.{read_at, position_of}
-use Rattle.read_model.specs.Groups.{code_of, most_of, count_at_lem, offsets_from, item_of, ItemsRead, GroupRead, the_end}
+use Rattle.read_model.specs.Groups.{code_of, most_of, count_at, offsets_from, item_of, ItemsRead, GroupRead, the_end}
 use Rattle.read_model.specs.declared.Group.{Group}
 use Rattle.read_model.specs.declared.Group.TheVariants as G
 use Rattle.read_declarations.specs.declared.Position.TheVariants.{At, Refused}
@@ -28,8 +28,8 @@ code_positive G.Bounds = omega arith
 
 -- where a group's words are
 pub record Room (g : Group) : Type 0 where
-  pub behind_counts : 3 ≤ count_at_lem g
-  pub low : count_at_lem g < 16
+  pub behind_counts : 3 ≤ count_at g
+  pub low : count_at g < 16
   pub behind_tables_lem : 112 ≤ offsets_from g
   pub high : offsets_from g + most_of g ≤ outline_words
 
@@ -50,23 +50,23 @@ module _ (vs : List Variable) (ts : List Table) (g : Group) (bytes : List ℕ) (
   filled_length = part_length (offsets_from g) (most_of g) before part fits whole
 
   pub group_read : {end n : ℕ} → ItemsRead (item_of vs ts g) bytes part (read_at (up_to (most_of g) (code_of g) (item_of vs ts g)) start bytes) end n
-      → GroupRead vs ts g bytes start before (set filled (count_at_lem g) n) end
+      → GroupRead vs ts g bytes start before (set filled (count_at g) n) end
   group_read {end} {n} h =
-      let inside : count_at_lem g < length filled = omega (arith, filled_length, (room g).low, (room g).behind_tables_lem, (room g).high) in
+      let inside : count_at g < length filled = omega (arith, filled_length, (room g).low, (room g).behind_tables_lem, (room g).high) in
       record {
         items = h.items;
         reads = h.reads;
         outlined = record {
-          count = get_or-set_same filled (count_at_lem g) n 0 inside ∙ sym h.count;
+          count = get_or-set_same filled (count_at g) n 0 inside ∙ sym h.count;
           few = omega (arith, h.count, h.few);
           placed = λ k x e.
               let less : k < most_of g = omega (arith, found_below h.items k e, h.count, h.few) in
-              let w : get_or (set filled (count_at_lem g) n) (offsets_from g + k) 0 ≡ get_or part k 0 =
-              get_or-set_other filled (count_at_lem g) (offsets_from g + k) n 0 (λ q. omega (arith, (room g).low, (room g).behind_tables_lem)) ∙ part_in (offsets_from g) (most_of g) before part fits whole k less in
+              let w : get_or (set filled (count_at g) n) (offsets_from g + k) 0 ≡ get_or part k 0 =
+              get_or-set_other filled (count_at g) (offsets_from g + k) n 0 (λ q. omega (arith, (room g).low, (room g).behind_tables_lem)) ∙ part_in (offsets_from g) (most_of g) before part fits whole k less in
               let i = h.placed k x e in
               record { inside = rw w i.inside; used = i.used; reads = rw w i.reads };
         };
-        kept = λ i o. get_or-set_other filled (count_at_lem g) i n 0 o.0
+        kept = λ i o. get_or-set_other filled (count_at g) i n 0 o.0
             ∙ ⊎_elim (λ l. part_before (offsets_from g) (most_of g) before part fits whole i l) (λ l. part_behind (offsets_from g) (most_of g) before part fits whole i l) o.1;
       }
 
@@ -107,12 +107,12 @@ module _ (vs : List Variable) (ts : List Table) (g : Group) (bytes : List ℕ) (
       let fits : a + k ≤ length before = omega (arith, (room g).high) in
       part_length a k before part fits (whole ∙ (lent ∙ sym most))
 
-  pub group_told : {at : ℕ} → at ≡ count_at_lem g → {end n : ℕ} → ItemsRead (item_of vs ts g) bytes part (read_at (up_to (length (take k (drop a before))) (code_of g) (item_of vs ts g)) start bytes) end n
+  pub group_told : {at : ℕ} → at ≡ count_at g → {end n : ℕ} → ItemsRead (item_of vs ts g) bytes part (read_at (up_to (length (take k (drop a before))) (code_of g) (item_of vs ts g)) start bytes) end n
       → (length (set (with_part a k before part) at n) ≡ length before) × GroupRead vs ts g bytes start before (set (with_part a k before part) at n) end
   group_told {at} count {end} {n} h =
       let size : length part ≡ most_of g = whole ∙ lent in
       let same : length (set (with_part a k before part) at n) ≡ length before = length-set (with_part a k before part) at n ∙ group_length in
-      let told : GroupRead vs ts g bytes start before (set (with_part (offsets_from g) (most_of g) before part) (count_at_lem g) n) end =
+      let told : GroupRead vs ts g bytes start before (set (with_part (offsets_from g) (most_of g) before part) (count_at g) n) end =
       group_read vs ts g bytes start before part long size (rw lent at h) in
       (same, rw (from, most, count) told)
 

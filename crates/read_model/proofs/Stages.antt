@@ -12,7 +12,7 @@ use Rattle.model.specs.Expressions.{condition}
 use Rattle.model.specs.Commands.{conditions, transition, nothing_more}
 use Rattle.words.specs.Signature.{variables_of, tables_of}
 use Rattle.read_declarations.specs.Positions.{read_at, position_of}
-use Rattle.read_model.specs.Groups.{Item, code_of, most_of, count_at_lem, offsets_from, item_of, Outside, GroupAt, GroupRead, GroupTold, the_end, behind_bounds, behind_constraints, behind_base_cases, behind_transitions, behind_tables, VariablesDeclared, TablesDeclared, GroupsAt, GroupsRead, GroupsKeep, GroupsTold, GroupsAs}
+use Rattle.read_model.specs.Groups.{Item, code_of, most_of, count_at, offsets_from, item_of, Outside, GroupAt, GroupRead, GroupTold, the_end, behind_bounds, behind_constraints, behind_base_cases, behind_transitions, behind_tables, VariablesDeclared, TablesDeclared, GroupsAt, GroupsRead, GroupsKeep, GroupsTold, GroupsAs}
 use Rattle.read_model.specs.declared.Group.{Group}
 use Rattle.read_model.specs.declared.Group.TheVariants as G
 use Rattle.read_declarations.specs.declared.Position.{Position}
@@ -25,11 +25,11 @@ use Rattle.read_model.proofs.Alike.{items_alike}
 -- ---- a group's words, after another group has written its own
 
 abbrev Within : Group → (i : ℕ) → Type 0
-Within g i = (i ≡ count_at_lem g) ⊎ ((offsets_from g ≤ i) × (i < offsets_from g + most_of g))
+Within g i = (i ≡ count_at g) ⊎ ((offsets_from g ≤ i) × (i < offsets_from g + most_of g))
 
 group_later : {A : Type 0} (r : Reader A) (g : Group) (bytes words later : List ℕ) (items : List A) → ((i : ℕ) → Within g i → get_or later i 0 ≡ get_or words i 0) → GroupAt r g bytes words items → GroupAt r g bytes later items
 group_later r g bytes words later items kept h = record {
-  count = kept (count_at_lem g) (inl refl) ∙ h.count;
+  count = kept (count_at g) (inl refl) ∙ h.count;
   few = h.few;
   placed = λ k x e.
       let less : k < most_of g = omega (arith, found_below items k e, h.few) in
@@ -39,7 +39,7 @@ group_later r g bytes words later items kept h = record {
 }
 
 -- the words of a group are outside a group behind it
-outside : (g h : Group) → count_at_lem g < count_at_lem h → offsets_from g + most_of g ≤ offsets_from h → (i : ℕ) → Within g i → Outside h i
+outside : (g h : Group) → count_at g < count_at h → offsets_from g + most_of g ≤ offsets_from h → (i : ℕ) → Within g i → Outside h i
 outside g h c o i w =
     let a = room g in
     let b = room h in (λ q. ⊎_elim (λ e. omega arith) (λ e. omega arith) w, inl (⊎_elim (λ e. omega arith) (λ e. omega arith) w))

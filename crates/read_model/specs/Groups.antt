@@ -39,11 +39,11 @@ most_of G.Constraints = most_constraints
 most_of G.Bounds = most_bounds
 
 -- the words of the outline that hold a group's count and its offsets
-abbrev pub count_at_lem : Group → ℕ
-count_at_lem G.Transitions = transition_count_at
-count_at_lem G.BaseCases = base_case_count_at
-count_at_lem G.Constraints = constraint_count_at
-count_at_lem G.Bounds = bound_count_at
+abbrev pub count_at : Group → ℕ
+count_at G.Transitions = transition_count_at
+count_at G.BaseCases = base_case_count_at
+count_at G.Constraints = constraint_count_at
+count_at G.Bounds = bound_count_at
 
 abbrev pub offsets_from : Group → ℕ
 offsets_from G.Transitions = transitions_from
@@ -79,11 +79,11 @@ module _ {A : Type 0} (r : Reader A) (bytes offsets : List ℕ) where
 
 -- word i belongs to another group
 abbrev pub Outside : Group → (i : ℕ) → Type 0
-Outside g i = (i ≡ count_at_lem g → ⊥) × ((i < offsets_from g) ⊎ (offsets_from g + most_of g ≤ i))
+Outside g i = (i ≡ count_at g → ⊥) × ((i < offsets_from g) ⊎ (offsets_from g + most_of g ≤ i))
 
 -- the words outline a group's items
 pub record GroupAt {A : Type 0} (r : Reader A) (g : Group) (bytes words : List ℕ) (items : List A) : Type 0 where
-  pub count : get_or words (count_at_lem g) 0 ≡ length items
+  pub count : get_or words (count_at g) 0 ≡ length items
   pub few : length items ≤ most_of g
   pub placed : Items r bytes words (offsets_from g) items
 

@@ -1,5 +1,7 @@
 // Reads whole models: their commands in order, the refusal where they are not right, and the outline that says where each part stands.
 
+#![tactic(auto)]
+
 mod groups;
 
 ghost use Rattle.std.specs.Prelude.{◌≡◌, ◌≤◌, length};
@@ -20,7 +22,7 @@ use read_declarations::{Listed, Position};
 const BYTES_AFTER_END: u8 = 9;
 
 // The groups of commands behind the tables.
-#[derive(Drop)]
+#[derive(Clone, Copy)]
 pub enum Group {
     Transitions,
     BaseCases,

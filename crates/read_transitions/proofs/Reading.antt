@@ -15,7 +15,7 @@ use Rattle.laws.proofs.Lists.{byte_inside}
 use Rattle.laws.specs.Lists.{any}
 use Rattle.model.specs.Numbers.{ends_early, mismatch, off_limits, most_variables, most_nesting}
 use Rattle.model.specs.Readers.{Read, read, refused, Reader, after, continue, ◌>>=◌, ◌>>◌, give, refuse, require, peek, one, word, byte, command, optional}
-use Rattle.model.specs.Syntax.{Number, Condition, Element, Set, element_count, set_count, Kind, a_set, an_element, a_number, of_set, of_element, Variable, Table, Effect, StepCosts, Transition}
+use Rattle.model.specs.Syntax.{Number, Condition, element_count, set_count, Kind, a_set, an_element, a_number, of_set, of_element, Variable, Table, Effect, StepCosts, Transition}
 use Rattle.model.specs.Expressions as X
 use Rattle.model.specs.Expressions.{declared, element, number, condition}
 use Rattle.model.specs.Commands.{conditions, effect_target, expression_for, effect_on, costs, transition}

@@ -1,5 +1,7 @@
 // Reads transitions: conditions, 08, costs, 09 and 10, and effects, 0A; and conditions and numbers at a position.
 
+#![tactic(auto)]
+
 ghost use Rattle.std.specs.Prelude.{◌≡◌, [], ◌-◌, ◌^◌, ◌≤◌, ◌<◌, length, get_or, drop};
 ghost use Rattle.model.specs.Numbers.{most_variables, most_nesting};
 ghost use Rattle.model.specs.Readers.{optional};
@@ -22,7 +24,7 @@ const MOST_CONDITIONS: usize = 16;
 const MOST_NESTING: usize = 32;
 
 // The variable that an effect sets and the position behind it; or the number of a refusal.
-#[derive(Drop)]
+#[derive(Clone, Copy)]
 pub enum Change {
     Of(usize, usize),
     Refused(u8),

@@ -1,5 +1,7 @@
-// What C calls, whole: the searches and the plan check on the bytes of a model, with the contracts that a host may rely on. Nothing is required of
-// a caller: whatever is wrong with the bytes, the settings or the buffers is told by a refusal.
+// What a host calls, whole: the searches and the plan check on the bytes of a model, with the contracts that it may rely on. Nothing is required of
+// a caller: whatever is wrong with the bytes, the settings or the buffers is told by a refusal. crates/repgypsum_c exports these functions to C.
+
+#![tactic(auto)]
 
 ghost use Rattle.std.specs.Prelude.{◌≡◌, ◌↔◌};
 ghost use Rattle.model.specs.Check as plans;
@@ -14,8 +16,7 @@ use solver::lists::{load_widths, search_widths};
 use solver::load::load;
 
 // The search: its answer in numbers, with the plan at the front of the plan buffer.
-#[unsafe(no_mangle)]
-pub extern "C" fn repgypsum_search(
+pub fn repgypsum_search(
     model: &[u8],
     width: u32,
     limit: u32,
@@ -31,8 +32,7 @@ pub extern "C" fn repgypsum_search(
 
 // The search in the loading profile: no length is given, the model decides on it, and no answer is a length stop (`no_length_stop_loading` among
 // the demands of `Searched`). A model outside the profile is refused with 15.
-#[unsafe(no_mangle)]
-pub extern "C" fn repgypsum_load(
+pub fn repgypsum_load(
     model: &[u8],
     width: u32,
     budget: u32,
@@ -47,8 +47,7 @@ pub extern "C" fn repgypsum_load(
 
 // The search at the widths of a list that the caller lends, strictly rising: the first entry is the width of round 1, the last is W. A list that is
 // empty, too long, not rising or out of range is refused with 16.
-#[unsafe(no_mangle)]
-pub extern "C" fn repgypsum_search_widths(
+pub fn repgypsum_search_widths(
     model: &[u8],
     widths: &[u16],
     limit: u32,
@@ -63,8 +62,7 @@ pub extern "C" fn repgypsum_search_widths(
 }
 
 // The same in the loading profile.
-#[unsafe(no_mangle)]
-pub extern "C" fn repgypsum_load_widths(
+pub fn repgypsum_load_widths(
     model: &[u8],
     widths: &[u16],
     budget: u32,
@@ -78,8 +76,7 @@ pub extern "C" fn repgypsum_load_widths(
 }
 
 // The plan check's answer number: 0 exactly for a plan of the model.
-#[unsafe(no_mangle)]
-pub extern "C" fn repgypsum_check_answer(model: &[u8], plan: &[u8]) -> u8
+pub fn repgypsum_check_answer(model: &[u8], plan: &[u8]) -> u8
     ensures number { result ≡ answer_number (plans.check model.now plan.now) }
     ensures exact { (result ≡ 0) ↔ IsPlan model.now plan.now }
 {
@@ -87,8 +84,7 @@ pub extern "C" fn repgypsum_check_answer(model: &[u8], plan: &[u8]) -> u8
 }
 
 // The plan's cost at high figures, 0 where the answer number is not 0.
-#[unsafe(no_mangle)]
-pub extern "C" fn repgypsum_check_cost(model: &[u8], plan: &[u8]) -> u64
+pub fn repgypsum_check_cost(model: &[u8], plan: &[u8]) -> u64
     ensures { result ≡ answer_cost (plans.check model.now plan.now) }
 {
     let checked = check(model, plan);
@@ -97,8 +93,7 @@ pub extern "C" fn repgypsum_check_cost(model: &[u8], plan: &[u8]) -> u64
 }
 
 // The plan's cost at low figures, 0 where the answer number is not 0.
-#[unsafe(no_mangle)]
-pub extern "C" fn repgypsum_check_low(model: &[u8], plan: &[u8]) -> u64
+pub fn repgypsum_check_low(model: &[u8], plan: &[u8]) -> u64
     ensures { result ≡ answer_low (plans.check model.now plan.now) }
 {
     let checked = check(model, plan);

@@ -9,7 +9,7 @@ use Rattle.laws.specs.Lists.{any, is_empty}
 use Rattle.laws.proofs.Bools.{by_cond}
 use Rattle.model.specs.Values.{trouble}
 use Rattle.model.specs.System.{Costs, System, Origin, no_status, trouble_before, trouble_after}
-use Rattle.search.specs.Answer.{cheapest, no_plan, width_stop, length_stop, budget_spent, contradicted, verdict, refused_by_state, by_input, Answer}
+use Rattle.search.specs.Answer.{cheapest, no_plan, width_stop, length_stop, budget_spent, contradicted, verdict, by_state, by_input, Answer}
 use Rattle.search.specs.Search.{Node, Route, Progress, Round, Ending, decided, refused, Stop, below_best, beats, cut, insert, offer, counted, at_limit, improved_by, layer_end, next_layer, root, fresh_round, round, exhausted, has_plan, tally_of, answer_of, answer, untouched, refused_at_start, search}
 use Rattle.search.specs.Guarantee.{widest}
 use Rattle.search.proofs.Induction.{Changes, RoundEnd, round_holds}
@@ -103,10 +103,10 @@ module _ {S C : Type 0} (K : Costs C) (M : System S C) where
     pub record Reported (a : Answer C) : Type 0 where
       pub expansions_within : a.tally.expansions ≤ budget
       pub at_least_one_round : 1 ≤ a.tally.rounds
-      pub refused_by_system : (t : ℕ) → a.outcome ≡ refused_by_state t → P t
+      pub refused_by_system : (t : ℕ) → a.outcome ≡ by_state t → P t
       pub not_by_input : (t : ℕ) → a.outcome ≡ by_input t → ⊥
       pub no_plan_no_flag : a.outcome ≡ verdict no_plan → a.flag ≡ false
-      pub refused_no_flag : (t : ℕ) → a.outcome ≡ refused_by_state t → a.flag ≡ false
+      pub refused_no_flag : (t : ℕ) → a.outcome ≡ by_state t → a.flag ≡ false
 
     answer_reported : (k width : ℕ) (e : Ending C) (p : Progress C) → 1 ≤ k → Within p → Ends e p.best → Reported (answer_of K M e k width p)
     unfolding answer_of tally_of has_plan
@@ -137,7 +137,7 @@ module _ {S C : Type 0} (K : Costs C) (M : System S C) (o : Origin S C) (budget 
       (λ k w s one i. answer_reported K M P budget k w s.ending s.progress one i.within i.ends) width wider refl
 
   -- the number of a refusal by the state is that of a trouble of the system
-  pub refusals_from_system : (P : ℕ → Type 0) → Troubles M P → (t : ℕ) → (search K M budget limit width wider o).outcome ≡ refused_by_state t → P t
+  pub refusals_from_system : (P : ℕ → Type 0) → Troubles M P → (t : ℕ) → (search K M budget limit width wider o).outcome ≡ by_state t → P t
   refusals_from_system P T = (search_reported P T).refused_by_system
 
   any_trouble : Troubles M (λ e. Unit {0})
@@ -155,5 +155,5 @@ module _ {S C : Type 0} (K : Costs C) (M : System S C) (o : Origin S C) (budget 
   pub plan_of_no_plan : (search K M budget limit width wider o).outcome ≡ verdict no_plan → (search K M budget limit width wider o).flag ≡ false
   plan_of_no_plan = (search_reported (λ e. Unit {0}) any_trouble).no_plan_no_flag
 
-  pub refusal_has_no_plan : (t : ℕ) → (search K M budget limit width wider o).outcome ≡ refused_by_state t → (search K M budget limit width wider o).flag ≡ false
+  pub refusal_has_no_plan : (t : ℕ) → (search K M budget limit width wider o).outcome ≡ by_state t → (search K M budget limit width wider o).flag ≡ false
   refusal_has_no_plan = (search_reported (λ e. Unit {0}) any_trouble).refused_no_flag

@@ -1,8 +1,8 @@
 -- Low lies strictly below the best, in every round and behind a stop; and from any point of a run the best only becomes cheaper
 -- and low only rises. Both are kept by every single change, whatever the budget; so a stopped run's bound is below its plan's cost.
-use Prim.Native.Nat.{ℕ, ◌≤◌}
+use Prim.Native.Nat.{ℕ}
 use mathlib.Core.Path.{◌≡◌, refl}
-use mathlib.Core.Bool.{Bool, true, false, false≢true}
+use mathlib.Core.Bool.{Bool, true, false, cond, false≢true}
 use mathlib.Core.List.{List, [], ◌∷◌}
 use mathlib.Core.Option.{Option, none, some}
 use Rattle.laws.specs.Lists.{All, filter, is_empty}
@@ -99,7 +99,7 @@ module _ {S C : Type 0} (K : Costs C) (L : CostLaws K) (M : System S C) where
   least_has : (P : C → Type 0) (a : C) (ns : List (Node S C)) → P a → All (λ (n : Node S C). P n.f) ns → P (least_f K M a ns)
   unfolding least_f
   least_has P a [] h hs = h
-  least_has P a (n ∷ ns) h hs = least_has P _ ns (by_cond P (K.at_most a n.f) (λ _. h) (λ _. hs.0)) hs.1
+  least_has P a (n ∷ ns) h hs = least_has P (cond (K.at_most a n.f) a n.f) ns (by_cond P (K.at_most a n.f) (λ _. h) (λ _. hs.0)) hs.1
 
   raised_has : (P : C → Type 0) (width_mark : Bool) (l : List (Node S C)) (low : C) → P low → All (λ (n : Node S C). P n.f) l → P (raised_low K M width_mark l low)
   unfolding raised_low

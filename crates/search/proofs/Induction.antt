@@ -86,7 +86,7 @@ module _ {S C : Type 0} (K : Costs C) (M : System S C) (budget width : ℕ) wher
       expand_holds {k} {left} {n} {ns} {r} zero t e p = let last : t ≡ M.transitions = omega arith in changes.expansion_ends (subst (λ x. P k (suc left) (expanding n x ns) r) last p)
       expand_holds {k} {left} {n} {ns} {r} (suc j) t e p =
           holds_and_then (P k (suc left) (expanding n (suc t) ns)) (P k (suc left) (taking ns)) Q (tried K M width n t (M.move n.state t) r) (λ r'. expand K M width j (suc t) n r') (tried_holds (M.move n.state t) refl (omega arith) p)
-          (λ r' p'. expand_holds j (suc t) (omega arith) p')
+          (λ r' p'. expand_holds {r = r'} j (suc t) (omega arith) p')
 
       advance_holds : {k : ℕ} {n : Node S C} {ns : List (Node S C)} {r : Round S C} (left : ℕ) → M.status n.state ≡ unfinished → P k left (taking (n ∷ ns)) r → Holds (P k left (taking ns)) Q (advance K M budget width left n r)
       unfolding advance
@@ -114,7 +114,7 @@ module _ {S C : Type 0} (K : Costs C) (M : System S C) (budget width : ℕ) wher
       layer_holds [] p = p
       layer_holds {k} {left} {r} (n ∷ ns) p =
           holds_and_then (P k left (taking ns)) (P k left (taking [])) Q (visit K M budget width left (M.status n.state) n r) (λ r'. layer K M budget width left ns r') (visit_holds (M.status n.state) refl p)
-          (λ r' p'. layer_holds ns p')
+          (λ r' p'. layer_holds {r = r'} ns p')
 
       unless_ended_holds : {k left : ℕ} {r : Round S C} (next : Round S C → Result (Round S C) C) → P k left (taking []) r → ((is_empty r.kept || r.improved) ≡ false → Holds (RoundEnd P) Q (next r)) → Holds (RoundEnd P) Q (unless_ended K M r next)
       unfolding unless_ended
@@ -131,7 +131,7 @@ module _ {S C : Type 0} (K : Costs C) (M : System S C) (budget width : ℕ) wher
           (λ r' p'. record { depth = k; left = zero; holds = changes.layer_ends p'; ended = inl refl })
       layers_hold {k} {ns} {r} (suc left) p =
           holds_and_then (P k (suc left) (taking [])) (RoundEnd P) Q (layer K M budget width (suc left) ns r) (λ r'. unless_ended K M (layer_end K M r') (λ x. layers K M budget width left x.kept (next_layer K M x))) (layer_holds ns p)
-          (λ r' p'. unless_ended_holds (λ x. layers K M budget width left x.kept (next_layer K M x)) (changes.layer_ends p') (λ e. layers_hold left (changes.next_layer_lem (changes.layer_ends p') e)))
+          (λ r' p'. unless_ended_holds (λ x. layers K M budget width left x.kept (next_layer K M x)) (changes.layer_ends p') (λ e. layers_hold {k = suc k} {ns = (layer_end K M r').kept} {r = next_layer K M (layer_end K M r')} left (changes.next_layer_lem (changes.layer_ends p') e)))
 
       -- the whole round
       pub round_holds : {limit : ℕ} {n : Node S C} (p : Progress C) → P 0 limit (taking (n ∷ [])) (fresh_round K M p) → Holds (RoundEnd P) Q (round K M budget limit width n p)

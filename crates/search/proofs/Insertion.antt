@@ -29,6 +29,7 @@ module _ {S C : Type 0} (K : Costs C) (M : System S C) where
 
   some_other_lem : {P : Node S C → Type 0} (n : Node S C) (l : List (Node S C)) → Some P l → Some P (place K M n l)
   unfolding place
+  some_other_lem {P = P} n [] x' = elim x' [ ]
   some_other_lem {P} n (m ∷ l) (here h) = by_cond (Some P) (before K M n m) (λ e. there (here h)) (λ e. here h)
   some_other_lem {P} n (m ∷ l) (there s) = by_cond (Some P) (before K M n m) (λ e. there (there s)) (λ e. there (some_other_lem n l s))
 

@@ -23,12 +23,13 @@ module _ {S C : Type 0} (K : Costs C) (L : CostLaws K) (M : System S C) where
   least_first : {a c : C} (ns : List (Node S C)) → K.at_most a c ≡ true → K.at_most (least_f K M a ns) c ≡ true
   unfolding least_f
   least_first [] h = h
-  least_first {a} {c} (n ∷ ns) h = least_first ns (by_cond (λ x. K.at_most x c ≡ true) (K.at_most a n.f) (λ e. h) (λ e. L.transitive _ _ _ (L.total _ _ e) h))
+  least_first {a} {c} (n ∷ ns) h = least_first {a = cond (K.at_most a n.f) a n.f} ns (by_cond (λ x. K.at_most x c ≡ true) (K.at_most a n.f) (λ e. h) (λ e. L.transitive _ _ _ (L.total _ _ e) h))
 
   least_some : {c : C} (a : C) (ns : List (Node S C)) → Some (λ n. K.at_most n.f c ≡ true) ns → K.at_most (least_f K M a ns) c ≡ true
   unfolding least_f
-  least_some {c} a (n ∷ ns) (here h) = least_first ns (by_cond (λ x. K.at_most x c ≡ true) (K.at_most a n.f) (λ e. L.transitive _ _ _ e h) (λ e. h))
-  least_some a (n ∷ ns) (there s) = least_some _ ns s
+  least_some {c = c} a [] x' = elim x' [ ]
+  least_some {c} a (n ∷ ns) (here h) = least_first {a = cond (K.at_most a n.f) a n.f} ns (by_cond (λ x. K.at_most x c ≡ true) (K.at_most a n.f) (λ e. L.transitive _ _ _ e h) (λ e. h))
+  least_some a (n ∷ ns) (there s) = least_some (cond (K.at_most a n.f) a n.f) ns s
 
   -- low stays at most c if, where it rises, the f of one of those that remain is at most c
   raised_below : {low c : C} (width_mark : Bool) (l : List (Node S C)) → K.at_most low c ≡ true → (width_mark ≡ false → is_empty l ≡ false → Some (λ n. K.at_most n.f c ≡ true) l) → K.at_most (raised_low K M width_mark l low) c ≡ true

@@ -12,7 +12,7 @@ use lib.Seq.{take_at}
 use borrow.Author.Tests.{leb-true, le-leb}
 use Rattle.laws.proofs.Bools.{and_both}
 use Rattle.model.specs.declared.Cost.{Cost}
-use Rattle.model.specs.Numbers.{range_end, most_model_bytes, most_steps, model_too_long, bad_setting, bad_widths, too_little_lent, not_aplan}
+use Rattle.model.specs.Numbers.{range_end, most_model_bytes, most_steps, model_too_long, bad_setting, bad_widths, too_little_lent, not_a_plan}
 use Rattle.model.specs.Values.{Value, value, trouble}
 use Rattle.model.specs.Readers.{Read, read, refused}
 use Rattle.model.specs.Syntax.{Model}
@@ -30,7 +30,7 @@ use Rattle.model.specs.Profile.{in_profile, loading_length}
 use Rattle.model.proofs.Profile.{loading_length_some, loading_length_within, none_open_in_profile}
 use Rattle.model.proofs.Troubles.{admits_trouble, status_trouble, move_trouble_before, move_trouble_after, bound_trouble, CheckRefusal, check_numbers}
 use Rattle.model.proofs.PlanCheck.{check_exact, broken_has_no_plan, check_of_broken_target, check_of_target_trouble}
-use Rattle.search.specs.Answer.{Verdict, cheapest, no_plan, width_stop, length_stop, contradicted, Outcome, verdict, refused_by_state, by_input, Answer, buffer_after, handed_back}
+use Rattle.search.specs.Answer.{Verdict, cheapest, no_plan, width_stop, length_stop, contradicted, Outcome, verdict, by_state, by_input, Answer, buffer_after, handed_back}
 use Rattle.search.specs.Guarantee.{Stopped, TroubleAt, in_start, in_base_cases, in_transition, in_constraints, in_bound, Guarantee}
 use Rattle.search.specs.Demands.{Ends, with_verdict, refused_by_state, refused_high_below_low, PlanAt, DeclarationsTrue, LayersFit, Marked, Demands}
 use Rattle.search.specs.Search.{search_within}
@@ -45,14 +45,14 @@ use Rattle.search.proofs.Counts.{Troubles, expansions_within_budget, refusals_fr
 
 -- ---- demand 1
 
-ends_at_state : {q : Settings} {t : ℕ} → StateTrouble t → Ends q (refused_by_state t)
+ends_at_state : {q : Settings} {t : ℕ} → StateTrouble t → Ends q (by_state t)
 ends_at_state (by_value h k) = refused_by_state h k
 ends_at_state (by_range e) = rw e refused_high_below_low
 
 search_ends : (m : Model) (q : Settings) (x : Outcome) → (search_model m q).outcome ≡ x → Ends q x
 unfolding search_model
 search_ends m q (verdict v) e = with_verdict
-search_ends m q (refused_by_state t) e =
+search_ends m q (by_state t) e =
     let known : Troubles (system_of range_end m) StateTrouble =
     record {
       of_admits = λ s n e. admits_trouble range_end m s e;
@@ -277,7 +277,7 @@ module _ (most : ℕ) (bytes : List ℕ) (q : Settings) (l : Lent) (m : Model) (
       let given = a_plan_given_is_a_plan e in
       subst (λ c. PlanAt m (run most bytes q l).steps c) (sym (figures_are (run most bytes q l).cost (plan_no_moves range_end m given.plan))) given
 
-  trouble_shown : (t : ℕ) → (run most bytes q l).outcome ≡ refused_by_state t → TroubleAt (costs_of m.rule) (system_of range_end m) (origin_of m) t (run most bytes q l).steps (shown (run most bytes q l)).cost
+  trouble_shown : (t : ℕ) → (run most bytes q l).outcome ≡ by_state t → TroubleAt (costs_of m.rule) (system_of range_end m) (origin_of m) t (run most bytes q l).steps (shown (run most bytes q l)).cost
   unfolding shown
   trouble_shown t e =
       let there = run_refusal_path most bytes q l m n reads e in
@@ -321,7 +321,7 @@ module _ (most : ℕ) (bytes : List ℕ) (q : Settings) (l : Lent) (m : Model) (
 
   -- trouble in one: a refusal by the state at the target, its fields the same but for the number
   pub target_trouble_refused : {t : ℕ} → target_admitted m ≡ trouble t
-      → run most bytes q l ≡ record { outcome = refused_by_state t; flag = false; cost = free; bound = free; steps = []; tally = record { expansions = 0; rounds = 1; width = first_width q.beam } }
+      → run most bytes q l ≡ record { outcome = by_state t; flag = false; cost = free; bound = free; steps = []; tally = record { expansions = 0; rounds = 1; width = first_width q.beam } }
   unfolding search_model origin_of costs_of
   target_trouble_refused e = run_accepted most bytes q l few x ∙ troubled_start (costs_of m.rule) (system_of range_end m) (origin_of m) q.budget (limit_of q.form m) (first_width q.beam) (wider_than q.beam) e
 
@@ -336,7 +336,7 @@ module _ (most : ℕ) (bytes : List ℕ) (q : Settings) (l : Lent) (m : Model) (
 
 module _ (bytes plan : List ℕ) (m : Model) (n : ℕ) (reads : model bytes ≡ read m n) (few : length bytes ≤ most_model_bytes) (short : length plan ≤ most_steps) where
   -- "the plan check gives 14", for every plan; trouble keeps its number
-  pub plan_check_broken : target_admitted m ≡ value false → check bytes plan ≡ trouble not_aplan
+  pub plan_check_broken : target_admitted m ≡ value false → check bytes plan ≡ trouble not_a_plan
   plan_check_broken e = check_of_broken_target bytes plan m n reads few short e
 
   pub plan_check_target_trouble : {t : ℕ} → target_admitted m ≡ trouble t → check bytes plan ≡ trouble t

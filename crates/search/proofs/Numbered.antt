@@ -4,7 +4,7 @@ use mathlib.Core.Bool.{cond}
 use native.Mathlib.Omega.{arith}
 use borrow.Author.Tests.{le-leb, lt-leb, ne_eqb}
 use Rattle.model.specs.Numbers.{high_below_low}
-use Rattle.search.specs.Answer.{Verdict, cheapest, no_plan, width_stop, length_stop, budget_spent, contradicted, Outcome, verdict, refused_by_state, by_input, verdict_number, outcome_number, is_refusal, verdict_numbered, outcome_numbered}
+use Rattle.search.specs.Answer.{Verdict, cheapest, no_plan, width_stop, length_stop, budget_spent, contradicted, Outcome, verdict, by_state, by_input, verdict_number, outcome_number, is_refusal, verdict_numbered, outcome_numbered}
 use Rattle.search.specs.Demands.{Ends, refused_by_state, refused_high_below_low, refused_for_input, refused_outside_profile, refused_bad_widths}
 use Rattle.search.specs.Run.{Settings}
 
@@ -20,8 +20,8 @@ verdict_back contradicted = refl
 pub outcome_back : {q : Settings} (o : Outcome) → Ends q o → outcome_numbered (cond (is_refusal o) 1 0) (outcome_number o) ≡ o
 unfolding outcome_numbered is_refusal outcome_number
 outcome_back (verdict v) e = ap verdict (verdict_back v)
-outcome_back (refused_by_state t) (refused_by_state a b) = rw (le-leb 11 t a, le-leb t 13 b)
-outcome_back (refused_by_state t) refused_high_below_low = refl
+outcome_back (by_state t) (refused_by_state a b) = rw (le-leb 11 t a, le-leb t 13 b)
+outcome_back (by_state t) refused_high_below_low = refl
 outcome_back (by_input t) (refused_for_input a b) = rw (lt-leb 11 t (omega arith), ne_eqb t high_below_low (λ e. omega arith))
 outcome_back (by_input t) (refused_outside_profile f) = refl
 outcome_back (by_input t) (refused_bad_widths ws b r) = refl

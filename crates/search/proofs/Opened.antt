@@ -60,7 +60,7 @@ told_check v = checked (answer_number v) (answer_cost v) (answer_low v)
 
 unfoldable pub opened : Asked → Told
 unfolding of_lists.any of_lists.filter of_lists.is_empty of_hex.hex of_hex.zeros ◌bind_values◌ of_values.in_range of_values.floor_by of_values.floor_quotient
-    of_sets.is_member_lem of_sets.union of_sets.intersection of_sets.difference of_sets.complement of_sets.is_subset of_sets.cons_if of_sets.members_from
+    of_sets.is_member of_sets.union of_sets.intersection of_sets.difference of_sets.complement of_sets.is_subset of_sets.cons_if of_sets.members_from
     of_sets.members of_syntax.element_count of_syntax.set_count of_syntax.table_at of_readers.after of_readers.continue ◌bind_readers◌ ◌then_readers◌
     of_readers.give of_readers.refuse of_readers.require of_readers.peek of_readers.byte of_readers.word of_readers.signed of_readers.one of_readers.two
     of_readers.three of_readers.integer of_readers.command of_readers.optional of_readers.many of_readers.up_to of_expressions.among of_expressions.begins_expression
@@ -69,7 +69,7 @@ unfolding of_lists.any of_lists.filter of_lists.is_empty of_hex.hex of_hex.zeros
     of_expressions.in_table of_expressions.element of_expressions.set of_expressions.number of_commands.rule_of of_commands.cost_rule of_commands.preference_of
     of_commands.set_variable of_commands.element_variable of_commands.number_variable of_commands.variable_of of_commands.variables of_commands.entries
     of_commands.sides of_commands.table_of of_commands.tables of_commands.conditions of_commands.effect_target of_commands.expression_for of_commands.effect_on
-    of_commands.costs of_commands.transition of_commands.nothing_more of_commands.model of_meaning.number_at of_meaning.natural_at of_meaning.element_value of_meaning.set_value_lem
+    of_commands.costs of_commands.transition of_commands.nothing_more of_commands.model of_meaning.number_at of_meaning.natural_at of_meaning.element_value of_meaning.set_value
     of_meaning.equal_z of_meaning.entry_at of_meaning.sum_over of_meaning.two of_meaning.fit of_meaning.expression_value of_meaning.all_hold of_meaning.some_holds
     of_meaning.number_value of_costs.at_most of_costs.join of_costs.join_moves of_costs.combine of_costs.costs_of of_steps.target of_steps.status_of of_steps.cost_of of_steps.not_below of_steps.no_worse of_steps.none_worse of_steps.raise
     of_steps.admits of_steps.status of_steps.effects of_steps.with_high of_steps.step_cost of_steps.attempt of_steps.constrained of_steps.move_of of_steps.move_by of_steps.move of_steps.greatest of_steps.bound_hours of_steps.bound

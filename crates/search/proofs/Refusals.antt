@@ -15,7 +15,7 @@ use Rattle.model.specs.Costs.{costs_of}
 use Rattle.model.specs.Steps.{system_of, origin_of}
 use Rattle.model.proofs.Costs.{cost_laws}
 use Rattle.model.proofs.Dominance.{dominates_self}
-use Rattle.search.specs.Answer.{refused_by_state, Answer}
+use Rattle.search.specs.Answer.{by_state, Answer}
 use Rattle.search.specs.Search.{Progress, Ending, decided, refused, answer_of, answer, search}
 use Rattle.search.specs.Guarantee.{widest, TroubleAt}
 use Rattle.search.specs.Run.{Settings, Lent, first_width, wider_than, limit_of, refused_by_input, search_model, run}
@@ -26,7 +26,7 @@ use Rattle.search.proofs.Source.{run_holds}
 
 -- of an answer that is a refusal by the state
 abbrev pub PathToTrouble : {S C : Type 0} → Costs C → System S C → Origin S C → Answer C → Type 0
-PathToTrouble K M o a = (t : ℕ) → a.outcome ≡ refused_by_state t → TroubleAt K M o t a.steps a.cost
+PathToTrouble K M o a = (t : ℕ) → a.outcome ≡ by_state t → TroubleAt K M o t a.steps a.cost
 
 module _ {S C : Type 0} (K : Costs C) (M : System S C) (o : Origin S C) (limit W : ℕ) where
   answer_path : (k width : ℕ) (e : Ending C) (p : Progress C) → Claim K M o limit W e p.best → PathToTrouble K M o (answer_of K M e k width p)
@@ -36,7 +36,7 @@ module _ {S C : Type 0} (K : Costs C) (M : System S C) (o : Origin S C) (limit W
 
 -- the steps of a refusal by the state lead to where the trouble is, at the cost stated
 pub refusal_path : {S C : Type 0} (K : Costs C) (L : CostLaws K) (M : System S C) (self : (s : S) → M.dominates s s ≡ true) (o : Origin S C) (budget limit width : ℕ) (wider : List ℕ) {t : ℕ}
-    → (search K M budget limit width wider o).outcome ≡ refused_by_state t → TroubleAt K M o t (search K M budget limit width wider o).steps (search K M budget limit width wider o).cost
+    → (search K M budget limit width wider o).outcome ≡ by_state t → TroubleAt K M o t (search K M budget limit width wider o).steps (search K M budget limit width wider o).cost
 unfolding answer
 refusal_path K L M self o budget limit width wider {t} =
     let W : ℕ = widest width wider in
@@ -54,6 +54,6 @@ module _ (most : ℕ) (bytes : List ℕ) (q : Settings) (l : Lent) (m : Model) (
   unfolding search_model
   search_path t e = refusal_path (costs_of m.rule) (cost_laws m.rule) (system_of range_end m) (dominates_self range_end m) (origin_of m) q.budget (limit_of q.form m) (first_width q.beam) (wider_than q.beam) e
 
-  pub run_refusal_path : {t : ℕ} → (run most bytes q l).outcome ≡ refused_by_state t → TroubleAt (costs_of m.rule) (system_of range_end m) (origin_of m) t (run most bytes q l).steps (run most bytes q l).cost
+  pub run_refusal_path : {t : ℕ} → (run most bytes q l).outcome ≡ by_state t → TroubleAt (costs_of m.rule) (system_of range_end m) (origin_of m) t (run most bytes q l).steps (run most bytes q l).cost
   run_refusal_path {t} =
       run_holds bytes q l m n reads (PathToTrouble (costs_of m.rule) (system_of range_end m) (origin_of m)) (input_path (costs_of m.rule) (system_of range_end m) (origin_of m)) (λ _. search_path) most t

@@ -19,7 +19,7 @@ use Rattle.model.specs.Plans.{first, PlanFrom, arrived}
 use Rattle.model.proofs.Costs.{hours_laws}
 use Rattle.model.proofs.Reach.{here as Reach-here}
 use Rattle.model.proofs.PlanCheck.{broken_has_no_plan}
-use Rattle.search.specs.Answer.{Verdict, cheapest, no_plan, width_stop, length_stop, contradicted, verdict, refused_by_state, Answer}
+use Rattle.search.specs.Answer.{Verdict, cheapest, no_plan, width_stop, length_stop, contradicted, verdict, by_state, Answer}
 use Rattle.search.specs.Search.{Node, Route, Progress, Round, Ending, decided, refused, root, fresh_round, round, exhausted, has_plan, best_cost, best_steps, bound_at, answer_of, answer, untouched, refused_at_start, search}
 use Rattle.search.specs.Guarantee.{Stopped, by_width, by_length, by_budget, widest, OfEveryPlan, in_start, in_bound, Guarantee, Fits}
 use Rattle.search.proofs.Induction.{taking, Changes, RoundEnd, round_holds}
@@ -163,10 +163,10 @@ module _ {S C : Type 0} (K : Costs C) (M : System S C) (o : Origin S C) (limit W
   stopped_bound by_length p = refl
   stopped_bound by_budget p = refl
 
-  refused_not_stopped : {t : ℕ} → Stopped (refused_by_state t) → ⊥
+  refused_not_stopped : {t : ℕ} → Stopped (by_state t) → ⊥
   refused_not_stopped s = elim s [ ]
 
-  refused_no_verdict : {t : ℕ} {v : Verdict} {X : Type 0} → refused_by_state t ≡ verdict v → X
+  refused_no_verdict : {t : ℕ} {v : Verdict} {X : Type 0} → by_state t ≡ verdict v → X
   refused_no_verdict e = let z : ◌≡◌ {A = ℕ} 0 1 = cc in absurd (omega arith)
 
   answer_guarantee : (k width : ℕ) (e : Ending C) (p : Progress C) → Supported K M o limit p → Claim K M o limit W e p.best → Guarantee K M o W limit (answer_of K M e k width p)

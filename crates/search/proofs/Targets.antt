@@ -6,7 +6,7 @@ use mathlib.Core.Bool.{true, false}
 use mathlib.Core.List.{List, []}
 use Rattle.model.specs.Values.{value, trouble}
 use Rattle.model.specs.System.{Costs, System, Origin}
-use Rattle.search.specs.Answer.{no_plan, verdict, refused_by_state}
+use Rattle.search.specs.Answer.{no_plan, verdict, by_state}
 use Rattle.search.specs.Search.{has_plan, best_cost, best_steps, bound_at, tally_of, answer_of, answer, untouched, refused_at_start, begin, enter, search_within, search}
 
 module _ {S C : Type 0} (K : Costs C) (M : System S C) (o : Origin S C) (budget limit width : ℕ) (wider : List ℕ) where
@@ -18,12 +18,12 @@ module _ {S C : Type 0} (K : Costs C) (M : System S C) (o : Origin S C) (budget 
 
   -- trouble is a refusal by the state, with the empty path
   pub troubled_start : {t : ℕ} → M.admits o.start ≡ trouble t → search K M budget limit width wider o
-      ≡ record { outcome = refused_by_state t; flag = false; cost = o.spent; bound = K.empty; steps = []; tally = record { expansions = 0; rounds = 1; width = width } }
+      ≡ record { outcome = by_state t; flag = false; cost = o.spent; bound = K.empty; steps = []; tally = record { expansions = 0; rounds = 1; width = width } }
   unfolding search search_within enter answer answer_of tally_of refused_at_start untouched
   troubled_start e = rw e
 
   -- trouble in h is the same refusal, behind constraints that are met
   pub unbounded_start : {t : ℕ} → M.admits o.start ≡ value true → M.bound o.start ≡ trouble t → search K M budget limit width wider o
-      ≡ record { outcome = refused_by_state t; flag = false; cost = o.spent; bound = K.empty; steps = []; tally = record { expansions = 0; rounds = 1; width = width } }
+      ≡ record { outcome = by_state t; flag = false; cost = o.spent; bound = K.empty; steps = []; tally = record { expansions = 0; rounds = 1; width = width } }
   unfolding search search_within enter begin answer answer_of tally_of refused_at_start untouched
   unbounded_start a e = rw (a, e)

@@ -9,7 +9,7 @@ pub data Verdict : Type 0 where
 -- a verdict; or refused by the state, or by the input, with the refusal's number
 pub data Outcome : Type 0 where
   verdict : Verdict → Outcome
-  refused_by_state : ℕ → Outcome
+  by_state : ℕ → Outcome
   by_input : ℕ → Outcome
 
 unfoldable pub verdict_number : Verdict → ℕ
@@ -23,12 +23,12 @@ verdict_number contradicted = 5
 -- "The verdict field holds the number"
 unfoldable pub outcome_number : Outcome → ℕ
 outcome_number (verdict v) = verdict_number v
-outcome_number (refused_by_state t) = t
+outcome_number (by_state t) = t
 outcome_number (by_input t) = t
 
 unfoldable pub is_refusal : Outcome → Bool
 is_refusal (verdict v) = false
-is_refusal (refused_by_state t) = true
+is_refusal (by_state t) = true
 is_refusal (by_input t) = true
 
 -- the verdict of a number, and the outcome that a number stands for, given whether it is a refusal's: 11 to 13 and 17 are by the state, the
@@ -37,7 +37,7 @@ unfoldable pub verdict_numbered : ℕ → Verdict
 verdict_numbered n = get_or (cheapest ∷ no_plan ∷ width_stop ∷ length_stop ∷ budget_spent ∷ []) n contradicted
 
 unfoldable pub outcome_numbered : (refused number : ℕ) → Outcome
-outcome_numbered r n = cond (eqb r 0) (verdict (verdict_numbered n)) (cond ((leb 11 n && leb n 13) || eqb n high_below_low) (refused_by_state n) (by_input n))
+outcome_numbered r n = cond (eqb r 0) (verdict (verdict_numbered n)) (cond ((leb 11 n && leb n 13) || eqb n high_below_low) (by_state n) (by_input n))
 
 -- "One tally record of expansions, rounds and width"
 pub record Tally : Type 0 where

@@ -9,7 +9,7 @@ use Rattle.model.specs.Costs.{costs_of}
 use Rattle.model.specs.Steps.{target, system_of, origin_of}
 use Rattle.model.specs.Real.{RealHours}
 use Rattle.model.specs.declared.Cost.{Cost}
-use Rattle.search.specs.Answer.{Verdict, cheapest, no_plan, width_stop, length_stop, budget_spent, contradicted, Outcome, verdict, refused_by_state, by_input, Answer}
+use Rattle.search.specs.Answer.{Verdict, cheapest, no_plan, width_stop, length_stop, budget_spent, contradicted, Outcome, verdict, by_state, by_input, Answer}
 use Rattle.search.specs.Guarantee.{Stopped, TroubleAt, Fits}
 use Rattle.search.specs.Run.{listed, plain, loading, Settings, rising, widest_of, limit_of}
 
@@ -17,8 +17,8 @@ use Rattle.search.specs.Run.{listed, plain, loading, Settings, rising, widest_of
 -- list of widths that does not rise, and its 17 at a state
 pub data Ends (q : Settings) : Outcome → Type 0 where
   with_verdict : {v : Verdict} → Ends q (verdict v)
-  refused_by_state : {t : ℕ} → 11 ≤ t → t ≤ 13 → Ends q (refused_by_state t)
-  refused_high_below_low : Ends q (refused_by_state high_below_low)
+  refused_by_state : {t : ℕ} → 11 ≤ t → t ≤ 13 → Ends q (by_state t)
+  refused_high_below_low : Ends q (by_state high_below_low)
   refused_for_input : {t : ℕ} → 1 ≤ t → t ≤ 9 → Ends q (by_input t)
   refused_outside_profile : q.form ≡ loading → Ends q (by_input outside_profile)
   refused_bad_widths : (ws : List ℕ) → q.beam ≡ listed ws → rising ws ≡ false → Ends q (by_input bad_widths)
@@ -60,7 +60,7 @@ pub record Marked (m : Model) (q : Settings) (a : Answer Cost) : Type 0 where
   pub no_width_stop : LayersFit m q → a.outcome ≡ verdict width_stop → ⊥
   pub no_length_stop : LayersFit m q → a.outcome ≡ verdict length_stop → ⊥
   -- "the plan buffer, length and cost give the path to the state evaluated"
-  pub trouble_there : (t : ℕ) → a.outcome ≡ refused_by_state t → TroubleAt (costs_of m.rule) (system_of range_end m) (origin_of m) t a.steps a.cost
+  pub trouble_there : (t : ℕ) → a.outcome ≡ by_state t → TroubleAt (costs_of m.rule) (system_of range_end m) (origin_of m) t a.steps a.cost
 
 -- the demands on the answer to a run of these bytes with these settings
 pub record Demands (bytes : List ℕ) (q : Settings) (a : Answer Cost) : Type 0 where

@@ -6,7 +6,7 @@ use Rattle.std.proofs.Math.Option.{Option, none, some}
 use Rattle.laws.specs.Lists.{any, filter, is_empty}
 use Rattle.model.specs.Values.{Value, value, trouble}
 use Rattle.model.specs.System.{Costs, System, Origin, Status, base, unfinished, no_status, Move, blocked, moved, trouble_before, trouble_after}
-use Rattle.search.specs.Answer.{Verdict, cheapest, no_plan, width_stop, length_stop, budget_spent, contradicted, verdict, refused_by_state, Tally, Answer}
+use Rattle.search.specs.Answer.{Verdict, cheapest, no_plan, width_stop, length_stop, budget_spent, contradicted, verdict, by_state, Tally, Answer}
 
 -- g: the path's cost. h: the bound. f: g combined with h. path: transition numbers, the last step first
 pub record Node (S C : Type 0) : Type 0 where
@@ -254,7 +254,7 @@ module _ {S C : Type 0} (K : Costs C) (M : System S C) where
   -- at a refusal "plan flag 0, the plan buffer, length and cost give the path to the state evaluated"; "tallies and bound stand"
   unfoldable pub answer_of : Ending C → (rounds width : ℕ) → Progress C → Answer C
   answer_of (decided v) rounds width p = record { outcome = verdict v; flag = has_plan p.best; cost = best_cost p.best; bound = bound_at v p; steps = best_steps p.best; tally = tally_of rounds width p }
-  answer_of (refused t route) rounds width p = record { outcome = refused_by_state t; flag = false; cost = route.cost; bound = p.low; steps = reverse route.path; tally = tally_of rounds width p }
+  answer_of (refused t route) rounds width p = record { outcome = by_state t; flag = false; cost = route.cost; bound = p.low; steps = reverse route.path; tally = tally_of rounds width p }
 
   unfoldable pub answer : (rounds width : ℕ) → Stop C → Answer C
   answer rounds width s = answer_of s.ending rounds width s.progress

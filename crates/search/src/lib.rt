@@ -1,5 +1,7 @@
 // The upper layer: the search. Definitions are in specs/.
 
+#![tactic(auto)]
+
 ghost use Rattle.std.specs.Prelude.{◌≡◌, leb};
 ghost use Rattle.model.specs.Numbers.{most_steps};
 

@@ -5,11 +5,9 @@ use mathlib.Core.Bool.{Bool, true, false, cond, ◌||◌, or_assoc}
 use mathlib.Core.List.{List, [], ◌∷◌, map}
 use native.Mathlib.Nat.{add-zero}
 use native.Mathlib.Omega.{arith}
-use native.Mathlib.Numerals.{add-one}
 use lib.Bits.{bit_and}
 use lib.Count.{count_trailing_zeros}
 use lib.ListN.{length}
-use Rattle.model.specs.System.{blocked}
 use Rattle.model.specs.Sets.{cons_if, members_from, members}
 use Rattle.model.specs.Meaning.{State}
 use Rattle.model.specs.Steps.{system_of}
@@ -17,7 +15,7 @@ use Rattle.model.specs.declared.Cost.{Cost}
 use Rattle.words.proofs.Members.{from_step, members_within, members_lowest}
 use Rattle.search.specs.Search as definition
 use Rattle.search.specs.Search.{Node, Round, Result, on, over, and_then}
-use Rattle.steps.specs.InBytes.{Outlined, StateRoom, state_in, system_in}
+use Rattle.steps.specs.InBytes.{Outlined, StateRoom, system_in}
 use Rattle.steps.specs.Follow.{costs_in}
 use Rattle.steps.specs.Allowed.{passes_at, allowed_from, Allowed}
 use Rattle.steps.proofs.Allowing.{allowed_below}

@@ -10,7 +10,7 @@ use lib.ListN.{length, take, drop, get_or, set, length-take, length-append, leng
 use lib.Seq.{ext_get_or, take_at, take_all, get_or-take, get_or-drop, drop-length, get_or-set_same, get_or-set_other}
 use Rattle.beam_order.specs.Slots.{slot_words, back_at, words_in, backs_at, next_at, next_end, next_order_at}
 use Rattle.beam_order.proofs.Arrays.{word_in}
-use Rattle.beam.specs.Nodes.{node_of, node_in, node_at_lem}
+use Rattle.beam.specs.Nodes.{node_of, node_in, node_at}
 use Rattle.beam.specs.Layers.{part, nodes_of, Indexed, Layer, Emptied}
 use Rattle.beam.proofs.Written.{slot_first, words_long}
 use Rattle.beam.proofs.Whole.{put, part_length, part_at, put_length, put_in, put_first, put_behind}
@@ -215,8 +215,8 @@ module _ (words₀ : List ℕ) {w n : ℕ} (la : Layer w n (next_of w words₀))
       let few : n ≤ w = few_in la in
       rw (g.rest (next_order_at * w + i) (omega arith) (omega arith)) (place_inside i h)
 
-node_same : (bytes : List ℕ) (path parent : ℕ → List ℕ) (j : ℕ) (ws us : List ℕ) → ws ≡ us → path j ≡ (get_or us back_at 0 % 256) ∷ parent (get_or us back_at 0 / 256) → node_at_lem bytes path j ws ≡ node_of bytes parent us
-unfolding node_at_lem node_of
+node_same : (bytes : List ℕ) (path parent : ℕ → List ℕ) (j : ℕ) (ws us : List ℕ) → ws ≡ us → path j ≡ (get_or us back_at 0 % 256) ∷ parent (get_or us back_at 0 / 256) → node_at bytes path j ws ≡ node_of bytes parent us
+unfolding node_at node_of
 node_same bytes path parent j ws us e p = rw (e, p)
 
 module _ (words₀ words ys : List ℕ) (w k n : ℕ) (pos : 0 < w) (la : Layer w n (next_of w words₀)) (long : backs_at * w + (k + 2) * w ≤ length words₀)
@@ -259,7 +259,7 @@ module _ (words₀ words ys : List ℕ) (w k n : ℕ) (pos : 0 < w) (la : Layer 
   unfolding path_by
   path_taken j h = rw (back_taken j h, parents)
 
-  node_taken : (bytes : List ℕ) (j : ℕ) → j < n → node_at_lem bytes (path_by after w (suc k)) j (words_in after j) ≡ node_in bytes (path_by words₀ w k) (next_of w words₀) (get_or (next_of w words₀) (next_at * w + j) 0)
+  node_taken : (bytes : List ℕ) (j : ℕ) → j < n → node_at bytes (path_by after w (suc k)) j (words_in after j) ≡ node_in bytes (path_by words₀ w k) (next_of w words₀) (get_or (next_of w words₀) (next_at * w + j) 0)
   node_taken bytes j h =
       node_same bytes (path_by after w (suc k)) (path_by words₀ w k) j (words_in after j) (words_in words₀ (w + slot_of j)) (slot_taken j h) (path_taken j h)
       ∙ ap (node_of bytes (path_by words₀ w k)) (sym (next_slot w words₀ (slot_of j) (place_inside words₀ la j h) (omega arith)))

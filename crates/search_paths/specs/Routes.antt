@@ -11,7 +11,7 @@ use Rattle.search.specs.Search as S
 use Rattle.beam_order.specs.Slots.{g_of, back_at, slot_words, next_at, next_order_at, next_end, backs_at, words_in}
 use Rattle.steps.specs.InBytes.{system_in}
 use Rattle.steps.specs.Follow.{costs_in}
-use Rattle.beam.specs.Nodes.{node_at_lem}
+use Rattle.beam.specs.Nodes.{node_at}
 use Rattle.beam.specs.Layers.{part, nodes_of, Indexed, Layer}
 
 -- the back pointer of slot i of layer k, in its row whatever i is
@@ -37,7 +37,7 @@ next_of w words = part (next_at * w) (next_end * w) words
 -- n nodes from slot i on
 unfoldable pub nodes_from : (bytes : List ℕ) (path : ℕ → List ℕ) (words : List ℕ) (n i : ℕ) → List (Node State Cost)
 nodes_from bytes path words zero i = []
-nodes_from bytes path words (suc n) i = node_at_lem bytes path i (words_in words i) ∷ nodes_from bytes path words n (suc i)
+nodes_from bytes path words (suc n) i = node_at bytes path i (words_in words i) ∷ nodes_from bytes path words n (suc i)
 
 -- the n nodes of the current layer, which is layer k
 abbrev pub current_of : (bytes words : List ℕ) (w k n : ℕ) → List (Node State Cost)
@@ -45,7 +45,7 @@ current_of bytes words w k n = nodes_from bytes (path_by words w k) words n 0
 
 -- the node that a round starts with, by its words: its path is empty
 abbrev pub root_of : (bytes root : List ℕ) → Node State Cost
-root_of bytes root = node_at_lem bytes (λ i. []) 0 root
+root_of bytes root = node_at bytes (λ i. []) 0 root
 
 -- it is the definition's root of this origin, h being its bound
 pub record RootIs (bytes root : List ℕ) (o : Origin State Cost) (h : Cost) : Type 0 where

@@ -20,11 +20,11 @@ pub in_numbers : (d : A.Answer Cost) (a : Answer) → AnswerIs d a → FieldsAre
 in_numbers d a is =
     record {
       refused = ap (λ (o : A.Outcome). cond (is_refusal o) 1 0) is.outcome;
-      verdict-number = ap outcome_number is.outcome;
+      verdict_is = ap outcome_number is.outcome;
       flag = ap (λ (b : Bool). cond b 1 0) is.flag;
       cost = ap (λ (c : Cost). c.high) is.cost;
       bound = ap (λ (c : Cost). c.high) is.bound;
-      length-of = is.length-of;
+      length_is = is.length_is;
       expansions = is.expansions;
       rounds = is.rounds;
       width = is.width;
@@ -45,7 +45,7 @@ unfolding fields
 line_told a e = record { same = λ d is. e ∙ in_line_lem d is }
   where
     in_line_lem : (d : A.Answer Cost) → AnswerIs d a → in_line a ≡ fields d
-    in_line_lem d is = rw (is.outcome, is.flag, is.cost, is.bound, is.length-of, is.expansions, is.rounds, is.width)
+    in_line_lem d is = rw (is.outcome, is.flag, is.cost, is.bound, is.length_is, is.expansions, is.rounds, is.width)
 
 -- ---- read back
 
@@ -56,7 +56,7 @@ flag_back false = refl
 pub read_back : (d : A.Answer Cost) (x : Fields) (plan plan' : List ℕ) {q : Settings} → Ends q d.outcome → length d.steps ≤ length plan → FieldsAre d x → plan' ≡ buffer_after d plan → answer_in x plan' ≡ shown d
 unfolding shown
 read_back d x plan plan' ends room is after =
-    let outcome : outcome_numbered x.refused x.verdict ≡ d.outcome = rw (is.refused, is.verdict-number) (outcome_back d.outcome ends) in
+    let outcome : outcome_numbered x.refused x.verdict ≡ d.outcome = rw (is.refused, is.verdict_is) (outcome_back d.outcome ends) in
     let flag : eqb x.flag 1 ≡ d.flag = rw is.flag (flag_back d.flag) in
-    let steps : handed_back x.length plan' ≡ d.steps = rw (is.length-of, after) (plan_handed_back d plan room) in
+    let steps : handed_back x.length plan' ≡ d.steps = rw (is.length_is, after) (plan_handed_back d plan room) in
     rw (outcome, flag, is.cost, is.bound, steps, is.expansions, is.rounds, is.width, is.low)

@@ -91,7 +91,7 @@ module _ (best plan plan' : List ℕ) (v : Verdict) (stop : Stop) (h : Cost) (b 
       let whole : length (take n best) ≡ n = length-take-le n best room in
       record {
         answer = λ bytes. answer_same _ (with_plan bytes f)
-            (record { outcome = refl; flag = refl; cost = refl; bound = b.same bytes best; length-of = sym whole; expansions = refl; rounds = refl; width = refl });
+            (record { outcome = refl; flag = refl; cost = refl; bound = b.same bytes best; length_is = sym whole; expansions = refl; rounds = refl; width = refl });
         plan_after = λ bytes. rw (with_plan bytes f, whole) e;
       }
 
@@ -101,7 +101,7 @@ module _ (best plan plan' : List ℕ) (v : Verdict) (stop : Stop) (h : Cost) (b 
   decides_none f e =
       record {
         answer = λ bytes. answer_same _ (without_plan bytes f)
-            (record { outcome = refl; flag = refl; cost = refl; bound = b.same bytes best; length-of = refl; expansions = refl; rounds = refl; width = refl });
+            (record { outcome = refl; flag = refl; cost = refl; bound = b.same bytes best; length_is = refl; expansions = refl; rounds = refl; width = refl });
         plan_after = λ bytes. rw (without_plan bytes f) e;
       }
 
@@ -111,7 +111,7 @@ unfolding answer_of outcome_of tally_of progress_of
 refuses number cost n stop =
     record {
       answer = λ bytes best path e.
-          record { outcome = refl; flag = refl; cost = refl; bound = refl; length-of = sym (length-reverse path ∙ e); expansions = refl; rounds = refl; width = refl };
+          record { outcome = refl; flag = refl; cost = refl; bound = refl; length_is = sym (length-reverse path ∙ e); expansions = refl; rounds = refl; width = refl };
     }
 
 -- ---- by the ending

@@ -4,7 +4,7 @@ use Rattle.model.specs.declared.Cost.{Cost}
 use Rattle.model.specs.Numbers.{most_steps}
 use Rattle.model.specs.Costs.{hours}
 use Rattle.search.specs.Answer as A
-use Rattle.search.specs.Answer.{verdict, refused_by_state, by_input, outcome_number, is_refusal, outcome_numbered, buffer_after, handed_back}
+use Rattle.search.specs.Answer.{verdict, by_state, by_input, outcome_number, is_refusal, outcome_numbered, buffer_after, handed_back}
 use Rattle.search.specs.Search.{answer_of}
 use Rattle.search.specs.Run.{fields}
 use Rattle.steps.specs.InBytes.{system_in}
@@ -19,7 +19,7 @@ use Rattle.search_runs.specs.declared.Stop.{Stop}
 
 unfoldable pub outcome_of : Outcome → A.Outcome
 outcome_of (O.Verdict v) = verdict (verdict_of v)
-outcome_of (O.ByState t) = refused_by_state t
+outcome_of (O.ByState t) = by_state t
 outcome_of (O.ByInput t) = by_input t
 
 -- the answer's every field is the definition's
@@ -28,7 +28,7 @@ pub record AnswerIs (a : A.Answer Cost) (x : Answer) : Type 0 where
   pub flag : x.flag ≡ a.flag
   pub cost : x.cost ≡ a.cost
   pub bound : x.bound ≡ a.bound
-  pub length-of : x.length ≡ length a.steps
+  pub length_is : x.length ≡ length a.steps
   pub expansions : x.tally.expansions ≡ a.tally.expansions
   pub rounds : x.tally.rounds ≡ a.tally.rounds
   pub width : x.tally.width ≡ a.tally.width
@@ -36,11 +36,11 @@ pub record AnswerIs (a : A.Answer Cost) (x : Answer) : Type 0 where
 -- the same in numbers: the cost at both figures, the bound in hours
 pub record FieldsAre (a : A.Answer Cost) (x : Fields) : Type 0 where
   pub refused : x.refused ≡ cond (is_refusal a.outcome) 1 0
-  pub verdict-number : x.verdict ≡ outcome_number a.outcome
+  pub verdict_is : x.verdict ≡ outcome_number a.outcome
   pub flag : x.flag ≡ cond a.flag 1 0
   pub cost : x.cost ≡ a.cost.high
   pub bound : x.bound ≡ a.bound.high
-  pub length-of : x.length ≡ length a.steps
+  pub length_is : x.length ≡ length a.steps
   pub expansions : x.expansions ≡ a.tally.expansions
   pub rounds : x.rounds ≡ a.tally.rounds
   pub width : x.width ≡ a.tally.width

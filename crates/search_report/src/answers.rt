@@ -5,7 +5,7 @@ use search_tally::Tally;
 use search_visits::work::Verdict;
 
 // A verdict; or refused by the state, or by the input, with the refusal's number.
-#[derive(Drop)]
+#[derive(Clone, Copy)]
 pub enum Outcome {
     Verdict(Verdict),
     ByState(u8),
@@ -13,7 +13,7 @@ pub enum Outcome {
 }
 
 // Document 01's fields; the plan's bytes are in the caller's buffer.
-#[derive(Drop)]
+#[derive(Clone, Copy)]
 pub struct Answer {
     pub outcome: Outcome,
     pub flag: bool,
@@ -25,7 +25,7 @@ pub struct Answer {
 
 // The same in numbers, for C: `refused` is 1 at a refusal and 0 at a verdict, `verdict` the number of either.
 #[repr(C)]
-#[derive(Drop)]
+#[derive(Clone, Copy)]
 pub struct Fields {
     pub refused: u32,
     pub verdict: u32,

@@ -15,7 +15,7 @@ use Rattle.search.specs.Search.{Result, fresh_round}
 use Rattle.search.specs.Search as S
 use Rattle.steps.specs.InBytes.{system_in}
 use Rattle.steps.specs.Follow.{costs_in}
-use Rattle.beam.specs.Nodes.{node_at_lem}
+use Rattle.beam.specs.Nodes.{node_at}
 use Rattle.beam.proofs.Nodes.{nodes_none}
 use Rattle.search_paths.specs.Routes.{path_by, next_of, root_of, RootIs, RootFits, Startable, Started}
 use Rattle.search_visits.specs.Work.{Within, Ready, progress_of, round_of, round_begun, round_in, result_of, Inside}
@@ -82,7 +82,7 @@ fresh p = record { count = 0; marks = record { width = false; length = false }; 
 
 -- the root's g is what the steps before it may have cost
 root_within : (bytes : List ℕ) {root : List ℕ} {limit : ℕ} (fits : RootFits root limit) → Within (fits.before + 0) (root_of bytes root)
-unfolding node_at_lem
+unfolding node_at
 root_within bytes fits = up_to_less fits.cost (omega arith)
 
 module _ {bytes outline root words₀ words plan : List ℕ} {w limit : ℕ} {p : Progress} (able : Roundable bytes outline root words₀ plan w limit p) (started : Started root words w) where

@@ -20,7 +20,7 @@ use search_visits::work::{Limits, Next, Progress, Round};
 
 // A round after a layer: `more` tells that the layer behind it, of `nodes` nodes, is current; else the round is at its end, or the run
 // is over.
-#[derive(Drop)]
+#[derive(Clone, Copy)]
 pub struct Passed {
     pub round: Round,
     pub next: Next,

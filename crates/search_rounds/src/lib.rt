@@ -1,5 +1,7 @@
 // A round: the root alone, then layer behind layer (rules 1 and 6).
 
+#![tactic(auto)]
+
 pub mod ends;
 
 ghost use Rattle.search_rounds.specs.Rounds.{Roundable, RoundEnds};
@@ -11,7 +13,7 @@ use search_paths::current::start_round;
 use search_visits::work::{Limits, Marks, Next, Progress, Round};
 
 // A round at its end, or where the run was over: in layer `layer`.
-#[derive(Drop)]
+#[derive(Clone, Copy)]
 pub struct Ended {
     pub round: Round,
     pub next: Next,

@@ -22,7 +22,7 @@ use Rattle.search.proofs.Settings.{entry_fits, some_entries}
 use Rattle.steps.specs.InBytes.{system_in}
 use Rattle.steps.specs.Follow.{costs_in}
 use Rattle.beam_order.specs.Slots.{f_of}
-use Rattle.beam.specs.Nodes.{node_at_lem}
+use Rattle.beam.specs.Nodes.{node_at}
 use Rattle.beam.specs.Layers.{nodes_of}
 use Rattle.search_visits.specs.declared.work.Verdict.{Verdict}
 use Rattle.search_visits.specs.declared.work.Verdict.TheVariants as W
@@ -126,7 +126,7 @@ abbrev unbegun : (cost low : Cost) → Progress
 unbegun cost low = record { best = record { found = false; cost = cost; length = 0 }; low = low; tally = record { expansions = 0; rounds = 0; width = 0 } }
 
 root_f : {bytes root : List ℕ} {o : Origin State Cost} {h : Cost} → RootIs bytes root o h → (costs_in bytes).combine o.spent h ≡ f_of root
-unfolding node_at_lem S.root
+unfolding node_at S.root
 root_f is = sym (ap (λ (n : S.Node State Cost). n.f) is.node)
 
 -- low is the root's f

@@ -17,8 +17,8 @@ use Rattle.search_runs.specs.declared.Judged.{Judged}
 use Rattle.search_visits.specs.Work.{progress_of, round_begun, ending_of, Inside}
 
 -- "No mark and none remaining"
-unfoldable pub nothing_left_lem : Round → Bool
-nothing_left_lem x = not x.marks.width && not x.marks.length && eqb x.count 0
+unfoldable pub nothing_left : Round → Bool
+nothing_left x = not x.marks.width && not x.marks.length && eqb x.count 0
 
 -- what lasts, once a round of this width has begun
 abbrev pub begins_at : (width : ℕ) → Progress → Progress

@@ -7,7 +7,7 @@ ghost use Rattle.search_runs.specs.Widths.{nothing_left};
 use search_visits::work::{Round, Verdict};
 
 // Another round, or a verdict.
-#[derive(Drop)]
+#[derive(Clone, Copy)]
 pub enum Judgement {
     Again,
     Ended(Verdict),

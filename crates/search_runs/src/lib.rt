@@ -1,5 +1,7 @@
 // The rounds of a run, at the widths of a list that rises, each judged by rule 7.
 
+#![tactic(auto)]
+
 pub mod judges;
 
 ghost use Rattle.std.specs.Prelude.{◌≡◌, ◌+◌, ◌<◌, ◌^◌};
@@ -18,7 +20,7 @@ use search_tally::{Tally, begun};
 use search_visits::work::{Ending, Limits, Next, Progress, Verdict};
 
 // A run that is over, in this layer.
-#[derive(Drop)]
+#[derive(Clone, Copy)]
 pub struct Stop {
     pub ending: Ending,
     pub progress: Progress,
@@ -26,7 +28,7 @@ pub struct Stop {
 }
 
 // What a round leaves, with rule 7 applied: On, another round follows; or the run is over, in this layer.
-#[derive(Drop)]
+#[derive(Clone, Copy)]
 pub struct Judged {
     pub next: Next,
     pub progress: Progress,

@@ -1,10 +1,12 @@
 // The tally of a run: how many expansions and rounds it has begun, and its last width.
 
+#![tactic(auto)]
+
 ghost use Rattle.std.specs.Prelude.{◌≡◌, ◌+◌, ◌<◌, ◌^◌};
 ghost use Rattle.search_tally.specs.Tally.{one_more, begun_at};
 
 // Expansions, rounds begun, and the width of the last round.
-#[derive(Drop)]
+#[derive(Clone, Copy)]
 pub struct Tally {
     pub expansions: u64,
     pub rounds: u64,

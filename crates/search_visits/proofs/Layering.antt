@@ -13,7 +13,7 @@ use Rattle.search.specs.Search as S
 use Rattle.beam_order.specs.Slots.{words_in, next_at, next_end}
 use Rattle.steps.specs.InBytes.{system_in}
 use Rattle.steps.specs.Follow.{costs_in}
-use Rattle.beam.specs.Nodes.{node_at_lem}
+use Rattle.beam.specs.Nodes.{node_at}
 use Rattle.beam.proofs.Moves.{width_positive}
 use Rattle.search_paths.specs.Routes.{path_by, nodes_from, current_of}
 use Rattle.beam.proofs.Written.{slot_first}
@@ -65,11 +65,11 @@ module _ {bytes outline words plan words' plan' : List ℕ} {w budget limit k n 
           rw z
 
   module _ (less : i < n) (words'' plan'' : List ℕ) (y : Visited)
-      (l : Leaves bytes outline words' words'' plan' plan'' w limit k x' y (visit (costs_in bytes) (system_in bytes) budget w (limit - k) ((system_in bytes).status (node_at_lem bytes (path_by words' w k) i (words_in words' i)).state) (node_at_lem bytes (path_by words' w k) i (words_in words' i))))
+      (l : Leaves bytes outline words' words'' plan' plan'' w limit k x' y (visit (costs_in bytes) (system_in bytes) budget w (limit - k) ((system_in bytes).status (node_at bytes (path_by words' w k) i (words_in words' i)).state) (node_at bytes (path_by words' w k) i (words_in words' i))))
       (words_long : length words'' ≡ length words') (plan-long : length plan'' ≡ length plan')
     where
       abbrev next_node : Node State Cost
-      next_node = node_at_lem bytes (path_by words w k) i (words_in words i)
+      next_node = node_at bytes (path_by words w k) i (words_in words i)
 
       some_width : 0 < w
       some_width = width_positive h.ready.held
@@ -79,9 +79,9 @@ module _ {bytes outline words plan words' plan' : List ℕ} {w budget limit k n 
 
       visited : visit (costs_in bytes) (system_in bytes) budget w (limit - k) ((system_in bytes).status next_node.state) next_node (round_in bytes words' plan' w k x') ≡ result_of (path_by words w k) y.next (round_in bytes words'' plan'' w k y.round)
       visited =
-          subst (λ (p : ℕ → List ℕ). visit (costs_in bytes) (system_in bytes) budget w (limit - k) ((system_in bytes).status (node_at_lem bytes p i (words_in words i)).state) (node_at_lem bytes p i (words_in words i)) (round_in bytes words' plan' w k x') ≡ result_of p y.next (round_in bytes words'' plan'' w k y.round))
+          subst (λ (p : ℕ → List ℕ). visit (costs_in bytes) (system_in bytes) budget w (limit - k) ((system_in bytes).status (node_at bytes p i (words_in words i)).state) (node_at bytes p i (words_in words i)) (round_in bytes words' plan' w k x') ≡ result_of p y.next (round_in bytes words'' plan'' w k y.round))
           (paths_kept words words' w some_width h.current h.rows k)
-          (subst (λ (s : List ℕ). visit (costs_in bytes) (system_in bytes) budget w (limit - k) ((system_in bytes).status (node_at_lem bytes (path_by words' w k) i s).state) (node_at_lem bytes (path_by words' w k) i s) (round_in bytes words' plan' w k x') ≡ result_of (path_by words' w k) y.next (round_in bytes words'' plan'' w k y.round))
+          (subst (λ (s : List ℕ). visit (costs_in bytes) (system_in bytes) budget w (limit - k) ((system_in bytes).status (node_at bytes (path_by words' w k) i s).state) (node_at bytes (path_by words' w k) i s) (round_in bytes words' plan' w k x') ≡ result_of (path_by words' w k) y.next (round_in bytes words'' plan'' w k y.round))
           slots l.same)
 
       turned : layer (costs_in bytes) (system_in bytes) budget w (limit - k) (current_of bytes words w k n) (round_in bytes words plan w k x) ≡ and_then (result_of (path_by words w k) y.next (round_in bytes words'' plan'' w k y.round)) (λ r. rest (n - suc i) (suc i) r)

@@ -24,14 +24,14 @@ use Rattle.steps.specs.InBytes.{system_in, state_in}
 use Rattle.steps.specs.Follow.{costs_in}
 use Rattle.steps.proofs.Promises.{cost_order}
 use Rattle.steps.proofs.Following.{is_base, is_unfinished_lem, no_status_lem}
-use Rattle.beam.specs.Nodes.{state_words, node_at_lem}
+use Rattle.beam.specs.Nodes.{state_words, node_at}
 use Rattle.beam.specs.Layers.{nodes_of, Indexed, round_with}
 use Rattle.beam.proofs.Whole.{put, put_in}
 use Rattle.beam.proofs.Moves.{width_positive}
 use Rattle.search_expansion.specs.Expansion.{BestIs, below_cost, trial_result, Grows}
 use Rattle.search_paths.specs.Routes.{path_by, next_of, nodes_from}
 use Rattle.search_paths.proofs.Tracing.{path_length}
-use Rattle.search_tally.specs.Tally.{one_further}
+use Rattle.search_tally.specs.Tally.{one_more}
 use Rattle.search_paths.proofs.Gathering.{paths_kept, making_first, making_last}
 use Rattle.search_visits.specs.Work.{best_of, progress_of, round_of, round_begun, ending_of, result_of, verdict_of, round_in, Within, Ready, Inside, Leaves}
 use Rattle.search_visits.specs.Visits.{NewBest, Reached, Limited, Counted, Told, Met, Keeps}
@@ -90,7 +90,7 @@ pub limited : (f : Cost) (x : Round) (t : Bool) → t ≡ (x.marks.length || bel
 unfolding at_limit round_of progress_of
 limited f x t e = record { count = refl; steps = refl; round_same = refl; same = λ bytes kept plan n q. rw (e, q, below_best_is bytes plan x.progress.best f) }
 
-pub counted_one : (x : Round) (t : Tally) → t ≡ one_further x.progress.tally → Counted x (record { count = x.count; marks = x.marks; improved = x.improved; progress = record { best = x.progress.best; low = x.progress.low; tally = t } })
+pub counted_one : (x : Round) (t : Tally) → t ≡ one_more x.progress.tally → Counted x (record { count = x.count; marks = x.marks; improved = x.improved; progress = record { best = x.progress.best; low = x.progress.low; tally = t } })
 unfolding counted round_of progress_of
 counted_one x t e = rw e (record { best = refl; round_same = refl; same = λ bytes kept plan. rw (add-one x.progress.tally.expansions) })
 
@@ -158,7 +158,7 @@ state_copied node state l e = e ∙ take_all (length node - state_at) (drop stat
 
 module _ (bytes outline words node : List ℕ) (w limit k i : ℕ) (x : Round) (m : Met bytes outline words node w limit k i x) where
   abbrev here : Node State Cost
-  here = node_at_lem bytes (path_by words w k) i node
+  here = node_at bytes (path_by words w k) i node
 
   -- the words stay, and so many nodes are in the making
   stays : (plan plan' : List ℕ) (y : Visited) (rule : S.Round State Cost → Result (S.Round State Cost) Cost) → y.round.count ≡ x.count → y.round.progress.best.length ≤ limit → round_begun y.round.progress ≡ round_begun x.progress → Inside w limit k y.next
@@ -169,7 +169,7 @@ module _ (bytes outline words node : List ℕ) (w limit k i : ℕ) (x : Round) (
 
   -- rule 3: at the limit
   pub limit_leaves : (budget : ℕ) (x' : Round) {f : Cost} → f ≡ f_of node → k ≡ limit → Limited f x x' → Keeps bytes outline words words w limit k x (record { round = x'; next = N.On }) (advance (costs_in bytes) (system_in bytes) budget w (limit - k) here)
-  unfolding advance result_of node_at_lem
+  unfolding advance result_of node_at
   limit_leaves budget x' known a h =
       let z : limit - k ≡ 0 = omega arith in
       record {
@@ -226,7 +226,7 @@ module _ (bytes outline words node : List ℕ) (w limit k i : ℕ) (x : Round) (
       rows' = making_last words ys w (room words m.held) l
 
       grown : (plan : List ℕ) → expand (costs_in bytes) (system_in bytes) w (system_in bytes).transitions 0 here (counted (costs_in bytes) (system_in bytes) (round_of kept plan x)) ≡ result_of path y.next (round_of kept' plan y.round)
-      unfolding counted round_of progress_of node_at_lem
+      unfolding counted round_of progress_of node_at
       grown plan =
           (subst (λ (s : List ℕ). Growing (g_of node) s ys z) copied (subst (λ (c : Cost). Growing c state ys z) known grows)).same path (h_of node) (f_of node) (counted (costs_in bytes) (system_in bytes) (round_of kept plan x)) refl (best_is plan x.progress.best)
           ∙ ap (λ (r : S.Round State Cost). trial_result z.trial here (round_with kept' z.cut r)) (one.same bytes kept plan)
@@ -254,20 +254,20 @@ module _ (bytes outline words node : List ℕ) (w limit k i : ℕ) (x : Round) (
   rest budget = visit (costs_in bytes) (system_in bytes) budget w (limit - k) ((system_in bytes).status here.state) here
 
   pub base_leaves : (budget : ℕ) (plan plan' : List ℕ) (y : Visited) {g : Cost} → g ≡ g_of node → A.Base ≡ status_answer ((system_in bytes).status (state_in bytes (state_words node))) → Reached words plan plan' w k i g x y → Leaves bytes outline words words plan plan' w limit k x y (rest budget)
-  unfolding visit node_at_lem
+  unfolding visit node_at
   base_leaves budget plan plan' y known e h =
       stays plan plan' y (rest budget) h.count (h.steps limit m.depth m.best_fits) h.round_same (h.inside w limit k)
       (rw (is_base _ (sym e)) (h.same bytes (nodes_of w (next_of w words) bytes (path_by words w k) x.count) here (sym known) refl))
 
   pub advance_leaves : (budget : ℕ) (words' plan : List ℕ) (y : Visited) → A.Unfinished ≡ status_answer ((system_in bytes).status (state_in bytes (state_words node)))
       → Keeps bytes outline words words' w limit k x y (advance (costs_in bytes) (system_in bytes) budget w (limit - k) here) → Leaves bytes outline words words' plan plan w limit k x y (rest budget)
-  unfolding visit node_at_lem
+  unfolding visit node_at
   advance_leaves budget words' plan y e h =
       let l = h.leaves plan in
       record { held = l.held; best_fits = l.best_fits; round_same = l.round_same; inside = l.inside; current = l.current; rows = l.rows; same = rw (is_unfinished_lem _ (sym e)) l.same }
 
   pub trouble_leaves : (budget : ℕ) (plan : List ℕ) {g : Cost} {t : ℕ} → g ≡ g_of node → A.Trouble t ≡ status_answer ((system_in bytes).status (state_in bytes (state_words node))) → Leaves bytes outline words words plan plan w limit k x (record { round = x; next = N.Over (E.At t g i) }) (rest budget)
-  unfolding visit refuse route_to node_at_lem result_of ending_of round_of
+  unfolding visit refuse route_to node_at result_of ending_of round_of
   trouble_leaves budget plan {g} {t} known e = stays plan plan (record { round = x; next = N.Over (E.At t g i) }) (rest budget) refl m.best_fits refl (m.slot, m.depth) (rw (no_status_lem _ (sym e), known))
 
 -- ---- a path that was written
@@ -279,12 +279,12 @@ traced words plan plan' w k i e = ap (take k) e ∙ take_at (reverse (path_by wo
 
 module _ (bytes : List ℕ) (path : ℕ → List ℕ) (words : List ℕ) where
   -- what holds of n nodes from slot j on
-  pub all_from : (P : Node State Cost → Type 0) (n j i : ℕ) → j ≤ i → i < j + n → All P (nodes_from bytes path words n j) → P (node_at_lem bytes path i (words_in words i))
+  pub all_from : (P : Node State Cost → Type 0) (n j i : ℕ) → j ≤ i → i < j + n → All P (nodes_from bytes path words n j) → P (node_at bytes path i (words_in words i))
   unfolding nodes_from
   all_from P zero j i lo hi a = absurd (omega arith)
   all_from P (suc n) j i lo hi a = by_place (dec_lt j i) (λ h. all_from P n (suc j) i h (omega arith) a.1)
     where
-      by_place : Dec (j < i) → (j < i → P (node_at_lem bytes path i (words_in words i))) → P (node_at_lem bytes path i (words_in words i))
+      by_place : Dec (j < i) → (j < i → P (node_at bytes path i (words_in words i))) → P (node_at bytes path i (words_in words i))
       by_place (yes h) later = later h
       by_place (no h) later =
           let z : i ≡ j = omega arith in
@@ -298,7 +298,7 @@ module _ {bytes outline words plan : List ℕ} {w limit k n : ℕ} {x : Round} (
       (omega (arith, slot_room words r.held i (omega (arith, r.few_nodes)), length-drop (i * slot_words) words))
 
   slot_small : CostBelow (2 ^ 63) (g_of (words_in words i))
-  unfolding node_at_lem
+  unfolding node_at
   slot_small = up_to_below (all_from bytes (path_by words w k) words (Within (r.before + k)) n 0 i (omega arith) (omega arith) r.costs) (omega (arith, r.depth, r.few_steps))
 
   pub met_at : Met bytes outline words (words_in words i) w limit k i x
@@ -316,7 +316,7 @@ module _ {bytes outline words plan : List ℕ} {w limit k n : ℕ} {x : Round} (
       }
 
 pub visited_at : (bytes outline words words' plan plan' : List ℕ) (w budget limit k i : ℕ) (x : Round) (y : Visited) (node : List ℕ) → node ≡ words_in words i
-    → Leaves bytes outline words words' plan plan' w limit k x y (visit (costs_in bytes) (system_in bytes) budget w (limit - k) ((system_in bytes).status (node_at_lem bytes (path_by words w k) i node).state) (node_at_lem bytes (path_by words w k) i node))
-    → Leaves bytes outline words words' plan plan' w limit k x y (visit (costs_in bytes) (system_in bytes) budget w (limit - k) ((system_in bytes).status (node_at_lem bytes (path_by words w k) i (words_in words i)).state) (node_at_lem bytes (path_by words w k) i (words_in words i)))
+    → Leaves bytes outline words words' plan plan' w limit k x y (visit (costs_in bytes) (system_in bytes) budget w (limit - k) ((system_in bytes).status (node_at bytes (path_by words w k) i node).state) (node_at bytes (path_by words w k) i node))
+    → Leaves bytes outline words words' plan plan' w limit k x y (visit (costs_in bytes) (system_in bytes) budget w (limit - k) ((system_in bytes).status (node_at bytes (path_by words w k) i (words_in words i)).state) (node_at bytes (path_by words w k) i (words_in words i)))
 visited_at bytes outline words words' plan plan' w budget limit k i x y node e l =
-    subst (λ (s : List ℕ). Leaves bytes outline words words' plan plan' w limit k x y (visit (costs_in bytes) (system_in bytes) budget w (limit - k) ((system_in bytes).status (node_at_lem bytes (path_by words w k) i s).state) (node_at_lem bytes (path_by words w k) i s))) e l
+    subst (λ (s : List ℕ). Leaves bytes outline words words' plan plan' w limit k x y (visit (costs_in bytes) (system_in bytes) budget w (limit - k) ((system_in bytes).status (node_at bytes (path_by words w k) i s).state) (node_at bytes (path_by words w k) i s))) e l

@@ -11,7 +11,7 @@ use Rattle.search.specs.Search.{Node, Route, Result, on, over, decided, refused}
 use Rattle.search.specs.Search as S
 use Rattle.steps.specs.InBytes.{Outlined, system_in}
 use Rattle.steps.specs.Follow.{costs_in}
-use Rattle.beam.specs.Nodes.{node_at_lem}
+use Rattle.beam.specs.Nodes.{node_at}
 use Rattle.beam.specs.Layers.{nodes_of, Indexed}
 use Rattle.search_expansion.specs.Expansion.{expand_in}
 use Rattle.search_paths.specs.Routes.{path_by, next_of, current_of}
@@ -65,7 +65,7 @@ round_in bytes words plan w k x = round_of (nodes_of w (next_of w words) bytes (
 
 -- the node with these words, in slot i of layer k
 abbrev pub node_in : (bytes words : List ℕ) (w k i : ℕ) (node : List ℕ) → Node State Cost
-node_in bytes words w k i node = node_at_lem bytes (path_by words w k) i node
+node_in bytes words w k i node = node_at bytes (path_by words w k) i node
 
 -- rules 2 to 4 in the model that stands in the bytes, `left` being the steps left to the limit: an expansion, which counts from its
 -- start; an unfinished state; any state; the nodes of a layer

@@ -5,7 +5,7 @@ use search_expansion::trials::Best;
 use search_tally::Tally;
 
 // Document 01's verdicts.
-#[derive(Drop)]
+#[derive(Clone, Copy)]
 pub enum Verdict {
     Cheapest,
     NoPlan,
@@ -16,7 +16,7 @@ pub enum Verdict {
 }
 
 // What lasts over rounds: the best plan, low, the tally of the run.
-#[derive(Drop)]
+#[derive(Clone, Copy)]
 pub struct Progress {
     pub best: Best,
     pub low: Cost,
@@ -24,7 +24,7 @@ pub struct Progress {
 }
 
 // The width of a round, the length limit and the budget.
-#[derive(Drop)]
+#[derive(Clone, Copy)]
 pub struct Limits {
     pub width: usize,
     pub length: usize,
@@ -32,21 +32,21 @@ pub struct Limits {
 }
 
 // A slot of a layer.
-#[derive(Drop)]
+#[derive(Clone, Copy)]
 pub struct Spot {
     pub layer: usize,
     pub slot: usize,
 }
 
 // The width mark and the length mark.
-#[derive(Drop)]
+#[derive(Clone, Copy)]
 pub struct Marks {
     pub width: bool,
     pub length: bool,
 }
 
 // How many nodes are in the making, the marks, whether this round has found a better plan, and what lasts.
-#[derive(Drop)]
+#[derive(Clone, Copy)]
 pub struct Round {
     pub count: usize,
     pub marks: Marks,
@@ -56,7 +56,7 @@ pub struct Round {
 
 // How a run ends: with a verdict; or refused, with the trouble's number and the cost of the path, at the node of a slot, or at its
 // child by a transition.
-#[derive(Drop)]
+#[derive(Clone, Copy)]
 pub enum Ending {
     Decided(Verdict),
     At(u8, Cost, usize),
@@ -64,14 +64,14 @@ pub enum Ending {
 }
 
 // The round goes on, or the run is over.
-#[derive(Drop)]
+#[derive(Clone, Copy)]
 pub enum Next {
     On,
     Over(Ending),
 }
 
 // A round after some of its nodes were taken.
-#[derive(Drop)]
+#[derive(Clone, Copy)]
 pub struct Visited {
     pub round: Round,
     pub next: Next,

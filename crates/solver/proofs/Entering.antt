@@ -21,7 +21,7 @@ use Rattle.model.specs.Meaning.{State}
 use Rattle.model.proofs.Reading.{model_refusal}
 use Rattle.outline.specs.Outline.{model_of, read_model, refusal_of}
 use Rattle.search.specs.Answer as A
-use Rattle.search.specs.Answer.{no_plan, verdict, refused_by_state, by_input, buffer_after}
+use Rattle.search.specs.Answer.{no_plan, verdict, by_state, by_input, buffer_after}
 use Rattle.search.specs.Search as S
 use Rattle.search.specs.Search.{root, search, search_within, enter, begin}
 use Rattle.search.specs.Demands.{Demands}
@@ -40,7 +40,7 @@ use Rattle.steps.specs.declared.answers.HeldAnswer.{HeldAnswer}
 use Rattle.steps.specs.declared.answers.HeldAnswer.TheVariants as H
 use Rattle.steps.specs.declared.answers.BoundAnswer.{BoundAnswer}
 use Rattle.steps.specs.declared.answers.BoundAnswer.TheVariants as B
-use Rattle.beam.specs.Nodes.{header_of, node_at_lem}
+use Rattle.beam.specs.Nodes.{header_of, node_at}
 use Rattle.search_paths.specs.Routes.{RootIs}
 use Rattle.search_rounds.specs.Rounds.{RoomFor}
 use Rattle.search_runs.specs.Runs.{Runs}
@@ -151,7 +151,7 @@ module _ (bytes widths : List ℕ) (limit budget : ℕ) where
 
   -- the words of the target, as the root
   pub target_root : (target : List ℕ) (h : ℕ) → state_in bytes target ≡ target_in bytes → RootIs bytes (header_of free h (hours h) 0 ++ target) (origin_in bytes) (hours h)
-  unfolding node_at_lem root
+  unfolding node_at root
   target_root target h e = record { node = rw (e, origin_start bytes, origin_spent bytes, nothing_spent (hours h)) }
 
   with_bound : (a : Value Bool) (b : Value ℕ) (h : ℕ) → admitted bytes ≡ a → bounded bytes ≡ b → entered_of a b ≡ E.Bounded h
@@ -172,7 +172,7 @@ module _ (bytes widths : List ℕ) (limit budget : ℕ) where
   broken (value false) b p e = broken_start (costs_in bytes) (system_in bytes) (origin_in bytes) budget limit first (drop 1 widths) (at_origin (system_in bytes).admits p) ∙ rw (cost_empty bytes)
   broken (trouble t) b p e = let z : ◌≡◌ {A = ℕ} 0 1 = cc in absurd (omega arith)
 
-  troubled : (a : Value Bool) (b : Value ℕ) (t : ℕ) → admitted bytes ≡ a → bounded bytes ≡ b → entered_of a b ≡ E.Trouble t → searched ≡ ended_at_target first (refused_by_state t)
+  troubled : (a : Value Bool) (b : Value ℕ) (t : ℕ) → admitted bytes ≡ a → bounded bytes ≡ b → entered_of a b ≡ E.Trouble t → searched ≡ ended_at_target first (by_state t)
   unfolding entered_of
   troubled (value true) (value x) t p q e = let z : ◌≡◌ {A = ℕ} 0 1 = cc in absurd (omega arith)
   troubled (value true) (trouble u) t p q e = let same : u ≡ t = cc in rw (sym same) (unbounded_start (costs_in bytes) (system_in bytes) (origin_in bytes) budget limit first (drop 1 widths) (at_origin (system_in bytes).admits p) (at_origin (system_in bytes).bound (bound_troubles bytes (target_in bytes) q)) ∙ rw (origin_spent bytes, cost_empty bytes))
@@ -193,8 +193,8 @@ module _ (bytes widths : List ℕ) (limit budget : ℕ) where
     pub says_broken : (w : ℕ) → w ≡ first → q ≡ E.Broken → plan' ≡ plan → AnswerIs (ended_at_target w (verdict no_plan)) x → SearchSays bytes plan plan' widths limit budget x
     says_broken w there e = says_ended (verdict no_plan) w there (broken (admitted bytes) (bounded bytes) refl (sym entered ∙ e))
 
-    pub says_troubled : (t w : ℕ) → w ≡ first → q ≡ E.Trouble t → plan' ≡ plan → AnswerIs (ended_at_target w (refused_by_state t)) x → SearchSays bytes plan plan' widths limit budget x
-    says_troubled t w there e = says_ended (refused_by_state t) w there (troubled (admitted bytes) (bounded bytes) t refl refl (sym entered ∙ e))
+    pub says_troubled : (t w : ℕ) → w ≡ first → q ≡ E.Trouble t → plan' ≡ plan → AnswerIs (ended_at_target w (by_state t)) x → SearchSays bytes plan plan' widths limit budget x
+    says_troubled t w there e = says_ended (by_state t) w there (troubled (admitted bytes) (bounded bytes) t refl refl (sym entered ∙ e))
 
 -- ---- the run, test by test
 

@@ -26,7 +26,7 @@ use steps::conditions::constraints_hold;
 use steps::states::start;
 
 // What is met at the target when round 1 has begun: h, a constraint that fails, or trouble in the constraints or in h.
-#[derive(Drop)]
+#[derive(Clone, Copy)]
 pub enum Entered {
     Bounded(u64),
     Broken,

@@ -95,10 +95,15 @@ module _ (bytes words : List ℕ) (o : Outlined bytes words) (at : ℕ) (state :
     unfolding stopped condition_answer
     failure_told code told none = (λ x n h. rw (fails_says bytes words state o.outlines at (told.fails none) x n h), omega arith)
 
+    pub number_told : (z : ℤ) → NumberTold bytes words state at z q → lt_z z (pos silent_from) ≡ true → NumberSays bytes at state (N.Value z (q - at)) × NumberWithin (length bytes - at) (N.Value z (q - at))
+    number_told z told below =
+        let is = told below in
+        (λ x n h. number_says bytes words state o.outlines at is x n h, (is.is.fits, omega (arith, is.ends, is.is.there.inside)))
+
     -- of a number that is kept in a word, beside whatever else is promised
-    pub number_told : {z : ℤ} {R : Type 0} → SFits w64 z → NumberTold bytes words state at z q → lt_z (to_z w64 (of_z w64 z)) (pos silent_from) ≡ true → R
+    pub kept_number_told : {z : ℤ} {R : Type 0} → SFits w64 z → NumberTold bytes words state at z q → lt_z (to_z w64 (of_z w64 z)) (pos silent_from) ≡ true → R
         → NumberSays bytes at state (N.Value (to_z w64 (of_z w64 z)) (q - at)) × NumberWithin (length bytes - at) (N.Value (to_z w64 (of_z w64 z)) (q - at)) × R
-    number_told f told below also =
+    kept_number_told f told below also =
         let is = told (rw (back f) at below) in
         rw (back f) (λ x n h. number_says bytes words state o.outlines at is x n h, (is.is.fits, omega (arith, is.ends, is.is.there.inside)), also)
 

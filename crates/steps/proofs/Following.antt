@@ -9,7 +9,7 @@ use lib.ListN.{length, get_or, drop, drop_of_length-le}
 use lib.Seq.{drop-cons}
 use lib.Dec.{ltb}
 use borrow.Author.Tests.{ltb-false}
-use Rattle.model.specs.Numbers.{range_end, not_aplan}
+use Rattle.model.specs.Numbers.{range_end, not_a_plan}
 use Rattle.model.specs.Values.{Value, trouble}
 use Rattle.model.specs.System.{Status, base, unfinished, no_status, Move, blocked, moved, trouble_before, trouble_after}
 use Rattle.model.specs.Syntax.{Rule, sum, largest}
@@ -112,7 +112,7 @@ module _ (bytes state : List ℕ) (t : ℕ) (g : Cost) (child : List ℕ) (q : M
   abbrev here : State
   here = state_in bytes state
 
-  pub checked_blocked : q ≡ M.Blocked → FollowsOn bytes (step_tried bytes here t g) child g (T.Ended not_aplan)
+  pub checked_blocked : q ≡ M.Blocked → FollowsOn bytes (step_tried bytes here t g) child g (T.Ended not_a_plan)
   unfolding after_move
   checked_blocked e plan = let m = is_blocked _ (sym says.answer ∙ e) in rw m
 
@@ -143,12 +143,12 @@ checked_same bytes f k child g (T.Ended n) e t = λ plan. e plan ∙ t plan
 
 module _ (bytes : List ℕ) (s : State) (t : ℕ) (g : Cost) where
   -- a number that is not declared is blocked
-  undeclared : (rest : Cost → State → Value Cost) → cond (ltb t (system_in bytes).transitions) (after_move (costs_in bytes) (system_in bytes) ((system_in bytes).move s t) rest) (trouble not_aplan) ≡ after_move (costs_in bytes) (system_in bytes) ((system_in bytes).move s t) rest
+  undeclared : (rest : Cost → State → Value Cost) → cond (ltb t (system_in bytes).transitions) (after_move (costs_in bytes) (system_in bytes) ((system_in bytes).move s t) rest) (trouble not_a_plan) ≡ after_move (costs_in bytes) (system_in bytes) ((system_in bytes).move s t) rest
   unfolding system_of move move_by after_move
   undeclared rest = by_test (ltb t (length (model_of bytes).transitions)) (ltb-false t (length (model_of bytes).transitions))
     where
       by_test : (b : Bool) → (b ≡ false → length (model_of bytes).transitions ≤ t)
-          → cond b (after_move (costs_in bytes) (system_in bytes) ((system_in bytes).move s t) rest) (trouble not_aplan) ≡ after_move (costs_in bytes) (system_in bytes) ((system_in bytes).move s t) rest
+          → cond b (after_move (costs_in bytes) (system_in bytes) ((system_in bytes).move s t) rest) (trouble not_a_plan) ≡ after_move (costs_in bytes) (system_in bytes) ((system_in bytes).move s t) rest
       by_test true h = refl
       by_test false h = rw (none_beyond (model_of bytes).transitions t (h refl))
 
@@ -160,7 +160,7 @@ module _ (bytes : List ℕ) (s : State) (t : ℕ) (g : Cost) where
     abbrev whole : List ℕ → Value Cost
     whole plan = follow_in bytes (t ∷ plan) s g
 
-    pub checked_base : S.Base ≡ status_answer ((system_in bytes).status s) → FollowsOn bytes whole child g (T.Ended not_aplan)
+    pub checked_base : S.Base ≡ status_answer ((system_in bytes).status s) → FollowsOn bytes whole child g (T.Ended not_a_plan)
     unfolding follow after_status
     checked_base e plan = rw (is_base _ (sym e))
 
@@ -178,7 +178,7 @@ module _ (bytes : List ℕ) (s : State) (g : Cost) where
   unfolding final answer_number cost_given
   finish_base e = let f = is_base _ (sym e) in record { number = rw f; cost = rw f }
 
-  pub finish_unfinished : S.Unfinished ≡ status_answer ((system_in bytes).status s) → (r : Checked) → CheckedIs (trouble not_aplan) r → CheckedIs (finished bytes s g) r
+  pub finish_unfinished : S.Unfinished ≡ status_answer ((system_in bytes).status s) → (r : Checked) → CheckedIs (trouble not_a_plan) r → CheckedIs (finished bytes s g) r
   unfolding final
   finish_unfinished e r c = rw (is_unfinished_lem _ (sym e)) c
 
@@ -228,7 +228,7 @@ module _ (bytes plan state : List ℕ) (at_Target : state_in bytes state ≡ tar
   unfolding follow_from after_constraints
   target_meets e r c = rw ((all_held ((system_in bytes).admits (target_in bytes)) 0 (held ∙ e)).0, sym at_Target) c
 
-  pub target_breaks : q ≡ H.Fails → (r : Checked) → CheckedIs (trouble not_aplan) r → CheckedIs (follow_from_in bytes plan (target_in bytes) g) r
+  pub target_breaks : q ≡ H.Fails → (r : Checked) → CheckedIs (trouble not_a_plan) r → CheckedIs (follow_from_in bytes plan (target_in bytes) g) r
   unfolding follow_from after_constraints
   target_breaks e r c = rw (one_fails ((system_in bytes).admits (target_in bytes)) 0 (held ∙ e)) c
 

@@ -14,7 +14,7 @@ use Rattle.model.specs.Syntax.{Condition, Transition, Model}
 use Rattle.model.specs.Commands.{costs, transition}
 use Rattle.model.specs.Meaning.{State, all_hold}
 use Rattle.model.specs.declared.Cost.{Cost}
-use Rattle.model.specs.Steps.{effects, Attempt, not_taken_lem, taken, attempt, constrained, move_of, move_by, move, system_of}
+use Rattle.model.specs.Steps.{Attempt, not_taken, taken, attempt, constrained, move_of, move_by, move, system_of}
 use Rattle.outline.specs.Outline.{model_of}
 use Rattle.prepare.specs.Layout.{guards_from}
 use Rattle.prepare.specs.Guards.{passes, guard_in}
@@ -49,21 +49,21 @@ unfolding effects_answer
 effects_trouble (value u) e = let z : ◌≡◌ {A = ℕ} 0 1 = cc in absurd (omega arith)
 effects_trouble (trouble t) e = cc
 
-not_taken_lem : (v : Value Attempt) → attempt_answer v ≡ A.NotTaken → v ≡ value not_taken_lem
+not_taken_lem : (v : Value Attempt) → attempt_answer v ≡ A.NotTaken → v ≡ value not_taken
 unfolding attempt_answer
-not_taken_lem (value not_taken_lem) e = refl
+not_taken_lem (value not_taken) e = refl
 not_taken_lem (value (taken c u)) e = let z : ◌≡◌ {A = ℕ} 0 1 = cc in absurd (omega arith)
 not_taken_lem (trouble t) e = let z : ◌≡◌ {A = ℕ} 0 1 = cc in absurd (omega arith)
 
 is_taken : (v : Value Attempt) {c : Cost} → attempt_answer v ≡ A.Taken c → (u : State) × (v ≡ value (taken c u))
 unfolding attempt_answer
-is_taken (value not_taken_lem) e = let z : ◌≡◌ {A = ℕ} 0 1 = cc in absurd (omega arith)
+is_taken (value not_taken) e = let z : ◌≡◌ {A = ℕ} 0 1 = cc in absurd (omega arith)
 is_taken (value (taken c u)) e = (u, cc)
 is_taken (trouble t) e = let z : ◌≡◌ {A = ℕ} 0 1 = cc in absurd (omega arith)
 
 attempt_troubles : (v : Value Attempt) {t : ℕ} → attempt_answer v ≡ A.Trouble t → v ≡ trouble t
 unfolding attempt_answer
-attempt_troubles (value not_taken_lem) e = let z : ◌≡◌ {A = ℕ} 0 1 = cc in absurd (omega arith)
+attempt_troubles (value not_taken) e = let z : ◌≡◌ {A = ℕ} 0 1 = cc in absurd (omega arith)
 attempt_troubles (value (taken c u)) e = let z : ◌≡◌ {A = ℕ} 0 1 = cc in absurd (omega arith)
 attempt_troubles (trouble t) e = cc
 
@@ -74,7 +74,7 @@ module _ (bytes child : List ℕ) (v : Value Attempt) where
   unfolding attempt_answer
   says_trouble e = record { answer = rw e; written = λ c u i. let z : ◌≡◌ {A = ℕ} 0 1 = cc in absurd (omega arith) }
 
-  says_not_taken : v ≡ value not_taken_lem → AttemptSay bytes child A.NotTaken v
+  says_not_taken : v ≡ value not_taken → AttemptSay bytes child A.NotTaken v
   unfolding attempt_answer
   says_not_taken e = record { answer = rw e; written = λ c u i. let z : ◌≡◌ {A = ℕ} 0 1 = cc in absurd (omega arith) }
 
@@ -188,7 +188,7 @@ new_state end m c s (trouble t) e = let z : ◌≡◌ {A = ℕ} 0 1 = cc in absu
 -- a transition whose conditions a guard and others decide
 attempt_guarded : (end : ℕ) (m : Model) (x : Transition) (rest : List Condition) (s : State) (b : Bool)
     → all_hold end m.tables x.conditions s ≡ cond b (all_hold end m.tables rest s) (value false)
-    → attempt end m x s ≡ cond b (attempt end m (record { conditions = rest; costs = x.costs; effects = x.effects }) s) (value not_taken_lem)
+    → attempt end m x s ≡ cond b (attempt end m (record { conditions = rest; costs = x.costs; effects = x.effects }) s) (value not_taken)
 unfolding attempt ◌>>=◌
 attempt_guarded end m x rest s true e = rw e
 attempt_guarded end m x rest s false e = rw e
@@ -211,14 +211,14 @@ module _ (bytes words : List ℕ) (o : Outlined bytes words) (state : List ℕ) 
   abbrev behind : Transition
   behind = record { conditions = guarded.rest; costs = there.nth.costs; effects = there.nth.effects }
 
-  decided : attempt range_end (model_of bytes) there.nth (state_in bytes state) ≡ cond guard_passes (attempt range_end (model_of bytes) behind (state_in bytes state)) (value not_taken_lem)
+  decided : attempt range_end (model_of bytes) there.nth (state_in bytes state) ≡ cond guard_passes (attempt range_end (model_of bytes) behind (state_in bytes state)) (value not_taken)
   decided = attempt_guarded range_end (model_of bytes) there.nth guarded.rest (state_in bytes state) guard_passes (guarded.decides state)
 
   -- where the guard fails, the transition is blocked
   pub guard_blocks : false ≡ guard_passes → (system_in bytes).move (state_in bytes state) t ≡ blocked
   unfolding system_of move move_by move_of
   guard_blocks e =
-      let fails : attempt range_end (model_of bytes) there.nth (state_in bytes state) ≡ value not_taken_lem = decided ∙ rw (← e) in
+      let fails : attempt range_end (model_of bytes) there.nth (state_in bytes state) ≡ value not_taken = decided ∙ rw (← e) in
       rw (there.found, fails)
 
   pub move_guarded : (child : List ℕ) → false ≡ guard_passes → MoveSays bytes state t child M.Blocked

@@ -4,7 +4,7 @@ use Rattle.model.specs.Values.{Value, value, trouble}
 use Rattle.model.specs.System.{Status, base, unfinished, no_status, Move, blocked, moved, trouble_before, trouble_after}
 use Rattle.model.specs.Meaning.{State}
 use Rattle.model.specs.declared.Cost.{Cost}
-use Rattle.model.specs.Steps.{Attempt, not_taken_lem, taken}
+use Rattle.model.specs.Steps.{Attempt, not_taken, taken}
 use Rattle.steps.specs.declared.answers.StatusAnswer.{StatusAnswer}
 use Rattle.steps.specs.declared.answers.StatusAnswer.TheVariants as S
 use Rattle.steps.specs.declared.answers.HeldAnswer.{HeldAnswer}
@@ -44,7 +44,7 @@ effects_answer (value u) = E.Done
 effects_answer (trouble t) = E.Trouble t
 
 unfoldable pub attempt_answer : Value Attempt → AttemptAnswer
-attempt_answer (value not_taken_lem) = A.NotTaken
+attempt_answer (value not_taken) = A.NotTaken
 attempt_answer (value (taken c u)) = A.Taken c
 attempt_answer (trouble t) = A.Trouble t
 

@@ -1,17 +1,17 @@
 -- What is promised of the parts of a model where they stand in its bytes: values in the state that the words stand for.
-use Rattle.std.specs.Prelude.{ℕ, ◌+◌, ◌-◌, ◌≤◌, ◌<◌, ◌≡◌, Bool, false, List, [], length, drop, eqb, ℤ}
+use Rattle.std.specs.Prelude.{ℕ, ◌+◌, ◌-◌, ◌≤◌, ◌<◌, ◌≡◌, List, [], length, drop, eqb, ℤ}
 use Rattle.std.proofs.Math.Option.{some}
 use Rattle.std.proofs.Math.ListN.{get_elem?}
 use Rattle.std.specs.Int.Signed.{mag}
 use Rattle.model.specs.Numbers.{range_end, most_nesting, most_variables}
 use Rattle.model.specs.Values.{Value, value, trouble, ◌>>=◌}
-use Rattle.model.specs.System.{blocked, moved}
+use Rattle.model.specs.System.{moved}
 use Rattle.model.specs.Readers.{Reader, read, many}
 use Rattle.model.specs.Syntax.{Element, Set, Number, Condition, Kind, a_number, Variable, Expression, Effect, StepCosts, Transition, Table}
 use Rattle.model.specs.declared.Cost.{Cost}
 use Rattle.model.specs.Expressions as reading
 use Rattle.model.specs.Commands.{conditions, costs, effect_target, effect_on, expression_for, transition}
-use Rattle.model.specs.Meaning.{State, element_value, set_value_lem, number_value, condition_value, expression_value, all_hold}
+use Rattle.model.specs.Meaning.{State, element_value, set_value, number_value, condition_value, expression_value, all_hold}
 use Rattle.model.specs.Steps.{with_high, step_cost, effects, Attempt, taken, attempt}
 use Rattle.words.specs.States.{value_of}
 use Rattle.eval_sets.specs.declared.answers.NumberValue.{NumberValue}
@@ -93,7 +93,7 @@ module _ (bytes : List ℕ) where
 
     abbrev pub SetSays : SetValue → Type 0
     SetSays r = (x : Set) (n : ℕ) → reading.set variables_in tables_in most_nesting (drop at bytes) ≡ read x n
-        → (r.members ≡ set_value_lem x (state_in bytes state)) × (r.used ≡ n)
+        → (r.members ≡ set_value x (state_in bytes state)) × (r.used ≡ n)
 
     -- conditions 08, one behind the other
     abbrev pub HeldSays : HeldAnswer → Type 0

@@ -1,6 +1,8 @@
 // States and steps of a model, by its outline: the start, a state's status, a transition's move, h, dominance, a hash that
 // agrees with it, and the plan check.
 
+#![tactic(auto)]
+
 pub mod answers;
 pub mod bounds;
 pub mod check;

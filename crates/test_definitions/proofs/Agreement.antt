@@ -7,7 +7,6 @@ use lib.Dec.{eqb}
 use Rattle.laws.specs.Hex.{hex, zeros}
 use Rattle.search.proofs.Opened.{Told, answer, checked, valued, run_of, load_of, listed_of, load_listed_of, check_of, opened}
 use Rattle.test_definitions.specs.Case.{Case, searched, loaded, searched_listed, loaded_listed}
-use Rattle.test_definitions.specs.Case as Case
 use Rattle.test_definitions.specs.Reading1 as Reading1
 use Rattle.test_definitions.specs.Reading2 as Reading2
 use Rattle.test_definitions.specs.Reading3 as Reading3

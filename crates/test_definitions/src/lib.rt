@@ -1,6 +1,8 @@
 // Cases with the answers of an independent implementation, which the definitions are held to: specs/ has the cases,
 // proofs/Agreement shows that the definitions give the same answers.
 
+#![tactic(auto)]
+
 ghost use Rattle.std.specs.Prelude.{◌≡◌, length};
 ghost use Rattle.test_definitions.specs.All.{cases};
 

@@ -1,5 +1,9 @@
 // The same as monthly, on a list of 1,001 names.
 
-fn main() {
-    month::run();
+#![tactic(auto)]
+
+use std::io;
+
+fn main(rt: HostRuntime) -> io::Result<()> {
+    month::run(&rt)
 }

@@ -2,16 +2,25 @@
 // A case is seven arguments: its name, the model's file, the widest beam or the word `widths` with a comma and a number for each entry of a
 // list, the length limit or the word `loading` for the loading profile, the budget, and the plan bytes and words lent.
 
-ghost use Rattle.std.specs.Prelude.{◌≤◌, ◌<◌, ◌^◌, length};
+#![tactic(auto)]
 
-use libc::STDOUT_FILENO;
+ghost use Rattle.std.specs.Prelude.{◌≤◌, ◌<◌, ◌^◌, length, IfOk};
+
 use line::{write_answer, write_fields};
+use program::read_file;
 use search_report::answers::{Answer, Outcome};
 use solver::entry::search;
 use solver::lists::{load_widths, search_widths};
 use solver::load::load;
+use std::env::FillError;
+use std::fs::File;
+use std::io;
+use std::rt::{Env, Files};
 
 const ARGUMENTS: usize = 7;
+
+// The bytes that an argument may have.
+const ROOM: usize = 4096;
 
 // The lesser number.
 fn least(a: usize, b: usize) -> usize
@@ -34,10 +43,17 @@ fn number(digits: &[u8]) -> u64 {
     n
 }
 
+// Puts argument i at the front of the buffer; answers how many bytes it has, 0 where it is missing or longer than the buffer.
+fn argument_bytes(rt: &impl Env, i: usize, text: &mut [u8]) -> usize
+    ensures { result ≤ length text.new }
+{
+    rt.arg(i, text).unwrap_or(0)
+}
+
 // The number that argument i says, at most 2^32 - 1.
-fn argument(i: usize) -> u32 {
-    let mut text = io::buffer();
-    let digits = os::arg(i, &mut text);
+fn argument(rt: &impl Env, i: usize) -> u32 {
+    let mut text = [0u8; ROOM];
+    let digits = argument_bytes(rt, i, &mut text);
     let n = number(&text[..digits]);
     if n < 4294967296 { n as u32 } else { 4294967295 }
 }
@@ -97,155 +113,206 @@ fn entries(text: &[u8], widths: &mut [u16]) -> usize
 }
 
 // The list of widths that argument i says; answers how many there are.
-fn read_widths(i: usize, widths: &mut [u16]) -> usize
+fn read_widths(rt: &impl Env, i: usize, widths: &mut [u16]) -> usize
     ensures { result ≤ length widths.new }
 {
-    let mut text = io::buffer();
-    let n = os::arg(i, &mut text);
+    let mut text = [0u8; ROOM];
+    let n = argument_bytes(rt, i, &mut text);
     entries(&text[..n], widths)
 }
 
-// Reads the file that argument i names; answers how many bytes it has.
-fn read_file(i: usize, model: &mut [u8]) -> usize
-    ensures { result ≤ length model.new }
+// Reads the file of this name; answers how many bytes it has, 0 where it cannot be opened.
+fn read_named<R: Files + Eprint>(rt: &R, path: &str, model: &mut [u8]) -> io::Result<usize>
+    ensures { IfOk result (λ n. n ≤ length model.new) }
 {
-    let mut path = io::buffer();
-    let n = os::arg(i, &mut path);
-    let fd = os::open_read(&path[..n]);
-    if fd < 0 {
-        os::fail(&path[..n]);
-        return 0;
+    match File::open(rt, path) {
+        Ok(mut file) => {
+            let came = read_file(&mut file, model);
+            Ok(came.count)
+        }
+        Err(error) => {
+            eprintln!(rt; "{path}: {error}")?;
+            Ok(0)
+        }
     }
-    let m = io::read_full(fd, model);
-    libc::close(fd);
-    m
+}
+
+// Reads the file that argument i names; answers how many bytes it has.
+fn read_model<R: Env + Files + Eprint>(rt: &R, i: usize, model: &mut [u8]) -> io::Result<usize>
+    ensures { IfOk result (λ n. n ≤ length model.new) }
+{
+    let mut name = [0u8; ROOM];
+    let n = argument_bytes(rt, i, &mut name);
+    let Ok(path) = str::from_utf8(&name[..n]) else {
+        eprintln!(rt; "argument {i}: no UTF-8")?;
+        return Ok(0);
+    };
+    read_named(rt, path, model)
 }
 
 // Writes the name that argument i says.
-fn write_name(i: usize) {
-    let mut name = io::buffer();
-    let n = os::arg(i, &mut name);
-    io::write_all(STDOUT_FILENO, &name[..n]);
-    io::write_all(STDOUT_FILENO, b": ");
+fn write_name(rt: &(impl Env + Print), i: usize) -> io::Result<()> {
+    let mut name = [0u8; ROOM];
+    let n = argument_bytes(rt, i, &mut name);
+    rt.write_all(&name[..n])?;
+    print!(rt; ": ")
 }
 
 // Whether argument i begins with a letter: a word, and no number.
-fn is_word(i: usize) -> bool {
-    let mut text = io::buffer();
-    os::arg(i, &mut text);
+fn is_word(rt: &impl Env, i: usize) -> bool {
+    let mut text = [0u8; ROOM];
+    argument_bytes(rt, i, &mut text);
     text[0] > 57
 }
 
+// Whether there is an argument i.
+fn is_there(rt: &impl Env, i: usize) -> bool {
+    let mut text = [0u8; ROOM];
+    !matches!(rt.arg(i, &mut text), Err(FillError::NotPresent))
+}
+
 // Writes an answer's line; a second one gives the fields and the path at a refusal by the state.
-fn write_lines(answer: Answer, plan: &mut [u8]) {
-    write_answer(answer, plan);
+fn write_lines(rt: &impl Print, answer: Answer, plan: &mut [u8]) -> io::Result<()> {
+    write_answer(rt, answer, plan)?;
     let outcome = answer.outcome;
     match outcome {
         Outcome::ByState(_) => {
-            io::write_all(STDOUT_FILENO, b"  at ");
-            write_fields(answer, plan);
+            print!(rt; "  at ")?;
+            write_fields(rt, answer, plan)
         }
-        Outcome::Verdict(_) => {}
-        Outcome::ByInput(_) => {}
+        Outcome::Verdict(_) => Ok(()),
+        Outcome::ByInput(_) => Ok(()),
     }
 }
 
 // Plans a model with these buffers, and writes its lines.
 fn write_search(
+    rt: &impl Print,
     model: &[u8],
     width: u32,
     limit: u32,
     budget: u32,
     plan: &mut [u8],
     words: &mut [u64],
-) {
+) -> io::Result<()> {
     let answer = search(model, width, limit, budget, plan, words);
-    write_lines(answer, plan);
+    write_lines(rt, answer, plan)
 }
 
 // The same in the loading profile.
-fn write_load(model: &[u8], width: u32, budget: u32, plan: &mut [u8], words: &mut [u64]) {
+fn write_load(
+    rt: &impl Print,
+    model: &[u8],
+    width: u32,
+    budget: u32,
+    plan: &mut [u8],
+    words: &mut [u64],
+) -> io::Result<()> {
     let answer = load(model, width, budget, plan, words);
-    write_lines(answer, plan);
+    write_lines(rt, answer, plan)
 }
 
 // The same with these widths, which stand in the place of argument i + 2.
-fn write_widths(i: usize, model: &[u8], widths: &[u16], plan: &mut [u8], words: &mut [u64])
+fn write_widths(
+    rt: &(impl Env + Print),
+    i: usize,
+    model: &[u8],
+    widths: &[u16],
+    plan: &mut [u8],
+    words: &mut [u64],
+) -> io::Result<()>
     requires { i < 2 ^ 32 }
 {
-    let budget = argument(i + 4);
-    if is_word(i + 3) {
+    let budget = argument(rt, i + 4);
+    if is_word(rt, i + 3) {
         let loaded = load_widths(model, widths, budget, plan, words);
-        write_lines(loaded, plan);
-        return;
+        return write_lines(rt, loaded, plan);
     }
-    let answer = search_widths(model, widths, argument(i + 3), budget, plan, words);
-    write_lines(answer, plan);
+    let answer = search_widths(model, widths, argument(rt, i + 3), budget, plan, words);
+    write_lines(rt, answer, plan)
 }
 
 // Plans the case whose first argument is number i, with the list of widths that it says and these buffers.
-fn write_listed(i: usize, model: &[u8], plan: &mut [u8], words: &mut [u64])
+fn write_listed(
+    rt: &(impl Env + Print),
+    i: usize,
+    model: &[u8],
+    plan: &mut [u8],
+    words: &mut [u64],
+) -> io::Result<()>
     requires { i < 2 ^ 32 }
 {
     let mut widths = [0u16; 32];
-    let n = read_widths(i + 2, &mut widths);
-    write_widths(i, model, &widths[..n], plan, words);
+    let n = read_widths(rt, i + 2, &mut widths);
+    write_widths(rt, i, model, &widths[..n], plan, words)
 }
 
 // Plans the case whose first argument is number i, with these buffers.
-fn write_with(i: usize, model: &[u8], plan: &mut [u8], words: &mut [u64])
+fn write_with(
+    rt: &(impl Env + Print),
+    i: usize,
+    model: &[u8],
+    plan: &mut [u8],
+    words: &mut [u64],
+) -> io::Result<()>
     requires { i < 2 ^ 32 }
 {
-    if is_word(i + 2) {
-        write_listed(i, model, plan, words);
-        return;
+    if is_word(rt, i + 2) {
+        return write_listed(rt, i, model, plan, words);
     }
-    let width = argument(i + 2);
-    let budget = argument(i + 4);
-    if is_word(i + 3) {
-        write_load(model, width, budget, plan, words);
-        return;
+    let width = argument(rt, i + 2);
+    let budget = argument(rt, i + 4);
+    if is_word(rt, i + 3) {
+        return write_load(rt, model, width, budget, plan, words);
     }
-    write_search(model, width, argument(i + 3), budget, plan, words);
+    write_search(rt, model, width, argument(rt, i + 3), budget, plan, words)
 }
 
 // Plans the case whose first argument is number i, with the buffers that it says.
-fn write_case(i: usize, model: &[u8], plan: &mut [u8], words: &mut [u64])
+fn write_case(
+    rt: &(impl Env + Print),
+    i: usize,
+    model: &[u8],
+    plan: &mut [u8],
+    words: &mut [u64],
+) -> io::Result<()>
     requires { i < 2 ^ 32 }
 {
-    let bytes = least(argument(i + 5) as usize, plan.len());
-    let lent = least(argument(i + 6) as usize, words.len());
-    write_with(i, model, &mut plan[..bytes], &mut words[..lent]);
+    let bytes = least(argument(rt, i + 5) as usize, plan.len());
+    let lent = least(argument(rt, i + 6) as usize, words.len());
+    write_with(rt, i, model, &mut plan[..bytes], &mut words[..lent])
 }
 
 // Reads the model of the case whose first argument is number i, and plans it.
-fn run_case(i: usize, words: &mut [u64])
+fn run_case(rt: &(impl Env + Files + Print + Eprint), i: usize, words: &mut [u64]) -> io::Result<()>
     requires { i < 2 ^ 32 }
 {
-    let mut model = io::large_buffer();
+    let mut model = [0u8; 65536];
     let mut plan = [165u8; 300];
-    let n = read_file(i + 1, &mut model);
-    write_name(i);
-    write_case(i, &model[..n], &mut plan, words);
+    let n = read_model(rt, i + 1, &mut model)?;
+    write_name(rt, i)?;
+    write_case(rt, i, &model[..n], &mut plan, words)
 }
 
 // The longest model and one too long, of bytes 0.
-fn write_longest(words: &mut [u64]) {
+fn write_longest(rt: &impl Print, words: &mut [u64]) -> io::Result<()> {
     let model = [0u8; 65537];
     let mut plan = [165u8; 300];
-    io::write_all(STDOUT_FILENO, b"the-longest: ");
-    write_search(&model[..65536], 1, 1, 0, &mut plan, words);
-    io::write_all(STDOUT_FILENO, b"too-long: ");
-    write_search(&model, 1, 1, 0, &mut plan, words);
+    print!(rt; "the-longest: ")?;
+    write_search(rt, &model[..65536], 1, 1, 0, &mut plan, words)?;
+    print!(rt; "too-long: ")?;
+    write_search(rt, &model, 1, 1, 0, &mut plan, words)
 }
 
-fn main() {
+fn main(rt: HostRuntime) -> io::Result<()> {
     let mut words = [0u64; 300000];
-    let count = least(os::arg_count(), 65536);
     let mut i: usize = 1;
-    while i < count {
-        run_case(i, &mut words);
+    while i < 65536 {
+        if !is_there(&rt, i) {
+            break;
+        }
+        run_case(&rt, i, &mut words)?;
         i += ARGUMENTS;
     }
-    write_longest(&mut words);
+    write_longest(&rt, &mut words)
 }

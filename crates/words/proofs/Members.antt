@@ -11,7 +11,7 @@ use lib.Bits.{bit_and, and_step, and_self, and_le_r}
 use lib.Count.{ones, ones_step, ones-le, count_leading_zeros, leading_top, count_trailing_zeros}
 use lib.Pow.{pow_mono}
 use mathlib.Core.Bool.{false}
-use Rattle.model.specs.Sets.{is_member_lem, cons_if, members_from, members}
+use Rattle.model.specs.Sets.{is_member, cons_if, members_from, members}
 
 pub half_lt : (n s : ℕ) → s < 2 ^ suc n → s / 2 < 2 ^ n
 half_lt n s h = omega (arith, pow-suc 2 n)
@@ -140,6 +140,6 @@ greatest n s h word p =
 
 -- ---- beyond the digits
 
-pub no_member : (n k s : ℕ) → s < 2 ^ n → n ≤ k → is_member_lem k s ≡ false
-unfolding is_member_lem
+pub no_member : (n k s : ℕ) → s < 2 ^ n → n ≤ k → is_member k s ≡ false
+unfolding is_member
 no_member n k s h l = rw (div-eq_of_lt (lt_of_lt_of_le h (pow_mono l)))

@@ -3,7 +3,7 @@ use mathlib.Core.Path.{◌≡◌, refl, sym, ap, ◌∙◌}
 use mathlib.Core.List.{List, [], ◌∷◌, ◌++◌, map}
 use Prim.Native.Nat.{ℕ, zero, suc, ◌+◌, ◌/◌, ◌%◌, ◌^◌, ◌<◌}
 use native.Mathlib.Nat.{zero-add, add-zero, suc-add, add-suc, mod-lt, lt_of_lt_of_le, lt_of_le_of_lt}
-use native.Mathlib.Numerals.{add-one, one_add}
+use native.Mathlib.Numerals.{add-one, one-add}
 use native.Mathlib.Omega.{arith}
 use lib.IntN.{ℤ, ◌+ℤ◌, +ℤ_assoc, +ℤ_idl}
 use lib.Pow.{pow_mono, pow_pos, field, mod-mod-pow, shr-shr, shr_le}
@@ -41,7 +41,7 @@ from_parts (suc k) n j s =
     let next : suc j + k ≡ j + suc k = omega arith in
     let digit : s % 2 ^ suc k % 2 ≡ s % 2 = rw (← add-one k) (mod-mod-pow s k 1) in
     let below : s % 2 ^ suc k / 2 ≡ s / 2 % 2 ^ k = rw (← add-one k) (field s k 1) in
-    let above : s / 2 / 2 ^ k ≡ s / 2 ^ suc k = rw (← one_add k) (shr-shr s 1 k) in
+    let above : s / 2 / 2 ^ k ≡ s / 2 ^ suc k = rw (← one-add k) (shr-shr s 1 k) in
     rw (suc-add k n, from_step (k + n) j s, from_parts k n (suc j) (s / 2), above, from_step k j (s % 2 ^ suc k), digit, below, next)
     (cons_append (s % 2) j (members_from k (suc j) (s / 2 % 2 ^ k)) (members_from n (j + suc k) (s / 2 ^ suc k)))
 

@@ -1,5 +1,7 @@
 // Numbers, sets and tables in machine words: the leaves of the evaluator, each equal to its definition in the lower layer.
 
+#![tactic(auto)]
+
 pub mod arithmetic;
 pub mod literals;
 pub mod sets;

@@ -1,0 +1,20 @@
+-- `eval_sets::leaves::comparison` meets its contract.
+use mir.Val.{SFits}
+use mir.Syntax.{w64}
+use borrow.Author.Rules.{rules}
+use Rattle.eval_sets.specs.Answers.{condition_of_two}
+use Rattle.words.proofs.Integers.{back}
+use Rattle.eval_sets.proofs.leaves.comparison.Goals as goal
+
+pub returns-in-Values : goal.returns-in-Values
+unfolding condition_of_two
+returns-in-Values c =
+    let f : SFits w64 c.in-Values.a = search rules in
+    let g : SFits w64 c.in-Values.b = search rules in
+    let q = rw (back f, back g) at c.relation.ensures in
+    rw (q, c.in-Values.is)
+
+pub returns-in-Trouble : goal.returns-in-Trouble
+unfolding condition_of_two
+returns-in-Trouble c =
+    rw c.in-Trouble.is

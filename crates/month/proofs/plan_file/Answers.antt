@@ -1,0 +1,7 @@
+-- `month::plan_file` plans what was read.
+use Rattle.std.proofs.lemmas.Result.{IfOk-weaker}
+use Rattle.month.specs.Taking.{planned}
+use Rattle.month.proofs.plan_file.Goals as goal
+
+pub returns : goal.returns
+returns g c = IfOk-weaker c.plan_bytes.result _ _ (λ x is. planned _ is) c.plan_bytes.ensures

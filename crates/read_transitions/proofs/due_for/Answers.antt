@@ -1,0 +1,18 @@
+-- `read_transitions::due_for` meets its contract. The kind of a variable's byte decides which expression is due.
+use mathlib.Core.Path.{sym, ap}
+use borrow.Author.Tests.{le-leb, lt-leb}
+use Rattle.read_transitions.specs.Transitions.{due_for}
+use Rattle.read_transitions.proofs.Reading.{kind_number_lem, kind_element, kind_set}
+use Rattle.read_transitions.proofs.due_for.Goals as goal
+
+pub returns-then-kind-eq0 : goal.returns-then-kind-eq0
+returns-then-kind-eq0 c =
+    sym (ap due_for (kind_number_lem c.args.kind c.if-kind-eq0.true))
+
+pub returns-then-kind-le64 : goal.returns-then-kind-le64
+returns-then-kind-le64 c =
+    sym (ap due_for (kind_element c.args.kind c.if-kind-eq0.false (le-leb c.args.kind 64 c.if-kind-le64.true)))
+
+pub returns-else-kind-le64 : goal.returns-else-kind-le64
+returns-else-kind-le64 c =
+    sym (ap due_for (kind_set c.args.kind c.if-kind-eq0.false (lt-leb c.args.kind 64 c.if-kind-le64.false)))

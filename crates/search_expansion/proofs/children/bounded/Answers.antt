@@ -1,0 +1,28 @@
+-- `search_expansion::children::bounded` meets its contract.
+use mathlib.Core.Path.{sym, ◌∙◌}
+use Rattle.search_expansion.proofs.TrialSteps.{f_fits, joined, bounded_value, bounded_trouble}
+use Rattle.search_expansion.proofs.children.bounded.Goals as goal
+
+pub combine-f-requires : goal.combine-f-requires
+combine-f-requires c =
+    rw c.hours.ensures
+    (c.requires.0.outlined, f_fits _ _ _ _ _ _ c.requires.0.small c.requires.1.cost c.combine-g.ensures (sym c.child_bound.ensures.0 ∙ c.in-Value.is))
+
+pub returns-in-Value : goal.returns-in-Value
+returns-in-Value c = (
+  record {
+    grows = λ state.
+        bounded_value _ _ _ _ state _ _ _ _ c.offer-x.result c.requires.1.transition (sym c.child_bound.ensures.0 ∙ c.in-Value.is)
+        c.combine-g.ensures (joined _ _ c.hours.ensures c.combine-f.ensures) c.offer-x.ensures;
+  },
+  c.child_bound.ensures.1,
+)
+
+pub returns-in-Trouble : goal.returns-in-Trouble
+returns-in-Trouble c = (
+  record {
+    grows = λ state.
+        bounded_trouble _ _ _ _ state _ _ _ _ c.requires.1.transition (sym c.child_bound.ensures.0 ∙ c.in-Trouble.is) c.combine-g.ensures c.requires.0.held;
+  },
+  c.child_bound.ensures.1,
+)

@@ -1,2 +1,0 @@
--- What the walks over a tally share.
-pub mod Steps
