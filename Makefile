@@ -1,12 +1,12 @@
 # Builds and installs what a host uses: archive and shared library, header, pkg-config file, command line, manual page.
 #
-#   make                          builds what is not there yet; the first time it proves the library, in some ten minutes
+#   make                          builds what is not there yet; the first time it proves the library, all crates below it too
 #   make install PREFIX=/usr/local
 #   make uninstall PREFIX=/usr/local
 #   make farm                     examples/farm, from its tables to the auditor's page target/farm.html
 #
 # DESTDIR goes before every path that is written, for packages. What is built already is taken as it is: after a change
-# of the crates run `rt staticlib repgypsum` first, after one of host/ `cargo build --release`.
+# of the crates run `tools/static_library repgypsum` first, after one of host/ `cargo build --release`.
 
 PREFIX ?= /usr/local
 DESTDIR ?=
@@ -33,7 +33,7 @@ INSTALLED := lib/librepgypsum.a lib/librepgypsum.so.$(VERSION) lib/$(SONAME) lib
 all: $(ARCHIVE) $(SHARED) $(PROGRAM)
 
 $(ARCHIVE):
-	rt staticlib repgypsum
+	tools/static_library repgypsum
 
 $(PROGRAM): | $(ARCHIVE)
 	cargo build --release --offline --manifest-path host/Cargo.toml

@@ -1,4 +1,4 @@
-//! Links the proved library, which `rt staticlib repgypsum` writes.
+//! Links the proved library, which `tools/static_library repgypsum` writes.
 
 use std::path::Path;
 
@@ -9,7 +9,7 @@ fn main() {
     let archive = folder.join("librepgypsum.a");
     println!("cargo:rerun-if-changed={}", archive.display());
     if !archive.exists() {
-        println!("cargo:warning=target/staticlib/librepgypsum.a is missing: run `rt staticlib repgypsum` first");
+        println!("cargo:warning=target/staticlib/librepgypsum.a is missing: run `tools/static_library repgypsum` first");
     }
     println!("cargo:rustc-link-lib=static=repgypsum");
 }

@@ -36,7 +36,7 @@ pub mod verdict {
     pub const CONTRADICTED: u8 = 5;
 }
 
-/// The most of each thing: `VARIABLES` is `mostVariables` there.
+/// The most of each thing: `VARIABLES` is `most_variables` there.
 pub mod limit {
     pub const MODEL_BYTES: usize = 65_536;
     pub const VARIABLES: usize = 16;

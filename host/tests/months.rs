@@ -87,9 +87,9 @@ fn order_does_not_matter() {
     let mut answers = entries(&every.list, &data);
     let closing = Closing::of(&answers);
     let mut names: Vec<&[u8]> = lines(&every.list);
-    let built = tools::root().join("target/bin/monthly");
+    let built = tools::root().join("crates/monthly/out/monthly");
     if !built.exists() {
-        tools::tell("target/bin/monthly is not built: its shuffled lists are not run");
+        tools::tell("crates/monthly/out/monthly is not built: its shuffled lists are not run");
     }
     let mut random = Random::new(0x0724);
     for turn in 0..200 {

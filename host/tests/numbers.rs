@@ -7,24 +7,12 @@ fn text(file: &str) -> String {
     std::fs::read_to_string(root.join(file)).expect("the file can be read")
 }
 
-/// `modelTooLong` as MODEL_TOO_LONG.
-fn spelled(name: &str) -> String {
-    let mut spelled = String::new();
-    for letter in name.chars() {
-        if letter.is_ascii_uppercase() {
-            spelled.push('_');
-        }
-        spelled.push(letter.to_ascii_uppercase());
-    }
-    spelled
-}
-
-/// The lines `name = number` of a text, where the line begins with these words.
+/// The lines `name = number` of a text, where the line begins with these words; `model_too_long` as MODEL_TOO_LONG.
 fn equations(text: &str, words: &str) -> Vec<(String, u64)> {
     let lines = text.lines().filter_map(|line| line.strip_prefix(words));
     let equations = lines.filter_map(|line| line.split_once(" = "));
     equations
-        .filter_map(|(name, number)| Some((spelled(name), number.parse().ok()?)))
+        .filter_map(|(name, number)| Some((name.to_ascii_uppercase(), number.parse().ok()?)))
         .collect()
 }
 
@@ -39,8 +27,8 @@ fn in_rust(name: &str, number: u64) -> bool {
 
 /// Whether the C header has the name with this number.
 fn in_c(name: &str, number: u64) -> bool {
-    let header = text("host/repgypsum.h");
-    let word = format!("REPGYPSUM_{name} = {number}");
+    let header = text("host/repgypsum.h").replace('_', "");
+    let word = format!("REPGYPSUM{} = {number}", name.replace('_', ""));
     let mut lines = header.lines().map(str::trim_start);
     lines.any(|line| {
         line.strip_prefix(&word)
@@ -57,12 +45,12 @@ fn refusals_and_sizes() {
     for (name, number) in refusals {
         assert!(in_rust(&name, number) && in_c(&name, number), "{name}");
     }
-    let sizes = equations(sizes, "most");
+    let sizes = equations(sizes, "most_");
     assert_eq!(sizes.len(), 13);
     for (name, number) in sizes {
         let name = match name.as_str() {
-            "_STEPS" => "LENGTH",
-            name => &name[1..],
+            "STEPS" => "LENGTH",
+            name => name,
         };
         assert!(in_rust(name, number), "{name}");
     }
@@ -70,7 +58,7 @@ fn refusals_and_sizes() {
 
 #[test]
 fn verdicts() {
-    let verdicts = equations(&text("crates/search/specs/Answer.antt"), "verdictNumber ");
+    let verdicts = equations(&text("crates/search/specs/Answer.antt"), "verdict_number ");
     assert_eq!(verdicts.len(), 6);
     for (name, number) in verdicts {
         assert!(in_rust(&name, number) && in_c(&name, number), "{name}");

@@ -77,8 +77,8 @@ fn modules_repeat_and_are_stored() {
             "checked (",
             "searched (",
             "loaded (",
-            "searchedListed (",
-            "loadedListed (",
+            "searched_listed (",
+            "loaded_listed (",
         ];
         let cases: usize = forms.iter().map(|form| text.matches(form).count()).sum();
         println!("{name}: {cases} cases, {} bytes", text.len());

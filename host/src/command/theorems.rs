@@ -7,25 +7,25 @@ pub struct Theorem {
     pub file: &'static str,
 }
 
-pub const A_PLAN: &str = "a-plan-given-is-a-plan";
-pub const CHEAPEST: &str = "cheapest-costs-no-more";
-pub const NO_PLAN: &str = "no-plan-means-none";
-pub const STOPPED: &str = "stopped-bound-below-every-plan";
-pub const CONTRADICTED: &str = "contradicted-only-if-false";
-pub const BROKEN_TARGET: &str = "no-plan-from-broken-target";
-pub const BROKEN_TARGET_ANSWER: &str = "broken-target-has-no-plan";
-pub const NO_LENGTH_STOP: &str = "no-length-stop-in-profile";
-pub const RISING_LIST: &str = "rising-list-guarantee";
-pub const BUILT_IN: &str = "built-in-is-a-list";
-pub const NOTHING_DECLARED: &str = "nothing-declared-is-true";
-pub const PLAN_CHECK: &str = "plan-check-exact";
-pub const REAL_COST: &str = "real-cost-between-the-figures";
-pub const CHEAPEST_IN_RANGES: &str = "cheapest-hours-least-in-ranges";
-pub const NO_PLAN_IN_RANGES: &str = "no-plan-means-none-in-ranges";
-pub const STOPPED_IN_RANGES: &str = "stopped-bound-is-for-high-costs";
-pub const BOTH_COSTS: &str = "plan-check-gives-both";
-pub const LOW_REACHED: &str = "low-is-real";
-pub const HIGH_REACHED: &str = "high-is-real";
+pub const A_PLAN: &str = "a_plan_given_is_a_plan";
+pub const CHEAPEST: &str = "cheapest_costs_no_more";
+pub const NO_PLAN: &str = "no_plan_means_none";
+pub const STOPPED: &str = "stopped_bound_below_every_plan";
+pub const CONTRADICTED: &str = "contradicted_only_if_false";
+pub const BROKEN_TARGET: &str = "no_plan_from_broken_target";
+pub const BROKEN_TARGET_ANSWER: &str = "broken_target_has_no_plan";
+pub const NO_LENGTH_STOP: &str = "no_length_stop_in_profile";
+pub const RISING_LIST: &str = "rising_list_guarantee";
+pub const BUILT_IN: &str = "built_in_is_a_list";
+pub const NOTHING_DECLARED: &str = "nothing_declared_is_true";
+pub const PLAN_CHECK: &str = "plan_check_exact";
+pub const REAL_COST: &str = "real_cost_between_the_figures";
+pub const CHEAPEST_IN_RANGES: &str = "cheapest_hours_least_in_ranges";
+pub const NO_PLAN_IN_RANGES: &str = "no_plan_means_none_in_ranges";
+pub const STOPPED_IN_RANGES: &str = "stopped_bound_is_for_high_costs";
+pub const BOTH_COSTS: &str = "plan_check_gives_both";
+pub const LOW_REACHED: &str = "low_is_real";
+pub const HIGH_REACHED: &str = "high_is_real";
 
 const REAL: &str = "crates/model/proofs/Real.antt";
 const MISSION: &str = "crates/search/proofs/Mission.antt";

@@ -100,7 +100,7 @@ fn a_bound_above_0_in_a_base_state() {
 
 #[test]
 fn the_mark_rests_on_no_declaration() {
-    let theorem = "[nothing-declared-is-true]";
+    let theorem = "[nothing_declared_is_true]";
     let designs = example("three-designs.dp");
     let left = run(&["plan", "--unconditional", &designs]);
     let due = format!("0 1 7 7 3 14 3 4 7 : 0 1 2\nThe model declares no bounds and no preferences: the mark rests on no declaration {theorem}.\n");
@@ -180,14 +180,14 @@ fn targets_outside_the_constraints() {
     assert_eq!(left.status, 1, "{}", left.text());
     for due in [
         "It breaks a constraint: constraint 1, not at = none, does not hold. The target: todo = {a, b, c}, at = none.",
-        "the mark \"no plan\" rests on no declaration [no-plan-from-broken-target].",
+        "the mark \"no plan\" rests on no declaration [no_plan_from_broken_target].",
         "False: at the target, todo = {a, b, c}, at = none, it is 8.",
         "The plan check does not confirm it",
     ] {
         assert!(left.text().contains(due), "{due}\n{}", left.text());
     }
     let said = run(&["plan", "--unconditional", &path]).text();
-    let due = "1 0 0 0 0 0 1 1 0 :\nThe mark \"no plan\" rests on no declaration: the target breaks constraint 1 [no-plan-from-broken-target].\n";
+    let due = "1 0 0 0 0 0 1 1 0 :\nThe mark \"no plan\" rests on no declaration: the target breaks constraint 1 [no_plan_from_broken_target].\n";
     assert_eq!(said, due);
     let troubled = designs_and("constraint 1 / count(todo - todo) = 1\nbound 1");
     let path = file("troubled.dp", troubled.as_bytes());

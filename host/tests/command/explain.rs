@@ -21,15 +21,15 @@ pub fn says(name: &str, text: &str, settings: &str, status: i32, words: &[&str])
 }
 
 const UNCONDITIONAL: &str =
-    "declares no bounds and no preferences, so that nothing here is conditional [nothing-declared-is-true].\n";
+    "declares no bounds and no preferences, so that nothing here is conditional [nothing_declared_is_true].\n";
 
 #[test]
 fn the_three_designs() {
     let left = run(&["explain", &example("three-designs.dp")]);
     let due = [
         "Verdict 0, cheapest. A plan of 3 steps is given, at cost 7.\n",
-        "The plan is a plan of the model, at cost 7, whatever the model declares [a-plan-given-is-a-plan].\n",
-        "No plan of the model costs less, of whatever length [cheapest-costs-no-more].\n",
+        "The plan is a plan of the model, at cost 7, whatever the model declares [a_plan_given_is_a_plan].\n",
+        "No plan of the model costs less, of whatever length [cheapest_costs_no_more].\n",
         UNCONDITIONAL,
         "  start             0              todo = {a, b, c}, at = none\n",
         "      1     2       2  0 load a    todo = {b, c}, at = a\n",
@@ -94,21 +94,21 @@ fn other_verdicts() {
     let none = designs_and("constraint not at = b");
     let due = [
         "Verdict 1, no plan. No plan is given.",
-        "The model has no plan, of whatever length [no-plan-means-none].",
+        "The model has no plan, of whatever length [no_plan_means_none].",
     ];
     says("no-plan", &none, "", 0, &due);
     let broken = designs_and("constraint count(todo) <= 2\nbound 3");
     let due = [
         "Verdict 1, no plan. No plan is given.",
         "The target breaks a constraint: constraint 0, count(todo) <= 2, does not hold (3 on the left, 2 on the right). The target: todo = {a, b, c}, at = none.",
-        "has no plan, of whatever length and whatever the model declares [no-plan-from-broken-target];",
+        "has no plan, of whatever length and whatever the model declares [no_plan_from_broken_target];",
         "So the mark \"no plan\" rests on no declaration.",
         "0 expansions in 1 round, the last at width 1.",
     ];
     says("broken-target", &broken, "", 0, &due);
     let due = [
         "Verdict 2, width stop. A plan of 3 steps is given, at cost 7.",
-        "Every plan of the model costs at least 0 [stopped-bound-below-every-plan].",
+        "Every plan of the model costs at least 0 [stopped_bound_below_every_plan].",
         "Cost 7 and bound 0 leave a gap of 7: the cheapest plan costs at most 7 less.",
         "a wider beam, --width 4 or more, up to 4096",
     ];
@@ -134,7 +134,7 @@ fn other_verdicts() {
 fn contradictions() {
     let due = [
         "Verdict 5, contradicted. A plan of 3 steps is given, at cost 7.",
-        "Some declared bound or preference of the model is false [contradicted-only-if-false].",
+        "Some declared bound or preference of the model is false [contradicted_only_if_false].",
         "By the declarations every plan costs at least 8; the plan given costs 7.",
         "After 0 steps bound 1, 8, is 8, and the rest of the plan costs 7.",
         "Bound 0, 1, is 1 in the base state at the end",

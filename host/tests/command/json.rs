@@ -249,10 +249,10 @@ fn sentences_are_those_of_the_text() {
                 let cited = first.get("sentences").list().iter();
                 let cited: usize = cited.map(|one| one.get("theorems").list().len()).sum();
                 // One more of a model that declares nothing, as the text says it too.
-                let bare = |word: &String| word.contains("[nothing-declared-is-true]");
+                let bare = |word: &String| word.contains("[nothing_declared_is_true]");
                 let bare = usize::from(printed.iter().any(bare));
                 // Three more of a plan whose costs are ranges.
-                let ranged = |word: &String| word.contains("[real-cost-between-the-figures]");
+                let ranged = |word: &String| word.contains("[real_cost_between_the_figures]");
                 let ranged = 3 * usize::from(printed.iter().any(ranged));
                 assert_eq!(cited, 2 + bare + ranged, "{name}");
             }

@@ -117,7 +117,7 @@ fn documents() {
     assert_eq!(profile("tsptw").get("outside").list().len(), 2);
 }
 
-const NO_STOP: &str = "at whatever width and budget [no-length-stop-in-profile].";
+const NO_STOP: &str = "at whatever width and budget [no_length_stop_in_profile].";
 
 #[test]
 fn explained_inside() {
@@ -222,7 +222,7 @@ fn quotations_and_pages() {
     for words in [
         "repgypsum plan --width 16 --loading --budget 100000 ",
         "<h3>The loading profile</h3>",
-        "<a class=\"theorem\" href=\"#no-length-stop-in-profile\">",
+        "<a class=\"theorem\" href=\"#no_length_stop_in_profile\">",
         "\nlength: 6\n",
     ] {
         assert!(page.contains(words), "{words}");

@@ -196,22 +196,22 @@ fn the_example_against_all_orders() {
 fn explained() {
     let due = [
         "A plan of 4 steps is given, at cost 22, and 13 at low figures.\n",
-        "Whatever its steps really cost inside their ranges, its real cost lies between 13 and 22 [real-cost-between-the-figures]:\n",
-        "at the low end where each takes its low cost [low-is-real], at the high end where each takes its high one [high-is-real].\n",
-        "no plan of the model has a smaller high cost, of whatever length [cheapest-hours-least-in-ranges].\n",
+        "Whatever its steps really cost inside their ranges, its real cost lies between 13 and 22 [real_cost_between_the_figures]:\n",
+        "at the low end where each takes its low cost [low_is_real], at the high end where each takes its high one [high_is_real].\n",
+        "no plan of the model has a smaller high cost, of whatever length [cheapest_hours_least_in_ranges].\n",
         "none is above the cost of a plan from there at low\n  figures. What is proved holds as well where none is above the cost of a plan at high figures.\n",
         "   step  low  high  low so far  high so far  transition  what changes\n",
         "      1    2     8           2            8  2 load gpu  todo = {cpu, ddr, npu}, at = gpu\n",
         "      4    4     4          13           22  3 load npu  todo = {}, at = npu\n",
         "answer 0, cost 22, low 13.\n  The plan passes, at both costs that the search states.\n",
-        "passes exactly if it is a plan [plan-check-exact], and with both its costs [plan-check-gives-both].\n",
+        "passes exactly if it is a plan [plan_check_exact], and with both its costs [plan_check_gives_both].\n",
     ];
     says("ranges", &reload_hours(), "", 0, &due);
     // A range in the model, and none in the plan.
     let certain = two_ways((5, 5), (1, 9), "");
     let due = [
         "A plan of 1 step is given, at cost 5.\n",
-        "No plan of the model has a smaller high cost, of whatever length [cheapest-costs-no-more].\n",
+        "No plan of the model has a smaller high cost, of whatever length [cheapest_costs_no_more].\n",
         "answer 0, cost 5, low 5.\n",
     ];
     says("ranges-certain", &certain, "", 0, &due);
@@ -230,17 +230,17 @@ fn other_verdicts() {
     let reloads = reload_hours();
     let due = [
         "Verdict 2, width stop.",
-        "of the high ones, every plan of the model has a high cost of at least 10 [stopped-bound-is-for-high-costs].\n",
+        "of the high ones, every plan of the model has a high cost of at least 10 [stopped_bound_is_for_high_costs].\n",
         "Costs and bound are at high figures.\n",
     ];
     says("ranges-stopped", &reloads, "--width 1", 0, &due);
     let bare = reloads.replace("bound sum(least[todo])", "");
     let due = [
-        "Every plan of the model has a high cost of at least 0 [stopped-bound-below-every-plan].\n",
+        "Every plan of the model has a high cost of at least 0 [stopped_bound_below_every_plan].\n",
     ];
     says("ranges-bare", &bare, "--width 1", 0, &due);
     let none = reloads.replace("\nbound", "\nconstraint not at = cpu\nbound");
-    let due = ["of the high ones, the model has no plan, of whatever length [no-plan-means-none-in-ranges].\n"];
+    let due = ["of the high ones, the model has no plan, of whatever length [no_plan_means_none_in_ranges].\n"];
     says("ranges-none", &none, "", 0, &due);
     let false_bound = counting("sum", "2", "5") + "bound 6 * (3 - x)\n";
     let due = [
@@ -478,8 +478,8 @@ fn chart_and_page() {
     for words in [
         "<th class=\"number\">low</th><th class=\"number\">high</th><th class=\"number\">low so far</th><th class=\"number\">high so far</th>",
         "<td class=\"number\">1</td><td class=\"number\">2</td><td class=\"number\">8</td><td class=\"number\">2</td><td class=\"number\">8</td>",
-        "href=\"#real-cost-between-the-figures\"",
-        "<tr id=\"cheapest-hours-least-in-ranges\">",
+        "href=\"#real_cost_between_the_figures\"",
+        "<tr id=\"cheapest_hours_least_in_ranges\">",
         "at cost 22, and 13 at low figures.",
     ] {
         assert!(page.contains(words), "{words}");

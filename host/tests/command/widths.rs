@@ -142,8 +142,8 @@ fn explained() {
     let due = [
         "\nWidths 1, 200, length limit 64, budget 100,000 expansions.\n",
         "\nThe widths\n  Round 1 has width 1, each round after it the next entry of the list, and 200 again once that is reached.\n",
-        "with its last entry as the widest beam [rising-list-guarantee].",
-        "which is such a list too [built-in-is-a-list].",
+        "with its last entry as the widest beam [rising_list_guarantee].",
+        "which is such a list too [built_in_is_a_list].",
         "9 expansions in 2 rounds, the last at width 200.",
     ];
     says("widths", &designs_and(""), "--widths=1,200", 0, &due);

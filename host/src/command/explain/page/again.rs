@@ -50,8 +50,8 @@ pub fn html(explained: &Explained) -> String {
             ("The same, and whether the model on the desk is still the quoted one:", &with_model),
             ("The line alone, from the model:", &plan),
             (
-                "The proofs, in the repository: the library with its contracts, then everything from nothing:",
-                "rt check repgypsum\n.ci/run",
+                "The proofs, in the repository: the library with its contracts, then everything:",
+                "(cd crates/repgypsum && rt check)\n.ci/run",
             ),
         ])
 }
