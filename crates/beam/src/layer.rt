@@ -14,7 +14,6 @@ use crate::buckets::{bucket, slot_bucket};
 use crate::slots::{sought, write_slot};
 use beam_order::slots::{HEADER_WORDS, LAYER_WORDS, LINKS_AT, ORDER_AT, SLOT_WORDS, f_in};
 use costs::less;
-use laws::copy_words;
 use model::Cost;
 use outline::layout::{PREPARED_WORDS, STATE_WORDS};
 
@@ -93,6 +92,7 @@ fn find_in(
 {
     let b = LINKS_AT * w;
     let mut next = layer[b + (w + k)] as usize;
+    // a chain by links: no range gives its places
     while 0 < next {
         let s = next - 1;
         if sought(model, outline, layer, s, header, state, beaten) {
@@ -143,7 +143,7 @@ fn remove_slot(
     let b = LINKS_AT * w;
     let at = s * SLOT_WORDS;
     let mut header = [0u64; HEADER_WORDS];
-    copy_words(&layer[at..at + HEADER_WORDS], &mut header);
+    header.copy_from_slice(&layer[at..at + HEADER_WORDS]);
     let end = position_in(layer, w, n, &header);
     let p = beam_order::find_below(&layer[a..b], end, s as u64);
     remove_position(layer, outline, w, n, k, p);
@@ -165,6 +165,7 @@ fn remove_beaten(
 {
     let mut left = n;
     let mut link = find_in(layer, model, outline, w, k, header, state, true);
+    // a chain by links: no range gives its places
     while 0 < link {
         remove_slot(layer, outline, w, left, k, link - 1);
         left -= 1;
@@ -241,14 +242,12 @@ pub fn keep_below(layer: &[u64], width: usize, n: usize, best: Cost) -> usize
     ensures { Below width n result best layer.now }
 {
     let a = ORDER_AT * width;
-    let mut left = n;
-    while 0 < left {
-        let s = layer[a + (left - 1)] as usize;
+    for i in (0..n).rev() {
+        let s = layer[a + i] as usize;
         let f = f_in(layer, s * SLOT_WORDS);
         if less(f, best) {
-            return left;
+            return i + 1;
         }
-        left -= 1;
     }
     0
 }

@@ -8,7 +8,6 @@ ghost use Rattle.beam.specs.Parts.{written, sought as slot_sought};
 
 use beam_order::slots::{HEADER_WORDS, SLOT_WORDS, STATE_AT, g_in};
 use costs::at_most;
-use laws::copy_words;
 use model::Cost;
 use outline::layout::{PREPARED_WORDS, STATE_WORDS};
 use steps::states::dominates;
@@ -24,8 +23,8 @@ pub fn write_slot(
     ensures { slots.new ≡ written slots.old s (header.now ++ state.now) }
 {
     let at = s * SLOT_WORDS;
-    copy_words(header, &mut slots[at..at + STATE_AT]);
-    copy_words(state, &mut slots[at + STATE_AT..at + SLOT_WORDS]);
+    slots[at..at + STATE_AT].copy_from_slice(header);
+    slots[at + STATE_AT..at + SLOT_WORDS].copy_from_slice(state);
 }
 
 // Whether state a at this g dominates state b at its g, which is no less.
@@ -40,10 +39,7 @@ fn beats(
     requires { Outlined model.now outline.now }
     ensures { result ≡ dominates_at model.now g a.now other b.now }
 {
-    if at_most(g, other) {
-        return dominates(model, outline, a, b);
-    }
-    false
+    at_most(g, other) && dominates(model, outline, a, b)
 }
 
 // Whether the node in slot s beats the child, or, for beaten, the child it.

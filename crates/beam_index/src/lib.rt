@@ -9,11 +9,7 @@ ghost use Rattle.beam_index.specs.Links.{Falling, LowLink, Added, Removed, Clear
 pub fn clear(links: &mut [u64])
     ensures { Cleared links.new }
 {
-    let mut i = 0;
-    while i < links.len() {
-        links[i] = 0;
-        i += 1;
-    }
+    links.fill(0);
 }
 
 // The place of the first link of bucket b, from its head on, that is at most y.
@@ -23,6 +19,7 @@ fn low_link(links: &[u64], w: usize, b: usize, y: usize) -> usize
 {
     let mut at = w + b;
     let mut link = links[at] as usize;
+    // a chain by links: no range gives its places
     while y < link {
         at = link - 1;
         link = links[at] as usize;

@@ -19,7 +19,7 @@ not_at_most a b = by_test (leb b a) refl
     by_test false e = rw (lt-ltb a b (leb-false b a e))
 
 -- one number by its tests both ways, and then what is left
-abbrev tests : (a b : ℕ) → Bool → Bool
+abbrev pub tests : (a b : ℕ) → Bool → Bool
 tests a b rest = cond (ltb a b) true (cond (ltb b a) false rest)
 
 -- "less, or no greater and the rest" is these tests

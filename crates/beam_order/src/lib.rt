@@ -14,10 +14,8 @@ use crate::slots::{HEADER_WORDS, earlier};
 pub fn fill(order: &mut [u64])
     ensures { order.new ≡ up_from 0 (length order.old) }
 {
-    let mut i = 0;
-    while i < order.len() {
+    for i in 0..order.len() {
         order[i] = i as u64;
-        i += 1;
     }
 }
 
@@ -26,6 +24,7 @@ pub fn insert_at(order: &mut [u64], n: usize, p: usize, x: u64)
     requires { (p ≤ n) × (n < length order.old) }
     ensures { order.new ≡ inserted order.old n p x }
 {
+    // no `rotate_right` here, and no `copy_within`: they call memmove, and hosts are promised memcpy and memset alone (the C interface)
     let mut j = n;
     while p < j {
         order[j] = order[j - 1];
@@ -39,6 +38,7 @@ pub fn remove_at(order: &mut [u64], n: usize, p: usize)
     requires { (p < n) × (n ≤ length order.old) }
     ensures { order.new ≡ removed order.old n p }
 {
+    // no `rotate_left`, as above
     let x = order[p];
     let mut j = p + 1;
     while j < n {
@@ -49,6 +49,7 @@ pub fn remove_at(order: &mut [u64], n: usize, p: usize)
 }
 
 // Whether the node with this header goes before the one at place i.
+#[tactic(auto, unfolding(crate::specs::Order::earlier_at))]
 pub fn earlier_at(slots: &[u64], order: &[u64], i: usize, header: &[u64; HEADER_WORDS]) -> bool
     requires { (length header.now ≡ header_words) × ((i < length order.now) × (get_or order.now i 0 * slot_words + slot_words ≤ length slots.now)) }
     ensures { result ≡ earlier_at slots.now order.now header.now i }
@@ -56,7 +57,8 @@ pub fn earlier_at(slots: &[u64], order: &[u64], i: usize, header: &[u64; HEADER_
     earlier(header, slots, order[i] as usize)
 }
 
-// The place of the node with this header among the first n: behind those that it does not go before. Found by halving.
+// The place of the node with this header among the first n: behind those that it does not go before. Found by halving, and not by
+// `partition_point`, whose test must be callable at any number, while this one asks for a slot's.
 pub fn position_for(
     slots: &[u64],
     order: &[u64],
@@ -85,12 +87,5 @@ pub fn find_below(order: &[u64], p: usize, x: u64) -> usize
     requires { p ≤ length order.now }
     ensures { FoundBelow order.now p x result }
 {
-    let mut j = p;
-    while 0 < j {
-        j -= 1;
-        if order[j] == x {
-            return j;
-        }
-    }
-    p
+    order[..p].iter().rposition(|y| *y == x).unwrap_or(p)
 }

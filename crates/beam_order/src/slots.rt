@@ -69,7 +69,8 @@ pub fn f_in(words: &[u64], at: usize) -> Cost
     }
 }
 
-// Whether the node with this header goes before the one in slot s: by the hours of f, then by its moves, then by h.
+// Whether the node with this header goes before the one in slot s: by the hours of f, then by its moves, then by h. Written with && and ||, or
+// with one test for numbers that differ, it makes `position_for` up to a quarter slower.
 pub fn earlier(header: &[u64; HEADER_WORDS], slots: &[u64], s: usize) -> bool
     requires { (length header.now ≡ header_words) × (s * slot_words + slot_words ≤ length slots.now) }
     ensures { result ≡ Slots·earlier header.now (words_in slots.now s) }

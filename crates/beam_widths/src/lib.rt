@@ -33,6 +33,7 @@ pub fn widest(widths: &[u16]) -> usize
 }
 
 // The place of the next width in a list of so many: the next entry, the last again at the last.
+#[tactic(auto, unfolding(crate::specs::Lists::place_behind))]
 pub fn next_place(place: usize, count: usize) -> usize
     requires { place < count }
     ensures { result ≡ place_behind count place }
@@ -45,33 +46,22 @@ fn entries_rise(widths: &[u16]) -> bool
     ensures { result ≡ rising_from 0 widths.now }
 {
     let mut before: usize = 0;
-    let mut place: usize = 0;
-    while place < widths.len() {
-        let width = width_at(widths, place);
-        if width <= before {
-            return false;
-        }
-        if 4096 < width {
+    for entry in widths {
+        let width = width_of(*entry);
+        if width <= before || 4096 < width {
             return false;
         }
         before = width;
-        place += 1;
     }
     true
 }
 
 // Whether a list may be lent: 1 to 16 widths from 1 to 4,096 that rise.
+#[tactic(auto, unfolding(search::specs::Run::rising))]
 pub fn rises(widths: &[u16]) -> bool
     ensures { result ≡ rising widths.now }
 {
-    let count = widths.len();
-    if count < 1 {
-        return false;
-    }
-    if 16 < count {
-        return false;
-    }
-    entries_rise(widths)
+    (1..=16).contains(&widths.len()) && entries_rise(widths)
 }
 
 // How many of the built-in widths there are up to W; none where W is no such width.
@@ -79,12 +69,10 @@ pub fn built_in(width: u32) -> usize
     ensures { BuiltIn width result }
 {
     let wanted = width as usize;
-    let mut place: usize = 0;
-    while place < 13 {
+    for place in 0..WIDTHS.len() {
         if width_of(WIDTHS[place]) == wanted {
             return place + 1;
         }
-        place += 1;
     }
     0
 }

@@ -1,12 +1,11 @@
 -- What the timed calls answer: an evaluator's answer as one number; how many of a row of children a layer keeps.
-use Rattle.std.specs.Prelude.{ℕ, zero, suc, ◌+◌, ◌-◌, ◌*◌, ◌/◌, ◌%◌, ◌^◌, ◌≤◌, ◌<◌, Bool, cond, ◌&&◌, List, [], ◌∷◌, ◌++◌, leb, ltb, eqb, ℤ, negsuc, length, replicate}
+use Rattle.std.specs.Prelude.{Ok, Err, ℕ, zero, suc, ◌+◌, ◌-◌, ◌*◌, ◌/◌, ◌%◌, ◌^◌, ◌≤◌, ◌<◌, Bool, cond, ◌&&◌, List, [], ◌∷◌, ◌++◌, leb, ltb, eqb, ℤ, negsuc, length, replicate}
 use Rattle.std.proofs.Math.Option.{none}
 use Rattle.model.specs.declared.Cost.{Cost}
 use Rattle.model.specs.Costs.{free, hours}
 use Rattle.model.specs.Numbers.{most_model_bytes, most_variables}
 use Rattle.model.specs.Meaning.{State}
-use Rattle.eval_sets.specs.declared.answers.NumberValue.{NumberValue}
-use Rattle.eval_sets.specs.declared.answers.NumberValue.TheVariants as N
+use Rattle.eval_sets.specs.Answers.{NumberValue}
 use Rattle.eval_sets.specs.declared.answers.ConditionValue.{ConditionValue}
 use Rattle.eval_sets.specs.declared.answers.ConditionValue.TheVariants as C
 use Rattle.steps.specs.InBytes.{refusal_in, Outlined, system_in}
@@ -17,8 +16,8 @@ use Rattle.beam.specs.Nodes.{node_of, header_of}
 
 -- the value, or −2^63 for trouble
 abbrev pub number_code : NumberValue → ℤ
-number_code (N.Value z n) = z
-number_code (N.Trouble t) = negsuc (2 ^ 63 - 1)
+number_code (Ok z) = z.value
+number_code (Err t) = negsuc (2 ^ 63 - 1)
 
 -- 1 where it holds, 0 where not, 2 for trouble
 abbrev pub condition_code : ConditionValue → ℕ

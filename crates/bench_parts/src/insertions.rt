@@ -55,14 +55,12 @@ fn offer_children(
     empty(layer, w);
     let mut count: usize = 0;
     let mut x = seed;
-    let mut left = children;
-    while 0 < left {
+    for _child in 0..children {
         let header = make_header(x);
         let state = make_state(x);
         let inserted = insert(layer, model, outline, w, count, &header, &state);
         count = inserted.count;
         x = next(x);
-        left -= 1;
     }
     count
 }
@@ -94,18 +92,17 @@ pub fn repgypsum_insertions(
         let w = width as usize;
         if layer_fits(w, words.len()) {
             let mut outline = [0u64; PREPARED_WORDS];
-            let refusal = read_and_prepare(model, &mut outline);
-            if refusal == 0 {
-                return offer_children(
+            return match read_and_prepare(model, &mut outline) {
+                Ok(()) => offer_children(
                     words,
                     model,
                     &outline,
                     w,
                     children as u64,
                     seed as u64,
-                ) as u64;
-            }
-            return 0;
+                ) as u64,
+                Err(_) => 0,
+            };
         }
         return 0;
     }

@@ -8,7 +8,7 @@ ghost use Rattle.std.specs.Prelude.{◌≡◌};
 ghost use Rattle.eval_sets.specs.Runs.{environment, run_number, run_condition};
 ghost use Rattle.bench_parts.specs.Timed.{number_code, condition_code};
 
-use eval_sets::answers::{ConditionValue, NumberValue};
+use eval_sets::answers::ConditionValue;
 use outline::layout::{PREPARED_WORDS, STATE_WORDS};
 
 // The value of the number at the front of e, or the least i64 for trouble.
@@ -21,8 +21,8 @@ pub fn repgypsum_number_value(
     ensures { result ≡ number_code (run_number 32 (environment model.now state.now outline.now) e.now) }
 {
     match eval_numbers::number(e, model, state, outline, 32) {
-        NumberValue::Value(z, _) => z,
-        NumberValue::Trouble(_) => -9223372036854775808,
+        Ok(z) => z.value,
+        Err(_) => -9223372036854775808,
     }
 }
 

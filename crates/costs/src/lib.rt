@@ -2,31 +2,27 @@
 
 #![tactic(auto)]
 
-ghost use Rattle.std.specs.Prelude.{◌≡◌, not, max};
+ghost use Rattle.std.specs.Prelude.{◌≡◌, not};
 ghost use Rattle.model.specs.Commands.{rule_of};
 ghost use Rattle.model.specs.Costs.{at_most, hours as Costs·hours, fixed as Costs·fixed, combine as Costs·combine};
 ghost use Rattle.costs.specs.Costs.{Joinable};
 
 use model::Cost;
 
-// Whether a cost is at most another: by hours, then by moves.
+// Whether a cost is at most another: by hours, then by moves. No derived order is this one, since costs that differ in their low figures alone
+// are at most each other.
+#[tactic(auto, unfolding(model::specs::Costs::at_most))]
 pub fn at_most(a: Cost, b: Cost) -> bool
     ensures { result ≡ at_most a b }
 {
-    if a.high < b.high {
-        return true;
-    }
-    if a.high == b.high {
-        return a.moves <= b.moves;
-    }
-    false
+    a.high < b.high || (a.high == b.high && a.moves <= b.moves)
 }
 
 // Whether a cost is less than another.
 pub fn less(a: Cost, b: Cost) -> bool
     ensures { result ≡ not (at_most b a) }
 {
-    if at_most(b, a) { false } else { true }
+    !at_most(b, a)
 }
 
 // The cost of h hours, as a bound has it.
@@ -51,13 +47,6 @@ pub fn fixed(c: u64) -> Cost
     }
 }
 
-// The larger of two numbers.
-fn larger(a: u64, b: u64) -> u64
-    ensures { result ≡ max a b }
-{
-    if a < b { b } else { a }
-}
-
 // Two costs joined by the rule with this number: 0 sum, 1 largest.
 pub fn combine(rule: u64, a: Cost, b: Cost) -> Cost
     requires { Joinable a b }
@@ -70,17 +59,9 @@ pub fn combine(rule: u64, a: Cost, b: Cost) -> Cost
             moves: a.moves + b.moves,
         };
     }
-    let low = larger(a.low, b.low);
-    if at_most(a, b) {
-        return Cost {
-            high: b.high,
-            low: low,
-            moves: b.moves,
-        };
-    }
+    let larger = if at_most(a, b) { b } else { a };
     Cost {
-        high: a.high,
-        low: low,
-        moves: a.moves,
+        low: a.low.max(b.low),
+        ..larger
     }
 }

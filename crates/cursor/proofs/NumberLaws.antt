@@ -1,4 +1,4 @@
--- Numbers by their place: the forms without numbers inside, two numbers one behind the other, and what a code says of an operation.
+-- Numbers by their place: the forms without numbers inside, two numbers one behind the other, and what is told of an operation.
 use Prim.Native.Nat.{ℕ, zero, suc, ◌+◌, ◌-◌, ◌%◌, ◌≤◌, ◌<◌}
 use mathlib.Core.Path.{◌≡◌, refl, sym, ap, ◌∙◌}
 use mathlib.Core.Bool.{Bool, true, false, cond, false≢true}
@@ -9,7 +9,8 @@ use lib.ListN.{length, get_or, drop}
 use lib.Seq.{drop-drop}
 use lib.Dec.{eqb, leb, ltb}
 use lib.IntN.{ℤ, pos, ◌-ℤ◌}
-use lib.Signed.{mag, lt_z, le_z}
+use Rattle.std.specs.Prelude.{Option, Some, None, IfSome}
+use lib.Signed.{mag, le_z}
 use borrow.Author.Tests.{eqb-true, eqb-false, leb-true, ltb-true}
 use Rattle.model.specs.Numbers.{range_end, range_size}
 use Rattle.model.specs.Values.{Value, value, in_range, floor_quotient}
@@ -18,12 +19,11 @@ use Rattle.model.specs.Readers.{read, integer}
 use Rattle.model.specs.Meaning.{two}
 use Rattle.laws.proofs.Bools.{and_both}
 use Rattle.words.proofs.Bytes.{NoneOf, unnamed}
-use Rattle.eval_sets.specs.declared.answers.NumberValue.TheVariants as N
 use Rattle.eval_sets.specs.declared.first_bytes.Operation.{Operation}
 use Rattle.eval_sets.specs.declared.first_bytes.Operation.TheVariants as Op
 use Rattle.eval_sets.specs.declared.first_bytes.NumberForm.{NumberForm}
 use Rattle.eval_sets.specs.declared.first_bytes.NumberForm.TheVariants as NF
-use Rattle.eval_sets.specs.Answers.{number_answer, past_number}
+use Rattle.eval_sets.specs.Answers.{told, number_answer, past_number}
 use Rattle.eval_sets.specs.Forms.{number_form, operands, parts, span}
 use Rattle.eval_sets.specs.Runs.{fits, arithmetic, run_number, run_condition, number_at, number_behind}
 use Rattle.eval_sets.proofs.Opening.{number_opens}
@@ -32,8 +32,8 @@ use Rattle.eval_sets.proofs.Within.{number_known}
 use Rattle.quick.specs.Entries.{EntryForm, entry_at}
 use Rattle.quick.proofs.Compared.{fits_value, variable_run, literal_run, entry_run}
 use Rattle.cursor.specs.Places.{Stands, Begins}
-use Rattle.cursor.specs.Told.{silent_from, here, NumberTo, NumberTold}
-use Rattle.cursor.specs.Codes.{ranged_code, OperationTold, is_operation}
+use Rattle.cursor.specs.Told.{here, NumberTo, NumberTold}
+use Rattle.cursor.specs.Codes.{ranged, OperationTold, is_operation}
 
 -- ---- by first bytes alone
 
@@ -72,8 +72,8 @@ module _ (bytes words state : List ℕ) where
 
   -- 22 to 27 and two numbers, by their runs
   two_run : (d p b n m : ℕ) (x y z : ℤ) (o : Operation) → (d ≡ 0 → ⊥) → p < length bytes → get_or bytes p 0 ≡ b → number_form b ≡ NF.Arithmetic o
-      → run_number (d - 1) (here bytes words state) (drop (p + 1) bytes) ≡ N.Value x n → run_number (d - 1) (here bytes words state) (drop n (drop (p + 1) bytes)) ≡ N.Value y m → arithmetic o x y ≡ value z
-      → run_number d (here bytes words state) (drop p bytes) ≡ N.Value z (1 + (n + m))
+      → run_number (d - 1) (here bytes words state) (drop (p + 1) bytes) ≡ told x n → run_number (d - 1) (here bytes words state) (drop n (drop (p + 1) bytes)) ≡ told y m → arithmetic o x y ≡ value z
+      → run_number d (here bytes words state) (drop p bytes) ≡ told z (1 + (n + m))
   unfolding number_answer number_at number_behind two ◌and_then◌
   two_run d p b n m x y z o some l byte form first second e =
       let rest = drop (p + 1) bytes in
@@ -90,7 +90,7 @@ module _ (bytes words state : List ℕ) where
       let n = first.used in
       let m = second.used in
       let behind : drop n (drop (p + 1) bytes) ≡ drop q bytes = drop-drop n (p + 1) bytes ∙ ap (λ (k : ℕ). drop k bytes) (sym first.ends) in
-      let whole : (d : ℕ) → 1 + (n + m) ≤ d → run_number d (here bytes words state) (drop p bytes) ≡ N.Value z (1 + (n + m)) =
+      let whole : (d : ℕ) → 1 + (n + m) ≤ d → run_number d (here bytes words state) (drop p bytes) ≡ told z (1 + (n + m)) =
       λ d h. two_run d p b n m x y z o (λ k. absurd (omega (arith, h, k))) (omega (arith, begins.there.inside)) begins.byte form (first.is.runs (d - 1) (omega (arith, h)))
       (ap (run_number (d - 1) (here bytes words state)) behind ∙ second.is.runs (d - 1) (omega (arith, h))) e in
       record {
@@ -98,15 +98,16 @@ module _ (bytes words state : List ℕ) where
         ends = omega (arith, first.ends, second.ends);
         is = record {
           there = record { inside = omega (arith, first.ends, second.is.there.inside); near = omega (arith, first.ends, second.is.there.near) };
-          fits = (number_known (1 + (n + m)) (here bytes words state) (drop p bytes) z (1 + (n + m)) (whole (1 + (n + m)) (omega arith))).0;
+          fits = (number_known (1 + (n + m)) (here bytes words state) (drop p bytes) (whole (1 + (n + m)) (omega arith))).0;
           runs = whole;
         };
       }
 
-  -- a number of two, by what its code tells
-  pub two_told : {p b q r : ℕ} {o : Operation} {x y code : ℤ} → Begins bytes p b → number_form b ≡ NF.Arithmetic o
-      → NumberTo bytes words state (p + 1) x q → NumberTo bytes words state q y r → OperationTold b x y code → NumberTold bytes words state p code r
-  two_told {o = o} begins form first second told low = two_numbers begins form first second (told o form low)
+  -- a number of two, by what is told of the operation
+  pub two_told : {p b q r : ℕ} {o : Operation} {x y : ℤ} → Begins bytes p b → number_form b ≡ NF.Arithmetic o
+      → NumberTo bytes words state (p + 1) x q → NumberTo bytes words state q y r → (a : Option ℤ) → OperationTold b x y a → NumberTold bytes words state p a r
+  two_told begins form first second None told = tt
+  two_told {o = o} begins form first second (Some z) told = two_numbers begins form first second (told o form)
 
 -- bytes among those that stand
 pub inner : {bytes : List ℕ} {p n : ℕ} (i k : ℕ) → i + k ≤ n → Stands bytes p n → Stands bytes (p + i) k
@@ -156,36 +157,40 @@ module _ (b : ℕ) (h : is_operation b ≡ true) where
       next 0x25 l5 (operates_by 0x25 Op.Quotient refl) (λ l6.
       next 0x26 l6 (operates_by 0x26 Op.Lesser refl) (λ l7. operates_by 0x27 Op.Greater refl (omega (arith, l7, bounds.1)))))))
 
--- ---- codes of operations
+-- ---- what is told of operations
 
--- a code that tells is the number in range
-pub ranged_value : (z code : ℤ) → code ≡ ranged_code z → lt_z code (pos silent_from) ≡ true → fits z ≡ value code
-unfolding ranged_code in_range
-ranged_value z code e l = go (ltb (mag z) range_end) refl
+-- what is told is the number in range
+pub ranged_value : (z : ℤ) (r : Option ℤ) → r ≡ ranged z → IfSome r (λ v. fits z ≡ value v)
+unfolding ranged in_range
+ranged_value z r e = go (ltb (mag z) range_end) refl
   where
-    go : (t : Bool) → ltb (mag z) range_end ≡ t → fits z ≡ value code
+    go : (t : Bool) → ltb (mag z) range_end ≡ t → IfSome r (λ v. fits z ≡ value v)
     go true t = rw (e, t)
-    go false t = absurd (false≢true (rw (e, t) at l))
+    go false t = rw (e, t) tt
 
 -- the operation's byte gives the operation
 same_operation : (b : ℕ) (o u : Operation) → number_form b ≡ NF.Arithmetic o → number_form b ≡ NF.Arithmetic u → o ≡ u
 same_operation b o u e f = let q : NF.Arithmetic o ≡ NF.Arithmetic u = sym e ∙ f in cc
 
-pub operation_told : (b : ℕ) (o : Operation) (x y z code : ℤ) → number_form b ≡ NF.Arithmetic o → arithmetic o x y ≡ fits z → code ≡ ranged_code z → OperationTold b x y code
-operation_told b o x y z code form is e u other l = ap (λ (v : Operation). arithmetic v x y) (sym (same_operation b o u form other)) ∙ is ∙ ranged_value z code e l
+-- of an operation that is as its byte says
+by_form : (b : ℕ) (o : Operation) (x y : ℤ) (r : Option ℤ) → number_form b ≡ NF.Arithmetic o → IfSome r (λ v. arithmetic o x y ≡ value v) → OperationTold b x y r
+by_form b o x y r form told u other = rw (← same_operation b o u form other) told
 
-pub quotient_told : (x y z code : ℤ) → floor_quotient x y ≡ value z → code ≡ ranged_code z → OperationTold 0x25 x y code
+pub operation_told : (b : ℕ) (o : Operation) (x y z : ℤ) (r : Option ℤ) → number_form b ≡ NF.Arithmetic o → arithmetic o x y ≡ fits z → r ≡ ranged z → OperationTold b x y r
+operation_told b o x y z r form is e = by_form b o x y r form (rw is (ranged_value z r e))
+
+pub quotient_told : (x y z : ℤ) (r : Option ℤ) → floor_quotient x y ≡ value z → r ≡ ranged z → OperationTold 0x25 x y r
 unfolding number_form arithmetic ◌and_then◌
-quotient_told x y z code q e = operation_told 0x25 Op.Quotient x y z code refl (rw q) e
+quotient_told x y z r q e = operation_told 0x25 Op.Quotient x y z r refl (rw q) e
 
 -- one of two numbers in range is in range
 chosen_fits : (t : Bool) (x y : ℤ) → mag x < range_end → mag y < range_end → mag (cond t x y) < range_end
 chosen_fits true x y l k = l
 chosen_fits false x y l k = k
 
-pub lesser_told : (x y code : ℤ) → mag x < range_end → mag y < range_end → code ≡ cond (le_z x y) x y → OperationTold 0x26 x y code
+pub lesser_told : (x y z : ℤ) → mag x < range_end → mag y < range_end → z ≡ cond (le_z x y) x y → OperationTold 0x26 x y (Some z)
 unfolding number_form arithmetic
-lesser_told x y code l k e u form t =
+lesser_told x y z l k e u form =
     ap (λ (v : Operation). arithmetic v x y) (sym (same_operation 0x26 Op.Lesser u refl form)) ∙ fits_value (cond (le_z x y) x y) (chosen_fits (le_z x y) x y l k) ∙ ap value (sym e)
 
 unfoldable is_greater : Operation → Bool
@@ -216,9 +221,9 @@ greater_is Op.Lesser x y h = absurd (false≢true h)
 greater_is Op.Greater x y h = refl
 
 -- of the bytes that name none of the operations before it, the last has 27 alone
-pub greater_told : (b : ℕ) (x y code : ℤ) → b < 256 → NoneOf (Unit {0}) (0x22 ∷ 0x23 ∷ 0x24 ∷ 0x25 ∷ 0x26 ∷ []) b → mag x < range_end → mag y < range_end → code ≡ cond (le_z x y) y x → OperationTold b x y code
+pub greater_told : (b : ℕ) (x y z : ℤ) → b < 256 → NoneOf (Unit {0}) (0x22 ∷ 0x23 ∷ 0x24 ∷ 0x25 ∷ 0x26 ∷ []) b → mag x < range_end → mag y < range_end → z ≡ cond (le_z x y) y x → OperationTold b x y (Some z)
 unfolding is_greater none_or_greater number_form
-greater_told b x y code small none l k e u form t =
+greater_told b x y z small none l k e u form =
     let only : none_or_greater (number_form b) ≡ true = unnamed (0x22 ∷ 0x23 ∷ 0x24 ∷ 0x25 ∷ 0x26 ∷ []) (λ b. none_or_greater (number_form b)) (λ b. true) refl b small none in
     let last : is_greater u ≡ true = sym (ap none_or_greater form) ∙ only in
     greater_is u x y last ∙ fits_value (cond (le_z x y) y x) (chosen_fits (le_z x y) y x k l) ∙ ap value (sym e)

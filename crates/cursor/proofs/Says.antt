@@ -14,10 +14,9 @@ use Rattle.model.specs.Expressions as reading
 use Rattle.model.specs.Meaning.{State, set_value, number_value, condition_value}
 use Rattle.words.specs.States.{state_of}
 use Rattle.outline.specs.Outline.{model_of, Outlines}
-use Rattle.eval_sets.specs.declared.answers.NumberValue.TheVariants as N
 use Rattle.eval_sets.specs.declared.answers.ConditionValue.TheVariants as C
 use Rattle.eval_sets.specs.declared.answers.SetValue.{SetValue}
-use Rattle.eval_sets.specs.Answers.{number_answer, condition_answer}
+use Rattle.eval_sets.specs.Answers.{told as told_number, number_answer, condition_answer}
 use Rattle.eval_sets.proofs.Promises.{run_set_lem, run_number_lem, run_condition_lem}
 use Rattle.prepare.proofs.Deeper.{set_with_depth, number_with_depth, condition_with_depth}
 use Rattle.prepare.proofs.Tested.{holds_value, outline_describes}
@@ -34,11 +33,11 @@ module _ (bytes words state : List ℕ) (outlined : Outlines bytes words (model_
   meant = state_of variables state
 
   pub number_says : {z : ℤ} {q : ℕ} → NumberTo bytes words state p z q → (x : Number) (n : ℕ) → reading.number variables tables most_nesting (drop p bytes) ≡ read x n
-      → N.Value z (q - p) ≡ number_answer (number_value range_end tables x meant) n
+      → told_number z (q - p) ≡ number_answer (number_value range_end tables x meant) n
   number_says {z} {q} told x n reads =
       let top = most_nesting + told.used in
       let took : q - p ≡ told.used = omega (arith, told.ends) in
-      ap (λ (k : ℕ). N.Value z k) took
+      ap (λ (k : ℕ). told_number z k) took
       ∙ sym (told.is.runs top (omega arith))
       ∙ run_number_lem top (here bytes words state) (drop p bytes) _ _ x n (outline_describes state outlined) (number_with_depth variables tables most_nesting top (omega arith) (drop p bytes) reads)
 

@@ -1,6 +1,6 @@
--- Codes of values.
-use Rattle.std.specs.Prelude.{ℕ, ◌+◌, ◌≡◌, Bool, true, cond, ◌&&◌, List, get_or, eqb, leb, ltb, ℤ, pos}
-use Rattle.std.specs.Int.Signed.{mag, lt_z}
+-- What operations and relations make of values, and the bytes that begin forms of one kind.
+use Rattle.std.specs.Prelude.{ℕ, ◌+◌, ◌≡◌, Bool, true, cond, ◌&&◌, List, get_or, eqb, leb, ltb, ℤ, Option, Some, None, IfSome}
+use Rattle.std.specs.Int.Signed.{mag}
 use Rattle.model.specs.Numbers.{range_end}
 use Rattle.model.specs.Values.{value}
 use Rattle.model.specs.Sets as Sets
@@ -10,25 +10,21 @@ use Rattle.eval_sets.specs.declared.first_bytes.Relation.{Relation}
 use Rattle.eval_sets.specs.declared.first_bytes.ConditionForm.TheVariants as CF
 use Rattle.eval_sets.specs.Forms.{number_form, condition_form}
 use Rattle.eval_sets.specs.Runs.{arithmetic, compared}
-use Rattle.cursor.specs.Told.{silent_from}
 
--- a number in range, or a code that tells nothing
-unfoldable pub ranged_code : ℤ → ℤ
-ranged_code z = cond (ltb (mag z) range_end) z (pos silent_from)
+-- a number in range, or nothing
+unfoldable pub ranged : ℤ → Option ℤ
+ranged z = cond (ltb (mag z) range_end) (Some z) None
 
 -- what the operation with first byte b makes of two numbers
-abbrev pub OperationTold : (b : ℕ) (x y code : ℤ) → Type 0
-OperationTold b x y code = (o : Operation) → number_form b ≡ NF.Arithmetic o → lt_z code (pos silent_from) ≡ true → arithmetic o x y ≡ value code
+abbrev pub OperationTold : (b : ℕ) (x y : ℤ) (r : Option ℤ) → Type 0
+OperationTold b x y r = (o : Operation) → number_form b ≡ NF.Arithmetic o → IfSome r (λ z. arithmetic o x y ≡ value z)
 
-abbrev pub QuotientTold : (x y code : ℤ) → Type 0
-QuotientTold x y code = OperationTold 0x25 x y code
-
-unfoldable pub truth_code : Bool → ℕ
-truth_code b = cond b 1 0
+abbrev pub QuotientTold : (x y : ℤ) (r : Option ℤ) → Type 0
+QuotientTold x y r = OperationTold 0x25 x y r
 
 -- what the relation with first byte b says of two numbers
-abbrev pub RelationTold : (b : ℕ) (x y : ℤ) (code : ℕ) → Type 0
-RelationTold b x y code = (o : Relation) → condition_form b ≡ CF.Comparison o → code ≡ truth_code (compared o x y)
+abbrev pub RelationTold : (b : ℕ) (x y : ℤ) (holds : Bool) → Type 0
+RelationTold b x y holds = (o : Relation) → condition_form b ≡ CF.Comparison o → holds ≡ compared o x y
 
 -- 44 to 46 by their byte
 unfoldable pub combined_by : (b s t : ℕ) → ℕ

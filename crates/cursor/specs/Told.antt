@@ -1,18 +1,14 @@
--- Expressions by their place: the value, and how many bytes they take. What a code and a cursor tell of one, sound or silent: a code that tells
--- something is the value, with the cursor behind the expression; any other tells nothing.
-use Rattle.std.specs.Prelude.{ℕ, ◌+◌, ◌≤◌, ◌<◌, ◌≡◌, Bool, true, false, cond, List, drop, eqb, ℤ, pos}
-use Rattle.std.specs.Int.Signed.{mag, lt_z}
+-- Expressions by their place: the value, and how many bytes they take. What is told of one along a cursor, sound or silent: what is answered is the
+-- value, with the cursor behind the expression; no answer tells nothing.
+use Rattle.std.specs.Prelude.{ℕ, ◌+◌, ◌≤◌, ◌<◌, ◌≡◌, Bool, true, false, cond, List, drop, ℤ, Option, IfSome}
+use Rattle.std.specs.Bool.{MatchBool}
+use Rattle.std.specs.Int.Signed.{mag}
 use Rattle.model.specs.Numbers.{range_end}
-use Rattle.eval_sets.specs.declared.answers.NumberValue.TheVariants as N
 use Rattle.eval_sets.specs.declared.answers.ConditionValue.TheVariants as C
-use Rattle.eval_sets.specs.Answers.{set_answer}
+use Rattle.eval_sets.specs.Answers.{told, set_answer}
 use Rattle.eval_sets.specs.Forms.{span}
 use Rattle.eval_sets.specs.Runs.{Environment, environment, run_number, run_condition, run_set}
 use Rattle.cursor.specs.Places.{Stands}
-
--- where the codes of numbers begin that tell nothing
-abbrev pub silent_from : ℕ
-silent_from = 4611686018427387904
 
 module _ (bytes words state : List ℕ) where
   abbrev pub here : Environment
@@ -23,7 +19,7 @@ module _ (bytes words state : List ℕ) where
   pub record NumberIs (p : ℕ) (z : ℤ) (n : ℕ) : Type 0 where
     pub there : Stands bytes p n
     pub fits : mag z < range_end
-    pub runs : (d : ℕ) → n ≤ d → run_number d here (drop p bytes) ≡ N.Value z n
+    pub runs : (d : ℕ) → n ≤ d → run_number d here (drop p bytes) ≡ told z n
 
   pub record ConditionIs (p : ℕ) (holds : Bool) (n : ℕ) : Type 0 where
     pub there : Stands bytes p n
@@ -57,24 +53,22 @@ module _ (bytes words state : List ℕ) where
 
   -- ---- what is told: p is where the cursor was, q where it is
 
-  abbrev pub NumberTold : (p : ℕ) (code : ℤ) (q : ℕ) → Type 0
-  NumberTold p code q = lt_z code (pos silent_from) ≡ true → NumberTo p code q
+  abbrev pub NumberTold : (p : ℕ) (r : Option ℤ) (q : ℕ) → Type 0
+  NumberTold p r q = IfSome r (λ z. NumberTo p z q)
 
   -- a set is told where the cursor has moved
   abbrev pub SetTold : (p s q : ℕ) → Type 0
   SetTold p s q = (q ≡ p → ⊥) → SetTo p s q
 
-  pub record ConditionTold (p code q : ℕ) : Type 0 where
-    pub holds : code ≡ 1 → ConditionTo p true q
-    pub fails : code ≡ 0 → ConditionTo p false q
+  abbrev pub ConditionTold : (p : ℕ) (r : Option Bool) (q : ℕ) → Type 0
+  ConditionTold p r q = IfSome r (λ b. ConditionTo p b q)
 
   -- where it fails the cursor tells nothing
-  pub record TestTold (p code q : ℕ) : Type 0 where
-    pub holds : code ≡ 1 → ConditionTo p true q
-    pub fails : code ≡ 0 → FailsAt p
+  abbrev pub TestTold : (p : ℕ) (r : Option Bool) (q : ℕ) → Type 0
+  TestTold p r q = IfSome r (λ b. MatchBool b (ConditionTo p true q) (FailsAt p))
 
-  -- two numbers from p to q, of which the first is asked for where c is 1, else the second
-  pub record Chosen (p c : ℕ) (z : ℤ) (q : ℕ) : Type 0 where
+  -- two numbers from p to q, of which the first is asked for where c, else the second
+  pub record Chosen (p : ℕ) (c : Bool) (z : ℤ) (q : ℕ) : Type 0 where
     pub first : ℤ
     pub second : ℤ
     pub between : ℕ
@@ -82,7 +76,7 @@ module _ (bytes words state : List ℕ) where
     pub second_is : NumberTo between second q
     pub first_skipped : between ≡ p + span (drop p bytes) 0 1
     pub second_skipped : q ≡ between + span (drop between bytes) 0 1
-    pub chosen : z ≡ cond (eqb c 1) first second
+    pub chosen : z ≡ cond c first second
 
-  abbrev pub ChosenTold : (p c : ℕ) (code : ℤ) (q : ℕ) → Type 0
-  ChosenTold p c code q = lt_z code (pos silent_from) ≡ true → Chosen p c code q
+  abbrev pub ChosenTold : (p : ℕ) (c : Bool) (r : Option ℤ) (q : ℕ) → Type 0
+  ChosenTold p c r q = IfSome r (λ z. Chosen p c z q)

@@ -1,5 +1,5 @@
-// Expressions read along a cursor, sound or silent: a code that tells something is the value, with the cursor behind the expression; any other
-// tells nothing, and the evaluators are asked.
+// Expressions read along a cursor, sound or silent: what is answered is the value, with the cursor behind the expression; None tells nothing,
+// and the evaluators are asked.
 
 #![tactic(auto)]
 

@@ -5,7 +5,7 @@ ghost use Rattle.std.specs.Int.Signed.{mag};
 ghost use Rattle.model.specs.Numbers.{range_end};
 ghost use Rattle.cursor.specs.Places.{Stands, Begins};
 ghost use Rattle.cursor.specs.Told.{NumberTo, NumberTold};
-ghost use Rattle.cursor.specs.Codes.{ranged_code, OperationTold, QuotientTold, is_operation};
+ghost use Rattle.cursor.specs.Codes.{ranged, OperationTold, QuotientTold, is_operation};
 
 use crate::places::{first_byte, stands};
 use outline::layout::{PREPARED_WORDS, STATE_WORDS, TABLES};
@@ -16,32 +16,27 @@ use words::arithmetic::{difference, floor_quotient, in_range, product, signed_wo
 use words::literals::integer;
 use words::tables::entry;
 
-// Codes from here on tell nothing.
-pub const SILENT: i64 = 4611686018427387904;
-
 // A number in range, or nothing.
-pub fn ranged(z: i64) -> i64
-    ensures { result ≡ ranged_code z }
+#[tactic(auto, unfolding(crate::specs::Codes::ranged))]
+pub fn ranged(z: i64) -> Option<i64>
+    ensures { result ≡ ranged z }
 {
-    if in_range(z) {
-        return z;
-    }
-    SILENT
+    if in_range(z) { Some(z) } else { None }
 }
 
 // 25 of two numbers in range.
-pub fn quotient(x: i64, y: i64) -> i64
+pub fn quotient(x: i64, y: i64) -> Option<i64>
     requires { (mag x < range_end) × (mag y < range_end) }
     ensures { QuotientTold x y result }
 {
     if y == 0 {
-        return SILENT;
+        return None;
     }
     ranged(floor_quotient(x, y))
 }
 
 // 22 to 27 of two numbers in range.
-pub fn operation(b: u8, x: i64, y: i64) -> i64
+pub fn operation(b: u8, x: i64, y: i64) -> Option<i64>
     requires { (mag x < range_end) × (mag y < range_end) }
     ensures { OperationTold b x y result }
 {
@@ -50,19 +45,17 @@ pub fn operation(b: u8, x: i64, y: i64) -> i64
         0x23 => ranged(difference(x, y)),
         0x24 => ranged(product(x, y)),
         0x25 => quotient(x, y),
-        0x26 => if x <= y { x } else { y },
-        _ => if x <= y { y } else { x },
+        0x26 => Some(if x <= y { x } else { y }),
+        _ => Some(if x <= y { y } else { x }),
     }
 }
 
 // Whether this byte is one of 22 to 27.
+#[tactic(auto, unfolding(crate::specs::Codes::is_operation))]
 pub fn is_operation(b: u8) -> bool
     ensures { result ≡ is_operation b }
 {
-    if b < 0x22 {
-        return false;
-    }
-    b < 0x28
+    0x22 <= b && b < 0x28
 }
 
 // 28, a table and two elements at the cursor.
@@ -71,27 +64,20 @@ pub fn entry_on(
     at: &mut usize,
     outline: &[u64; PREPARED_WORDS],
     state: &[u64; STATE_WORDS],
-) -> i64
+) -> Option<i64>
     requires { Begins m.now.now at.old 0x28 }
     ensures { NumberTold m.now.now outline.now state.now at.old result at.new }
 {
     let p = *at;
     let e = *m;
-    if stands(e, p, 6) {
-        if begins_element(e[p + 2]) {
-            if begins_element(e[p + 4]) {
-                *at = p + 6;
-                let table = word_at(outline, TABLES + e[p + 1] as usize);
-                return entry(
-                    e,
-                    table,
-                    object(e[p + 2], e[p + 3], state),
-                    object(e[p + 4], e[p + 5], state),
-                );
-            }
-        }
+    if stands(e, p, 6) && begins_element(e[p + 2]) && begins_element(e[p + 4]) {
+        *at = p + 6;
+        let table = word_at(outline, TABLES + e[p + 1] as usize);
+        let row = object(e[p + 2], e[p + 3], state);
+        let column = object(e[p + 4], e[p + 5], state);
+        return Some(entry(e, table, row, column));
     }
-    SILENT
+    None
 }
 
 // A literal, a variable or a table's entry at the cursor.
@@ -100,7 +86,7 @@ pub fn leaf(
     at: &mut usize,
     outline: &[u64; PREPARED_WORDS],
     state: &[u64; STATE_WORDS],
-) -> i64
+) -> Option<i64>
     ensures { NumberTold m.now.now outline.now state.now at.old result at.new }
 {
     let p = *at;
@@ -108,7 +94,7 @@ pub fn leaf(
     if stands(e, p, 2) {
         if e[p] == 0x21 {
             *at = p + 2;
-            return signed_word(word_at(state, e[p + 1] as usize));
+            return Some(signed_word(word_at(state, e[p + 1] as usize)));
         }
         if e[p] == 0x28 {
             return entry_on(m, at, outline, state);
@@ -123,18 +109,16 @@ pub fn literal(
     at: &mut usize,
     outline: &[u64; PREPARED_WORDS],
     state: &[u64; STATE_WORDS],
-) -> i64
+) -> Option<i64>
     ensures { NumberTold m.now.now outline.now state.now at.old result at.new }
 {
     let p = *at;
     let e = *m;
-    if stands(e, p, 5) {
-        if e[p] == 0x20 {
-            *at = p + 5;
-            return integer(&e[p + 1..]);
-        }
+    if stands(e, p, 5) && e[p] == 0x20 {
+        *at = p + 5;
+        return Some(integer(&e[p + 1..]));
     }
-    SILENT
+    None
 }
 
 // The number variable at a place: 21 v.
@@ -171,27 +155,23 @@ pub fn shifted(
     at: &mut usize,
     outline: &[u64; PREPARED_WORDS],
     state: &[u64; STATE_WORDS],
-) -> i64
+) -> Option<i64>
     ensures { NumberTold m.now.now outline.now state.now at.old result at.new }
 {
     let p = *at;
     let e = *m;
-    if stands(e, p, 8) {
-        if e[p + 3] == 0x20 {
-            if e[p + 1] == 0x21 {
-                let x = variable_at(m, p + 1, outline, state);
-                let y = literal_at(m, p + 3, outline, state);
-                *at = p + 8;
-                if e[p] == 0x22 {
-                    return ranged(sum(x, y));
-                }
-                if e[p] == 0x23 {
-                    return ranged(difference(x, y));
-                }
-            }
+    if stands(e, p, 8) && e[p + 3] == 0x20 && e[p + 1] == 0x21 {
+        let x = variable_at(m, p + 1, outline, state);
+        let y = literal_at(m, p + 3, outline, state);
+        *at = p + 8;
+        if e[p] == 0x22 {
+            return ranged(sum(x, y));
+        }
+        if e[p] == 0x23 {
+            return ranged(difference(x, y));
         }
     }
-    SILENT
+    None
 }
 
 // A number variable and a table's entry added, 22 21 v 28 t and two elements, at the cursor.
@@ -200,24 +180,18 @@ pub fn plus_entry(
     at: &mut usize,
     outline: &[u64; PREPARED_WORDS],
     state: &[u64; STATE_WORDS],
-) -> i64
+) -> Option<i64>
     ensures { NumberTold m.now.now outline.now state.now at.old result at.new }
 {
     let p = *at;
     let e = *m;
-    if stands(e, p, 9) {
-        if e[p] == 0x22 {
-            if e[p + 1] == 0x21 {
-                if is_entry(e, p + 3) {
-                    *at = p + 9;
-                    let x = variable_at(m, p + 1, outline, state);
-                    let y = entry_at(e, p + 3, outline, state);
-                    return ranged(sum(x, y));
-                }
-            }
-        }
+    if stands(e, p, 9) && e[p] == 0x22 && e[p + 1] == 0x21 && is_entry(e, p + 3) {
+        *at = p + 9;
+        let x = variable_at(m, p + 1, outline, state);
+        let y = entry_at(e, p + 3, outline, state);
+        return ranged(sum(x, y));
     }
-    SILENT
+    None
 }
 
 // 22 and two tables' entries at the cursor.
@@ -226,23 +200,19 @@ pub fn two_entries(
     at: &mut usize,
     outline: &[u64; PREPARED_WORDS],
     state: &[u64; STATE_WORDS],
-) -> i64
+) -> Option<i64>
     requires { Begins m.now.now at.old 0x22 }
     ensures { NumberTold m.now.now outline.now state.now at.old result at.new }
 {
     let p = *at;
     let e = *m;
-    if stands(e, p, 13) {
-        if is_entry(e, p + 1) {
-            if is_entry(e, p + 7) {
-                *at = p + 13;
-                let x = entry_at(e, p + 1, outline, state);
-                let y = entry_at(e, p + 7, outline, state);
-                return ranged(sum(x, y));
-            }
-        }
+    if stands(e, p, 13) && is_entry(e, p + 1) && is_entry(e, p + 7) {
+        *at = p + 13;
+        let x = entry_at(e, p + 1, outline, state);
+        let y = entry_at(e, p + 7, outline, state);
+        return ranged(sum(x, y));
     }
-    SILENT
+    None
 }
 
 // 22 to 27 and two leaves at the cursor.
@@ -252,20 +222,14 @@ fn two_leaves(
     at: &mut usize,
     outline: &[u64; PREPARED_WORDS],
     state: &[u64; STATE_WORDS],
-) -> i64
+) -> Option<i64>
     requires { Begins m.now.now at.old b × (is_operation b ≡ true) }
     ensures { NumberTold m.now.now outline.now state.now at.old result at.new }
 {
-    let p = *at;
-    *at = p + 1;
-    let x = leaf(m, at, outline, state);
-    if x < SILENT {
-        let y = leaf(m, at, outline, state);
-        if y < SILENT {
-            return operation(b, x, y);
-        }
-    }
-    SILENT
+    *at += 1;
+    let x = leaf(m, at, outline, state)?;
+    let y = leaf(m, at, outline, state)?;
+    operation(b, x, y)
 }
 
 // A leaf, or 22 to 27 and two leaves.
@@ -274,7 +238,7 @@ pub fn simple(
     at: &mut usize,
     outline: &[u64; PREPARED_WORDS],
     state: &[u64; STATE_WORDS],
-) -> i64
+) -> Option<i64>
     ensures { NumberTold m.now.now outline.now state.now at.old result at.new }
 {
     let b = first_byte(*m, *at);

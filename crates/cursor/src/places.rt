@@ -9,10 +9,7 @@ use eval_sets::bytes::{after, skip};
 pub fn stands(e: &[u8], at: usize, n: usize) -> bool
     ensures { result ≡ true → Stands e.now at n }
 {
-    if e.len() < n {
-        return false;
-    }
-    at <= e.len() - n
+    n <= e.len() && at <= e.len() - n
 }
 
 // The byte at a place, 0 where there is none.
@@ -28,10 +25,8 @@ pub fn behind(e: &[u8], at: usize, parts: usize) -> usize
     ensures { BehindAll e.now at parts result }
 {
     let mut q = at;
-    let mut due = parts;
-    while due != 0 {
-        q = q + skip(after(e, q));
-        due -= 1;
+    for _ in 0..parts {
+        q += skip(after(e, q));
     }
     q
 }

@@ -1,4 +1,5 @@
-// Sets at the cursor: variables and literals, and forms of such sets two deep. Where nothing is told the cursor stays.
+// Sets at the cursor: variables and literals, and forms of such sets two deep. Where nothing is told the cursor stays. An Option in place of
+// that was tried, and is slower for models with many sets.
 
 ghost use Rattle.std.specs.Prelude.{◌≡◌, true, ◌<◌};
 ghost use Rattle.eval_sets.specs.Runs.{objects_in};
@@ -30,27 +31,24 @@ fn leaf_set(
             *at = p + 2;
             return word_at(state, e[p + 1] as usize);
         }
-        if e[p] == 0x40 {
-            if stands(e, p, 10) {
-                *at = p + 10;
-                return long(&e[p + 2..]);
-            }
+        if e[p] == 0x40 && stands(e, p, 10) {
+            *at = p + 10;
+            return long(&e[p + 2..]);
         }
     }
     0
 }
 
 // 44 to 46
+#[tactic(auto, unfolding(crate::specs::Codes::combined_by))]
 fn combined(b: u8, s: u64, t: u64) -> u64
     ensures { result ≡ combined_by b s t }
 {
-    if b == 0x44 {
-        return union(s, t);
+    match b {
+        0x44 => union(s, t),
+        0x45 => intersection(s, t),
+        _ => difference(s, t),
     }
-    if b == 0x45 {
-        return intersection(s, t);
-    }
-    difference(s, t)
 }
 
 // 44 to 46 and two leaves at the cursor.
@@ -93,18 +91,14 @@ fn changed(
 {
     let p = *at;
     let e = *m;
-    if stands(e, p, 5) {
-        if e[p + 3] == 0x41 {
-            if begins_element(e[p + 1]) {
-                *at = p + 5;
-                let s = word_at(state, e[p + 4] as usize);
-                let k = single(object(e[p + 1], e[p + 2], state));
-                if b == 0x42 {
-                    return union(k, s);
-                }
-                return difference(s, k);
-            }
+    if stands(e, p, 5) && e[p + 3] == 0x41 && begins_element(e[p + 1]) {
+        *at = p + 5;
+        let s = word_at(state, e[p + 4] as usize);
+        let k = single(object(e[p + 1], e[p + 2], state));
+        if b == 0x42 {
+            return union(k, s);
         }
+        return difference(s, k);
     }
     0
 }
@@ -114,11 +108,7 @@ fn objects_in(outline: &[u64; PREPARED_WORDS], v: usize) -> u64
     requires { v < 256 }
     ensures { result ≡ objects_in outline.now v }
 {
-    let kind = word_at(outline, KINDS + v);
-    if kind < MOST_OBJECTS {
-        return 0;
-    }
-    kind - MOST_OBJECTS
+    word_at(outline, KINDS + v).saturating_sub(MOST_OBJECTS)
 }
 
 // 47 41 v at the cursor.
@@ -133,34 +123,28 @@ fn complement(
 {
     let p = *at;
     let e = *m;
-    if stands(e, p, 3) {
-        if e[p + 1] == 0x41 {
-            *at = p + 3;
-            let v = e[p + 2] as usize;
-            return difference(full(objects_in(outline, v)), word_at(state, v));
-        }
+    if stands(e, p, 3) && e[p + 1] == 0x41 {
+        *at = p + 3;
+        let v = e[p + 2] as usize;
+        return difference(full(objects_in(outline, v)), word_at(state, v));
     }
     0
 }
 
 // Whether this byte adds an element or takes it out: 42 or 43.
+#[tactic(auto, unfolding(crate::specs::Codes::is_change))]
 fn is_change(b: u8) -> bool
     ensures { result ≡ is_change b }
 {
-    if b < 0x42 {
-        return false;
-    }
-    b < 0x44
+    0x42 <= b && b < 0x44
 }
 
 // Whether this byte makes a set of two: 44 to 46.
+#[tactic(auto, unfolding(crate::specs::Codes::is_combination))]
 fn is_combination(b: u8) -> bool
     ensures { result ≡ is_combination b }
 {
-    if b < 0x44 {
-        return false;
-    }
-    b < 0x47
+    0x44 <= b && b < 0x47
 }
 
 // A near set: a leaf, or a form of leaves.
@@ -213,25 +197,21 @@ fn two_sets(
 }
 
 // Where the second of two sets stands whose first one begins with b and is a leaf, from the byte before both on.
+#[tactic(auto, unfolding(crate::specs::Codes::behind_leaf))]
 fn behind_leaf(b: u8) -> usize
     ensures { result ≡ behind_leaf b }
 {
-    if b == 0x41 {
-        return 3;
-    }
-    11
+    if b == 0x41 { 3 } else { 11 }
 }
 
 // Whether one of the two sets behind a place is no leaf.
+#[tactic(auto, unfolding(crate::specs::Codes::is_deep, crate::specs::Codes::behind_leaf))]
 fn is_deep(e: &[u8], p: usize) -> bool
     requires { Stands e.now p 1 }
     ensures { result ≡ is_deep e.now p }
 {
     let b = first_byte(e, p + 1);
-    if 0x42 <= b {
-        return true;
-    }
-    0x42 <= first_byte(e, p + behind_leaf(b))
+    0x42 <= b || 0x42 <= first_byte(e, p + behind_leaf(b))
 }
 
 // A near set, or 44 to 46 and two of them, of which one is no leaf.
@@ -245,10 +225,8 @@ pub fn set(
 {
     let p = *at;
     let b = first_byte(*m, p);
-    if is_combination(b) {
-        if is_deep(*m, p) {
-            return two_sets(b, m, at, outline, state);
-        }
+    if is_combination(b) && is_deep(*m, p) {
+        return two_sets(b, m, at, outline, state);
     }
     near_set(m, at, outline, state)
 }

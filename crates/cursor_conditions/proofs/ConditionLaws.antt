@@ -8,6 +8,7 @@ use native.Mathlib.Omega.{arith}
 use lib.ListN.{length, get_or, drop, length-drop}
 use lib.Seq.{drop-cons, drop-drop}
 use lib.Dec.{eqb, leb, ltb}
+use Rattle.std.specs.Prelude.{Some}
 use borrow.Author.Tests.{eqb-true, eqb-false, ne_eqb, leb-true, le-leb, ltb-true}
 use Rattle.laws.proofs.Bools.{and_both}
 use lib.IntN.{ℤ, pos, negsuc, ◌*ℤ◌}
@@ -35,8 +36,8 @@ use Rattle.eval_sets.proofs.Spans.{span_within, span_operands, span_none}
 use Rattle.quick.specs.Sets.{begins_element, object_in}
 use Rattle.quick.proofs.Changes.{element_run}
 use Rattle.cursor.specs.Places.{Stands, Begins, FirstByte, BehindAll}
-use Rattle.cursor.specs.Told.{silent_from, here, NumberTo, ConditionTo, SetTo, FailsAt, NumberTold, ConditionTold, TestTold}
-use Rattle.cursor.specs.Codes.{ranged_code, truth_code, combined_by, RelationTold, is_combination, is_relation}
+use Rattle.cursor.specs.Told.{here, NumberTo, ConditionTo, SetTo, FailsAt}
+use Rattle.cursor.specs.Codes.{ranged, combined_by, RelationTold, is_combination, is_relation}
 use Rattle.cursor.proofs.NumberLaws.{inner, two_told, operation_told}
 use Rattle.cursor.proofs.SetLaws.{variable_is, literal_is, two_sets_are}
 use Rattle.cursor_conditions.specs.Forms.{ScaledForm, CommonForm, MemberAndCommon}
@@ -83,7 +84,7 @@ begun k f e h =
     let z = f.begins (λ z. h (sym e ∙ z)) in
     record { there = z.there; byte = z.byte ∙ e }
 
--- ---- codes
+-- ---- relations
 
 relation_form : (b : ℕ) → is_relation b ≡ true → (o : Relation) × (condition_form b ≡ CF.Comparison o)
 unfolding is_relation condition_form
@@ -99,16 +100,16 @@ relation_form b h =
         (Re.AtMost, rw e)
 
 -- what 52 says, what 51 says, and 50 where it is neither
-pub at_most_told : (b : ℕ) (x y : ℤ) (code : ℕ) → b ≡ 0x52 → code ≡ truth_code (le_z x y) → RelationTold b x y code
+pub at_most_told : (b : ℕ) (x y : ℤ) (holds : Bool) → b ≡ 0x52 → holds ≡ le_z x y → RelationTold b x y holds
 unfolding condition_form compared
-at_most_told b x y code e h o f =
+at_most_told b x y holds e h o f =
     let g : ◌≡◌ {A = ConditionForm} (CF.Comparison Re.AtMost) (CF.Comparison o) = rw e at f in
     let q : Re.AtMost ≡ o = cc in
     rw (← q) h
 
-pub less_told : (b : ℕ) (x y : ℤ) (code : ℕ) → b ≡ 0x51 → code ≡ truth_code (lt_z x y) → RelationTold b x y code
+pub less_told : (b : ℕ) (x y : ℤ) (holds : Bool) → b ≡ 0x51 → holds ≡ lt_z x y → RelationTold b x y holds
 unfolding condition_form compared
-less_told b x y code e h o f =
+less_told b x y holds e h o f =
     let g : ◌≡◌ {A = ConditionForm} (CF.Comparison Re.Less) (CF.Comparison o) = rw e at f in
     let q : Re.Less ≡ o = cc in
     rw (← q) h
@@ -123,11 +124,11 @@ no_comparison o false false false false false true g h = let z : ◌≡◌ {A = 
 no_comparison o false false false false false false true h = let z : ◌≡◌ {A = ℕ} 0 1 = cc in omega arith
 no_comparison o false false false false false false false h = let z : ◌≡◌ {A = ℕ} 0 1 = cc in omega arith
 
-pub equal_told : (b : ℕ) (x y : ℤ) (code : ℕ) → (b ≡ 0x52 → ⊥) → (b ≡ 0x51 → ⊥) → code ≡ truth_code (equal_z x y) → RelationTold b x y code
+pub equal_told : (b : ℕ) (x y : ℤ) (holds : Bool) → (b ≡ 0x52 → ⊥) → (b ≡ 0x51 → ⊥) → holds ≡ equal_z x y → RelationTold b x y holds
 unfolding condition_form compared
-equal_told b x y code m l h o f = go (eqb b 0x50) refl
+equal_told b x y holds m l h o f = go (eqb b 0x50) refl
   where
-    go : (t : Bool) → eqb b 0x50 ≡ t → code ≡ truth_code (compared o x y)
+    go : (t : Bool) → eqb b 0x50 ≡ t → holds ≡ compared o x y
     go true t =
         let g : ◌≡◌ {A = ConditionForm} (CF.Comparison Re.Equal) (CF.Comparison o) = rw (eqb-true b 0x50 t) at f in
         let q : Re.Equal ≡ o = cc in
@@ -291,36 +292,26 @@ module _ (bytes words state : List ℕ) where
       (λ d h. is_decided (λ g. run_condition d (here bytes words state) g) (drop (p + 1) bytes) a s.used (s.is.runs d (omega arith))
       ∙ ap (λ (l : List ℕ). C.Holds a (s.used + span l 0 1)) (behind_part (p + 1) s.used q s.ends))
 
-  -- ---- what a code tells
+  -- ---- what is told
 
-  pub untold : {p q : ℕ} → ConditionTold bytes words state p 2 q
-  untold = record { holds = λ e. absurd (omega arith); fails = λ e. absurd (omega arith) }
-
-  pub truth_told : {p q code : ℕ} {v : Bool} → code ≡ truth_code v → ConditionTo bytes words state p v q → ConditionTold bytes words state p code q
-  unfolding truth_code
-  truth_told {v = true} e t = record { holds = λ h. t; fails = λ h. absurd (omega arith) }
-  truth_told {v = false} e t = record { holds = λ h. absurd (omega arith); fails = λ h. t }
-
-  pub relation_told : {p b q r code : ℕ} {x y : ℤ} → Begins bytes p b → is_relation b ≡ true → NumberTo bytes words state (p + 1) x q → NumberTo bytes words state q y r → RelationTold b x y code
-      → ConditionTold bytes words state p code r
+  pub relation_told : {p b q r : ℕ} {holds : Bool} {x y : ℤ} → Begins bytes p b → is_relation b ≡ true → NumberTo bytes words state (p + 1) x q → NumberTo bytes words state q y r → RelationTold b x y holds
+      → ConditionTo bytes words state p holds r
   relation_told {b = b} begins h s t told =
       let o = relation_form b h in
-      truth_told (told o.0 o.1) (compared_is o.0 begins o.1 s t)
+      rw (told o.0 o.1) (compared_is o.0 begins o.1 s t)
 
-  -- the same of two numbers that are told one behind the other, by their bits
-  pub both_told_related : {p b q r code : ℕ} {x y : ℤ} → SFits w64 x → SFits w64 y → Begins bytes p b → is_relation b ≡ true
-      → NumberTold bytes words state (p + 1) x q → lt_z (to_z w64 (of_z w64 x)) (pos silent_from) ≡ true → NumberTold bytes words state q y r → lt_z (to_z w64 (of_z w64 y)) (pos silent_from) ≡ true
-      → RelationTold b (to_z w64 (of_z w64 x)) (to_z w64 (of_z w64 y)) code → ConditionTold bytes words state p code r
-  both_told_related f g begins h first low second low' told = relation_told begins h (first (rw (back f) at low)) (second (rw (back g) at low')) (rw (back f, back g) at told)
+  -- the same by the bits of both numbers
+  pub bits_told_related : {p b q r : ℕ} {holds : Bool} {x y : ℤ} → SFits w64 x → SFits w64 y → Begins bytes p b → is_relation b ≡ true
+      → NumberTo bytes words state (p + 1) x q → NumberTo bytes words state q y r → RelationTold b (to_z w64 (of_z w64 x)) (to_z w64 (of_z w64 y)) holds → ConditionTo bytes words state p holds r
+  bits_told_related f g begins h first second told = relation_told begins h first second (rw (back f, back g) at told)
 
-  pub same_told : {p x y code : ℕ} → Begins bytes p 0x53 → Stands bytes p 5 → begins_element (get_or bytes (p + 1) 0) ≡ true → begins_element (get_or bytes (p + 3) 0) ≡ true
-      → x ≡ object_in (get_or bytes (p + 1) 0) (get_or bytes (p + 2) 0) state → y ≡ object_in (get_or bytes (p + 3) 0) (get_or bytes (p + 4) 0) state → code ≡ truth_code (eqb x y)
-      → ConditionTold bytes words state p code (p + 5)
-  same_told {p} begins there a b hx hy e = truth_told (e ∙ rw (hx, hy)) (same_is p begins there a b)
+  pub same_told : {p x y : ℕ} → Begins bytes p 0x53 → Stands bytes p 5 → begins_element (get_or bytes (p + 1) 0) ≡ true → begins_element (get_or bytes (p + 3) 0) ≡ true
+      → x ≡ object_in (get_or bytes (p + 1) 0) (get_or bytes (p + 2) 0) state → y ≡ object_in (get_or bytes (p + 3) 0) (get_or bytes (p + 4) 0) state → ConditionTo bytes words state p (eqb x y) (p + 5)
+  same_told {p} begins there a b hx hy = rw (hx, hy) (same_is p begins there a b)
 
-  pub near_member_told : {p x s q code : ℕ} {m : Bool} → Begins bytes p 0x54 → Stands bytes p 3 → begins_element (get_or bytes (p + 1) 0) ≡ true
-      → x ≡ object_in (get_or bytes (p + 1) 0) (get_or bytes (p + 2) 0) state → SetTo bytes words state (p + 3) s q → m ≡ Sets.is_member x s → code ≡ truth_code m → ConditionTold bytes words state p code q
-  near_member_told {p} begins there a hx set hm e = truth_told (e ∙ rw (hm, hx)) (member_is p begins there a set)
+  pub near_member_told : {p x s q : ℕ} {m : Bool} → Begins bytes p 0x54 → Stands bytes p 3 → begins_element (get_or bytes (p + 1) 0) ≡ true
+      → x ≡ object_in (get_or bytes (p + 1) 0) (get_or bytes (p + 2) 0) state → SetTo bytes words state (p + 3) s q → m ≡ Sets.is_member x s → ConditionTo bytes words state p m q
+  near_member_told {p} begins there a hx set hm = rw (hm, hx) (member_is p begins there a set)
 
   -- 54, an element and 41 v
   variable_member_is : {p x s : ℕ} → Begins bytes p 0x54 → Stands bytes p 5 → get_or bytes (p + 3) 0 ≡ 0x41 → begins_element (get_or bytes (p + 1) 0) ≡ true
@@ -331,10 +322,10 @@ module _ (bytes words state : List ℕ) where
       let set : SetTo bytes words state (p + 3) s (p + 5) = rw at_five at (variable_is bytes words state (p + 3) s (record { inside = omega (arith, there.inside); near = omega (arith, there.near) }) v (hs ∙ ap (λ (i : ℕ). get_or state (get_or bytes i 0) 0) (sym at_three))) in
       rw hx (member_is p begins (record { inside = omega (arith, there.inside); near = omega (arith, there.near) }) a set)
 
-  pub member_told : {p x s code : ℕ} {m : Bool} → Begins bytes p 0x54 → Stands bytes p 5 → get_or bytes (p + 3) 0 ≡ 0x41 → begins_element (get_or bytes (p + 1) 0) ≡ true
-      → x ≡ object_in (get_or bytes (p + 1) 0) (get_or bytes (p + 2) 0) state → s ≡ get_or state (get_or bytes (p + 4) 0) 0 → m ≡ Sets.is_member x s → code ≡ truth_code m
-      → ConditionTold bytes words state p code (p + 5)
-  member_told begins there v a hx hs hm e = truth_told (e ∙ rw hm) (variable_member_is begins there v a hx hs)
+  pub member_told : {p x s : ℕ} {m : Bool} → Begins bytes p 0x54 → Stands bytes p 5 → get_or bytes (p + 3) 0 ≡ 0x41 → begins_element (get_or bytes (p + 1) 0) ≡ true
+      → x ≡ object_in (get_or bytes (p + 1) 0) (get_or bytes (p + 2) 0) state → s ≡ get_or state (get_or bytes (p + 4) 0) 0 → m ≡ Sets.is_member x s
+      → ConditionTo bytes words state p m (p + 5)
+  member_told begins there v a hx hs hm = rw hm (variable_member_is begins there v a hx hs)
 
   -- 55 45 40 n members 41 v
   missing_is : {p s t : ℕ} → Begins bytes p 0x55 → Stands bytes p 14 → get_or bytes (p + 1) 0 ≡ 0x45 → get_or bytes (p + 2) 0 ≡ 0x40 → get_or bytes (p + 12) 0 ≡ 0x41
@@ -351,23 +342,23 @@ module _ (bytes words state : List ℕ) where
       let common : SetTo bytes words state (p + 1) (Sets.intersection s t) (p + 14) = two_sets_are bytes words state (record { there = inner 1 1 (omega arith) there; byte = both }) refl (rw on_two first) second in
       empty_is begins common
 
-  pub missing_told : {p s t code : ℕ} → Begins bytes p 0x55 → Stands bytes p 14 → get_or bytes (p + 1) 0 ≡ 0x45 → get_or bytes (p + 2) 0 ≡ 0x40 → get_or bytes (p + 12) 0 ≡ 0x41
-      → word 8 (drop (p + 4) bytes) ≡ read s 8 → t ≡ get_or state (get_or bytes (p + 13) 0) 0 → code ≡ truth_code (eqb (Sets.intersection s t) 0) → ConditionTold bytes words state p code (p + 14)
-  missing_told begins there both literal variable members word_is e = truth_told e (missing_is begins there both literal variable members word_is)
+  pub missing_told : {p s t i : ℕ} → Begins bytes p 0x55 → Stands bytes p 14 → get_or bytes (p + 1) 0 ≡ 0x45 → get_or bytes (p + 2) 0 ≡ 0x40 → get_or bytes (p + 12) 0 ≡ 0x41
+      → word 8 (drop (p + 4) bytes) ≡ read s 8 → t ≡ get_or state (get_or bytes (p + 13) 0) 0 → i ≡ Sets.intersection s t → ConditionTo bytes words state p (eqb i 0) (p + 14)
+  missing_told begins there both literal variable members word_is e = rw e (missing_is begins there both literal variable members word_is)
 
   -- 52 20 a 24 20 b 21 v
-  pub scaled_told : {p code : ℕ} {a b x y : ℤ} → ScaledForm bytes p → NumberTo bytes words state (p + 1) a (p + 1 + 5) → NumberTo bytes words state (p + 7) b (p + 7 + 5)
-      → NumberTo bytes words state (p + 12) x (p + 12 + 2) → y ≡ ranged_code (b *ℤ x) → lt_z y (pos silent_from) ≡ true → code ≡ truth_code (le_z a y) → ConditionTold bytes words state p code (p + 14)
+  pub scaled_told : {p : ℕ} {a b x y : ℤ} → ScaledForm bytes p → NumberTo bytes words state (p + 1) a (p + 1 + 5) → NumberTo bytes words state (p + 7) b (p + 7 + 5)
+      → NumberTo bytes words state (p + 12) x (p + 12 + 2) → Some y ≡ ranged (b *ℤ x) → ConditionTo bytes words state p (le_z a y) (p + 14)
   unfolding is_relation number_form arithmetic
-  scaled_told {p} {code} {a} {b} {x} {y} form first scale variable e low told =
+  scaled_told {p} {a} {b} {x} {y} form first scale variable e =
       let on-six : p + 1 + 5 ≡ p + 6 = omega arith in
       let on_seven : p + 6 + 1 ≡ p + 7 = omega arith in
       let on-twelve : p + 7 + 5 ≡ p + 12 = omega arith in
       let on-end : p + 12 + 2 ≡ p + 14 = omega arith in
       let begins : Begins bytes p 0x52 = record { there = record { inside = omega (arith, form.there.inside); near = omega (arith, form.there.near) }; byte = form.is_at_most } in
       let scaled : NumberTo bytes words state (p + 6) y (p + 14) = two_told bytes words state (record { there = inner 6 1 (omega arith) form.there; byte = form.product }) refl
-      (rw on_seven (rw on-twelve at scale)) (rw on-end at variable) (operation_told 0x24 Op.Product b x (b *ℤ x) y refl refl e) low in
-      relation_told begins refl (rw on-six at first) scaled (at_most_told 0x52 a y code refl told)
+      (rw on_seven (rw on-twelve at scale)) (rw on-end at variable) (Some y) (operation_told 0x24 Op.Product b x (b *ℤ x) (Some y) refl refl e) in
+      relation_told begins refl (rw on-six at first) scaled (at_most_told 0x52 a y (le_z a y) refl refl)
 
   -- 58 of two conditions, whether the first one holds or not
   both_are : {p q r : ℕ} {a c : Bool} → Begins bytes p 0x58 → ConditionTo bytes words state (p + 1) a q → ConditionTo bytes words state q c r → BehindAll bytes q 1 r
@@ -392,9 +383,9 @@ module _ (bytes words state : List ℕ) where
       negated_is begins (rw on-end at missing)
 
   -- 58 54 30 k 41 v and such a condition
-  pub member_and_common_told : {p x s t u code : ℕ} {m : Bool} → MemberAndCommon bytes p → x ≡ object_in (get_or bytes (p + 2) 0) (get_or bytes (p + 3) 0) state → s ≡ get_or state (get_or bytes (p + 5) 0) 0
-      → t ≡ get_or state (get_or bytes (p + 20) 0) 0 → word 8 (drop (p + 11) bytes) ≡ read u 8 → m ≡ Sets.is_member x s → code ≡ truth_code (m && not (eqb (Sets.intersection u t) 0))
-      → ConditionTold bytes words state p code (p + 21)
+  pub member_and_common_told : {p x s t u : ℕ} {m holds : Bool} → MemberAndCommon bytes p → x ≡ object_in (get_or bytes (p + 2) 0) (get_or bytes (p + 3) 0) state → s ≡ get_or state (get_or bytes (p + 5) 0) 0
+      → t ≡ get_or state (get_or bytes (p + 20) 0) 0 → word 8 (drop (p + 11) bytes) ≡ read u 8 → m ≡ Sets.is_member x s → holds ≡ (m && not (eqb (Sets.intersection u t) 0))
+      → ConditionTo bytes words state p holds (p + 21)
   unfolding begins_element
   member_and_common_told {p} {x} {s} {t} {u} form hx hs ht members hm e =
       let on_two : p + 1 + 1 ≡ p + 2 = omega arith in
@@ -409,7 +400,7 @@ module _ (bytes words state : List ℕ) where
       let member : ConditionTo bytes words state (p + 1) (Sets.is_member x s) (p + 1 + 5) = variable_member_is (record { there = inner 1 1 (omega arith) form.there; byte = form.member }) (inner 1 5 (omega arith) form.there) (rw on_four form.variable)
       (rw (on_two, form.object) refl) (rw (on_two, on_three) hx) (rw on-five hs) in
       let common : ConditionTo bytes words state (p + 6) (not (eqb (Sets.intersection u t) 0)) (p + 6 + 15) = common_is form.common (rw on-eleven members) (rw on-twenty ht) in
-      truth_told (e ∙ rw hm) (both_are begins (rw on-six at member) (rw on-end at common) (rw on-end at (common_passed bytes form.common)))
+      rw (e, hm) (both_are begins (rw on-six at member) (rw on-end at common) (rw on-end at (common_passed bytes form.common)))
 
   -- ---- 58: conditions that are due one behind the other, from a to q
 
@@ -474,10 +465,3 @@ module _ (bytes words state : List ℕ) where
 
   pub tests_end : (p due a : ℕ) → Tests p due a → due ≡ 0 → ConditionTo bytes words state p true a
   tests_end p due a j none-due = j.holds a (rw none-due none)
-
-  pub test_holds : {p q : ℕ} → ConditionTo bytes words state p true q → TestTold bytes words state p 1 q
-  test_holds t = record { holds = λ e. t; fails = λ e. absurd (omega arith) }
-
-  -- the last condition that was asked for does not hold, or nothing is told of it
-  pub test_ends : (p due a b q code : ℕ) → Tests p due a → (due ≡ 0 → ⊥) → ConditionTold bytes words state a code b → (code ≡ 1 → ⊥) → TestTold bytes words state p code q
-  test_ends p due a b q code j some t other = record { holds = λ e. absurd (other e); fails = λ e. tests_fails p due a b j some (t.fails e) }

@@ -7,8 +7,9 @@ use native.Mathlib.Numerals.{add-one}
 use native.Mathlib.Omega.{arith}
 use lib.ListN.{length, get_or, drop, length-drop}
 use lib.Seq.{drop-cons, get_or-drop}
-use lib.Dec.{eqb, leb, ltb}
-use borrow.Author.Tests.{lt-ltb, ltb-true, leb-true, leb-false, eqb-true, eqb-false}
+use lib.Dec.{leb, ltb}
+use Rattle.std.specs.Prelude.{Option, Some, None}
+use borrow.Author.Tests.{lt-ltb, ltb-true, leb-true, leb-false}
 use lib.IntN.{ℤ, pos, negsuc, nat_abs, neg_ℤ, sub_ℕ, ◌+ℤ◌, +ℤ_idl, +ℤ_idr, +ℤ_assoc}
 use lib.Signed.{mag, lt_z, le_z}
 use mir.Syntax.{w64}
@@ -20,10 +21,9 @@ use Rattle.model.specs.Sets as Sets
 use Rattle.words.proofs.Integers.{sum_fits}
 use Rattle.words.proofs.Literal.{word_four, integer_is, signed_low, signed_high}
 use Rattle.eval_sets.proofs.Slices.{first_at}
-use Rattle.eval_sets.specs.declared.answers.NumberValue.TheVariants as N
 use Rattle.eval_sets.specs.declared.first_bytes.Operation.TheVariants as Op
 use Rattle.eval_sets.specs.declared.first_bytes.NumberForm.{NumberForm}
-use Rattle.eval_sets.specs.Answers.{number_answer, condition_answer, past_number}
+use Rattle.eval_sets.specs.Answers.{told, number_answer, condition_answer, past_number}
 use Rattle.eval_sets.specs.Forms.{number_form, shape_of, operands, parts, span}
 use Rattle.eval_sets.specs.Runs.{arithmetic, fits, run_number, run_condition, size_number, number_behind, number_at}
 use Rattle.eval_sets.proofs.Opening.{number_opens}
@@ -31,9 +31,9 @@ use Rattle.eval_sets.proofs.Parts.{choice_is}
 use Rattle.eval_sets.proofs.Spans.{span_operands, span_none}
 use Rattle.eval_sets.proofs.Within.{number_known}
 use Rattle.cursor.specs.Places.{Stands, Begins, BehindAll}
-use Rattle.cursor.specs.Told.{here, NumberTo, ConditionTo, SetTo, NumberTold, ConditionTold, Chosen, ChosenTold}
+use Rattle.cursor.specs.Told.{here, NumberTo, ConditionTo, SetTo, NumberTold, Chosen, ChosenTold}
 use Rattle.cursor.specs.Codes.{OperationTold}
-use Rattle.cursor.proofs.NumberLaws.{literal_is, two_numbers}
+use Rattle.cursor.proofs.NumberLaws.{literal_is, two_numbers, two_told}
 use Rattle.cursor_conditions.proofs.ConditionLaws.{suc_sub_one, behind_part, next_number, number_there, set_there}
 
 -- four bytes are a number
@@ -57,7 +57,7 @@ is_in_range : (z : ℤ) → mag z < range_end → fits z ≡ value z
 unfolding in_range
 is_in_range z h = rw (lt-ltb (mag z) range_end h)
 
-picked : (b : Bool) (x y z : ℤ) (k : ℕ) → z ≡ cond b x y → number_answer (value b and_then (λ holds. cond holds (value x) (value y))) k ≡ N.Value z k
+picked : (b : Bool) (x y z : ℤ) (k : ℕ) → z ≡ cond b x y → number_answer (value b and_then (λ holds. cond holds (value x) (value y))) k ≡ told z k
 unfolding number_answer ◌and_then◌
 picked true x y z k e = rw e
 picked false x y z k e = rw e
@@ -65,19 +65,19 @@ picked false x y z k e = rw e
 module _ (bytes words state : List ℕ) where
   -- what stands behind the first byte gives the whole
   whole_number : {p b : ℕ} {form : NumberForm} {z : ℤ} (n q : ℕ) → Begins bytes p b → number_form b ≡ form → q ≡ p + 1 + n → Stands bytes q 0
-      → ((d : ℕ) → n ≤ d → number_at d (here bytes words state) form (drop (p + 1) bytes) ≡ N.Value z n) → NumberTo bytes words state p z q
+      → ((d : ℕ) → n ≤ d → number_at d (here bytes words state) form (drop (p + 1) bytes) ≡ told z n) → NumberTo bytes words state p z q
   unfolding past_number
   whole_number {p} {b} {form} {z} n q begins f e there runs = record {
     used = 1 + n;
     ends = omega arith;
     is = record {
       there = record { inside = omega (arith, there.inside); near = omega (arith, there.near) };
-      fits = (number_known (1 + n) (here bytes words state) (drop p bytes) z (1 + n) (whole (1 + n) (omega arith))).0;
+      fits = (number_known (1 + n) (here bytes words state) (drop p bytes) (whole (1 + n) (omega arith))).0;
       runs = whole;
     };
   }
     where
-      whole : (d : ℕ) → 1 + n ≤ d → run_number d (here bytes words state) (drop p bytes) ≡ N.Value z (1 + n)
+      whole : (d : ℕ) → 1 + n ≤ d → run_number d (here bytes words state) (drop p bytes) ≡ told z (1 + n)
       whole d h = (number_opens (here bytes words state)).opened d p bytes (λ z. absurd (omega arith)) (omega (arith, begins.there.inside)) begins.byte
           ∙ ap (past_number 1) (ap (λ (g : NumberForm). number_at (d - 1) (here bytes words state) g (drop (p + 1) bytes)) f ∙ runs (d - 1) (omega arith))
 
@@ -87,14 +87,14 @@ module _ (bytes words state : List ℕ) where
   size_is {p} {s} {q} begins t few = whole_number t.used q begins refl t.ends (set_there bytes words state t)
       (λ d h. ap size_number (t.is.runs d h) ∙ ap (λ (v : Value ℤ). number_answer v t.used) (is_in_range (pos (length (Sets.members s))) (omega arith)))
 
-  pub size_told : {p s q r : ℕ} {code : ℤ} → Begins bytes p 0x29 → SetTo bytes words state (p + 1) s q → r ≡ length (Sets.members s) → r ≤ most_objects → code ≡ pos r
-      → NumberTold bytes words state p code q
-  size_told {p} {s} begins t e few code told = rw (code, e) (size_is begins t (rw e at few))
+  pub size_told : {p s q r : ℕ} {z : ℤ} → Begins bytes p 0x29 → SetTo bytes words state (p + 1) s q → r ≡ length (Sets.members s) → r ≤ most_objects → z ≡ pos r
+      → NumberTo bytes words state p z q
+  size_told {p} {s} begins t e few size = rw (size, e) (size_is begins t (rw e at few))
 
   -- 2B
-  pub chosen_is : {p c q r : ℕ} {b : Bool} {z : ℤ} → Begins bytes p 0x2b → ConditionTo bytes words state (p + 1) b q → Chosen bytes words state q c z r → eqb c 1 ≡ b → NumberTo bytes words state p z r
+  pub chosen_is : {p q r : ℕ} {b : Bool} {z : ℤ} → Begins bytes p 0x2b → ConditionTo bytes words state (p + 1) b q → Chosen bytes words state q b z r → NumberTo bytes words state p z r
   unfolding number_form number_at number_behind number_answer condition_answer
-  chosen_is {p} {c} {q} {r} {b} {z} begins s t e =
+  chosen_is {p} {q} {r} {b} {z} begins s t =
       whole_number (s.used + (t.first_is.used + t.second_is.used)) r begins refl (omega (arith, s.ends, t.first_is.ends, t.second_is.ends)) (number_there bytes words state t.second_is)
       (λ d h. choice_is (λ g. run_number d (here bytes words state) g) (λ g. run_condition d (here bytes words state) g) (drop (p + 1) bytes) (value b) (value t.first) (value t.second)
       s.used t.first_is.used t.second_is.used
@@ -103,7 +103,7 @@ module _ (bytes words state : List ℕ) where
       (ap (λ (l : List ℕ). span l 0 1) first_at ∙ omega (arith, t.first_skipped, t.first_is.ends))
       (ap (λ (l : List ℕ). run_number d (here bytes words state) l) second_at ∙ t.second_is.is.runs d (omega arith))
       (ap (λ (l : List ℕ). span l 0 1) second_at ∙ omega (arith, t.second_skipped, t.second_is.ends))
-      ∙ picked b t.first t.second z _ (t.chosen ∙ rw e))
+      ∙ picked b t.first t.second z _ t.chosen)
     where
       first_at : drop s.used (drop (p + 1) bytes) ≡ drop q bytes
       first_at = behind_part bytes words state (p + 1) s.used q s.ends
@@ -111,12 +111,9 @@ module _ (bytes words state : List ℕ) where
       second_at : drop t.first_is.used (drop s.used (drop (p + 1) bytes)) ≡ drop t.between bytes
       second_at = ap (drop t.first_is.used) first_at ∙ behind_part bytes words state q t.first_is.used t.between t.first_is.ends
 
-  pub choice_told : {p c q r : ℕ} {code : ℤ} → Begins bytes p 0x2b → ConditionTold bytes words state (p + 1) c q → c < 2 → ChosenTold bytes words state q c code r → NumberTold bytes words state p code r
-  choice_told {p} {c} {q} {r} {code} begins s low t told = go (eqb c 1) refl
-    where
-      go : (b : Bool) → eqb c 1 ≡ b → NumberTo bytes words state p code r
-      go true e = chosen_is begins (s.holds (eqb-true c 1 e)) (t told) e
-      go false e = chosen_is begins (s.fails (omega (arith, eqb-false c 1 e))) (t told) e
+  pub choice_told : {p q : ℕ} {b : Bool} (r : ℕ) → Begins bytes p 0x2b → ConditionTo bytes words state (p + 1) b q → (a : Option ℤ) → ChosenTold bytes words state q b a r → NumberTold bytes words state p a r
+  choice_told r begins s None told = tt
+  choice_told r begins s (Some z) told = chosen_is begins s told
 
   pub literal_span : {p : ℕ} → Stands bytes p 5 → get_or bytes p 0 ≡ 0x20 → p + 5 ≡ p + span (drop p bytes) 0 1
   unfolding span operands parts shape_of
@@ -129,8 +126,8 @@ module _ (bytes words state : List ℕ) where
       omega arith
 
   -- two literals, of which one is asked for
-  pub literals_chosen : {p c : ℕ} {x y z : ℤ} → Stands bytes p 10 → get_or bytes p 0 ≡ 0x20 → get_or bytes (p + 5) 0 ≡ 0x20 → integer (drop (p + 1) bytes) ≡ read x 4 → mag x < range_end
-      → integer (drop (p + 6) bytes) ≡ read y 4 → mag y < range_end → z ≡ cond (eqb c 1) x y → Chosen bytes words state p c z (p + 10)
+  pub literals_chosen : {p : ℕ} {c : Bool} {x y z : ℤ} → Stands bytes p 10 → get_or bytes p 0 ≡ 0x20 → get_or bytes (p + 5) 0 ≡ 0x20 → integer (drop (p + 1) bytes) ≡ read x 4 → mag x < range_end
+      → integer (drop (p + 6) bytes) ≡ read y 4 → mag y < range_end → z ≡ cond c x y → Chosen bytes words state p c z (p + 10)
   literals_chosen {p} {c} {x} {y} {z} there a b ex hx ey hy chosen =
       let one : Stands bytes p 5 = record { inside = omega (arith, there.inside); near = omega (arith, there.near) } in
       let other : Stands bytes (p + 5) 5 = record { inside = omega (arith, there.inside); near = omega (arith, there.near) } in
@@ -148,9 +145,8 @@ module _ (bytes words state : List ℕ) where
         chosen = chosen;
       }
 
-  -- 24
   -- two numbers, each passed over where it ends
-  pub both_chosen : {p q r a b c : ℕ} {x y z : ℤ} → NumberTo bytes words state p x q → BehindAll bytes p 1 a → a ≡ q → NumberTo bytes words state q y r → BehindAll bytes q 1 b → b ≡ r → z ≡ cond (eqb c 1) x y
+  pub both_chosen : {p q r a b : ℕ} {c : Bool} {x y z : ℤ} → NumberTo bytes words state p x q → BehindAll bytes p 1 a → a ≡ q → NumberTo bytes words state q y r → BehindAll bytes q 1 b → b ≡ r → z ≡ cond c x y
       → Chosen bytes words state p c z r
   both_chosen {q = q} {x = x} {y = y} first passed e second passed-too f is = record {
     first = x;
@@ -163,16 +159,13 @@ module _ (bytes words state : List ℕ) where
     chosen = is;
   }
 
-  pub weighed_told : {p q r : ℕ} {x y code : ℤ} → Begins bytes p 0x24 → NumberTo bytes words state (p + 1) x q → NumberTo bytes words state q y r → OperationTold 0x24 x y code
-      → NumberTold bytes words state p code r
+  -- 24
+  pub weighed_told : {p q r : ℕ} {x y : ℤ} → Begins bytes p 0x24 → NumberTo bytes words state (p + 1) x q → NumberTo bytes words state q y r → (a : Option ℤ) → OperationTold 0x24 x y a
+      → NumberTold bytes words state p a r
   unfolding number_form
-  weighed_told begins s t told low = two_numbers bytes words state begins refl s t (told Op.Product refl low)
+  weighed_told begins s t = two_told bytes words state begins refl s t
 
 -- ---- magnitudes
-
-pub below_silent : (x : ℤ) (n : ℕ) → le_z (pos n) x ≡ false → lt_z x (pos n) ≡ true
-below_silent (pos a) n h = lt-ltb a n (leb-false n a h)
-below_silent (negsuc a) n h = refl
 
 pub abs_below : (z : ℤ) → lt_z z (pos 0) ≡ true → neg_ℤ z ≡ pos (nat_abs z)
 abs_below (pos n) h = absurd (omega (arith, ltb-true n 0 h))

@@ -1,5 +1,5 @@
--- Connectives that wait: one more is put behind them, the last is settled by the code of the part before the cursor, and none is left.
-use Prim.Native.Nat.{ℕ, zero, suc, ◌+◌, ◌-◌, ◌*◌, ◌/◌, ◌%◌, ◌≤◌, ◌<◌}
+-- Connectives that wait: one more is put behind them, the last is settled by the value of the part before the cursor, and none is left.
+use Prim.Native.Nat.{ℕ, ◌+◌, ◌-◌, ◌*◌, ◌/◌, ◌%◌, ◌≤◌, ◌<◌}
 use mathlib.Core.Path.{◌≡◌, refl, sym, ◌∙◌}
 use mathlib.Core.Bool.{Bool, true, false, not}
 use mathlib.Core.List.{List, [], ◌∷◌}
@@ -7,37 +7,31 @@ use native.Mathlib.Omega.{arith}
 use lib.ListN.{drop}
 use lib.Dec.{eqb, leb, ltb}
 use borrow.Author.Tests.{eqb-true, eqb-false, leb-true, ltb-true}
+use Rattle.std.specs.Prelude.{Some, None}
 use Rattle.laws.proofs.Bools.{and_both}
 use Rattle.eval_sets.specs.declared.answers.ConditionValue.TheVariants as C
 use Rattle.eval_sets.specs.declared.first_bytes.ConditionForm.TheVariants as CF
 use Rattle.eval_sets.specs.Forms.{condition_form}
 use Rattle.eval_sets.specs.Runs.{run_condition}
 use Rattle.cursor.specs.Places.{Stands, Begins, BehindAll}
-use Rattle.cursor.specs.Told.{here, ConditionIs, ConditionTo, ConditionTold}
+use Rattle.cursor.specs.Told.{here, ConditionIs, ConditionTo}
 use Rattle.cursor_conditions.specs.Waiting.{is_connective, Wait, turn, join, code_of, coded, goes_on, Comes, Due, Told, Settled}
-use Rattle.cursor_conditions.proofs.ConditionLaws.{condition_there, untold, negated_is, second_is, decided_is}
+use Rattle.cursor_conditions.proofs.ConditionLaws.{condition_there, negated_is, second_is, decided_is}
 
--- ---- codes
-
-code_holds : (c : ℕ) → c ≡ 1 → eqb c 1 ≡ true
-code_holds c e = rw e
-
-code_fails : (c : ℕ) → c ≡ 0 → eqb c 1 ≡ false
-code_fails c e = rw e
-
-code_turned : (c : ℕ) → c < 2 → not (eqb c 1) ≡ eqb (1 - c) 1
-code_turned zero h = refl
-code_turned (suc zero) h = refl
-code_turned (suc (suc c)) h = absurd (omega (arith, h))
+-- ---- what decides
 
 -- what the second part decides behind, and what it does not
-goes_joined : (o c : ℕ) → o ≡ 1 → goes_on o c ≡ eqb c 1
+goes_joined : (o : ℕ) (c : Bool) → o ≡ 1 → goes_on o c ≡ c
 unfolding goes_on
 goes_joined o c e = rw e
 
-goes_either : (o c : ℕ) → o ≡ 2 → goes_on o c ≡ eqb c 0
+goes_either : (o : ℕ) (c : Bool) → o ≡ 2 → goes_on o c ≡ not c
 unfolding goes_on
 goes_either o c e = rw e
+
+turned_round : (c d : Bool) → not c ≡ d → c ≡ not d
+turned_round true d e = rw (← e)
+turned_round false d e = rw (← e)
 
 -- ---- first bytes
 
@@ -67,13 +61,8 @@ module _ (bytes words state : List ℕ) where
     pub past : p < q
     pub there : Stands bytes q 0
 
-  read_to : {p q : ℕ} {c : Bool} → ConditionTo bytes words state p c q → Read p q
-  read_to t = record { past = omega (arith, t.ends, some_used t.is); there = condition_there bytes words state t }
-
-  pub read_part : {p q code : ℕ} → ConditionTold bytes words state p code q → code < 2 → Read p q
-  read_part {code = zero} t l = read_to (t.fails refl)
-  read_part {code = suc zero} t l = read_to (t.holds refl)
-  read_part {code = suc (suc c)} t l = absurd (omega (arith, l))
+  pub read_part : {p q : ℕ} {c : Bool} → ConditionTo bytes words state p c q → Read p q
+  read_part t = record { past = omega (arith, t.ends, some_used t.is); there = condition_there bytes words state t }
 
   module _ {p : ℕ} where
     pub due_start : Due bytes words state p 1 p
@@ -111,28 +100,26 @@ module _ (bytes words state : List ℕ) where
 
     -- ---- a part is read
 
-    pub due_told : {w q r code : ℕ} → Due bytes words state p w q → ConditionTold bytes words state q code r → code < 2 → Told bytes words state p w code r
-    due_told {r = r} {code = zero} d t l = record { waits = d.waits; word = d.word; comes = d.due false r (t.fails refl) }
-    due_told {r = r} {code = suc zero} d t l = record { waits = d.waits; word = d.word; comes = d.due true r (t.holds refl) }
-    due_told {code = suc (suc c)} d t l = absurd (omega (arith, l))
+    pub due_told : {w q r : ℕ} {c : Bool} → Due bytes words state p w q → ConditionTo bytes words state q c r → Told bytes words state p w c r
+    due_told {r = r} {c = c} d t = record { waits = d.waits; word = d.word; comes = d.due c r t }
 
     -- ---- the last one is settled
 
-    pub told_turn : {w c q : ℕ} → Told bytes words state p w c q → 1 < w → c < 2 → w % 4 ≡ 0 → Told bytes words state p (w / 4) (1 - c) q
+    pub told_turn : {w q : ℕ} {c : Bool} → Told bytes words state p w c q → 1 < w → w % 4 ≡ 0 → Told bytes words state p (w / 4) (not c) q
     unfolding coded code_of Comes
-    told_turn {w} {c} {q} t some l last = go t.waits t.word t.comes
+    told_turn {w} {q} {c} t some last = go t.waits t.word t.comes
       where
-        go : (x : List Wait) → w ≡ coded x → Comes bytes words state p x (eqb c 1) q → Told bytes words state p (w / 4) (1 - c) q
+        go : (x : List Wait) → w ≡ coded x → Comes bytes words state p x c q → Told bytes words state p (w / 4) (not c) q
         go [] e h = absurd (omega (arith, e, some))
-        go (turn ∷ x) e h = record { waits = x; word = omega (arith, e); comes = rw (code_turned c l) at h }
+        go (turn ∷ x) e h = record { waits = x; word = omega (arith, e); comes = h }
         go (join false ∷ x) e h = absurd (omega (arith, e, last))
         go (join true ∷ x) e h = absurd (omega (arith, e, last))
 
-    pub told_goes : {w c q : ℕ} → Told bytes words state p w c q → 1 < w → (w % 4 ≡ 0 → ⊥) → goes_on (w % 4) c ≡ true → Due bytes words state p (w / 4) q
+    pub told_goes : {w q : ℕ} {c : Bool} → Told bytes words state p w c q → 1 < w → (w % 4 ≡ 0 → ⊥) → goes_on (w % 4) c ≡ true → Due bytes words state p (w / 4) q
     unfolding coded code_of Comes
-    told_goes {w} {c} {q} t some other on = go t.waits t.word t.comes
+    told_goes {w} {q} {c} t some other on = go t.waits t.word t.comes
       where
-        go : (x : List Wait) → w ≡ coded x → Comes bytes words state p x (eqb c 1) q → Due bytes words state p (w / 4) q
+        go : (x : List Wait) → w ≡ coded x → Comes bytes words state p x c q → Due bytes words state p (w / 4) q
         go [] e h = absurd (omega (arith, e, some))
         go (turn ∷ x) e h = absurd (other (omega (arith, e)))
         go (join false ∷ x) e h =
@@ -140,76 +127,70 @@ module _ (bytes words state : List ℕ) where
             record { waits = x; word = omega (arith, e); due = λ v r u. h.1 (sym (goes_joined (w % 4) c o) ∙ on) v r u }
         go (join true ∷ x) e h =
             let o : w % 4 ≡ 2 = omega (arith, e) in
-            record { waits = x; word = omega (arith, e); due = λ v r u. h.1 (code_fails c (eqb-true c 0 (sym (goes_either (w % 4) c o) ∙ on))) v r u }
+            record { waits = x; word = omega (arith, e); due = λ v r u. h.1 (turned_round c true (sym (goes_either (w % 4) c o) ∙ on)) v r u }
 
-    pub told_decided : {w c q r : ℕ} → Told bytes words state p w c q → 1 < w → c < 2 → (w % 4 ≡ 0 → ⊥) → goes_on (w % 4) c ≡ false → BehindAll bytes q 1 r → Told bytes words state p (w / 4) c r
+    pub told_decided : {w q r : ℕ} {c : Bool} → Told bytes words state p w c q → 1 < w → (w % 4 ≡ 0 → ⊥) → goes_on (w % 4) c ≡ false → BehindAll bytes q 1 r → Told bytes words state p (w / 4) c r
     unfolding coded code_of Comes
-    told_decided {w} {c} {q} {r} t some l other off passed = go t.waits t.word t.comes
+    told_decided {w} {q} {r} {c} t some other off passed = go t.waits t.word t.comes
       where
-        go : (x : List Wait) → w ≡ coded x → Comes bytes words state p x (eqb c 1) q → Told bytes words state p (w / 4) c r
+        go : (x : List Wait) → w ≡ coded x → Comes bytes words state p x c q → Told bytes words state p (w / 4) c r
         go [] e h = absurd (omega (arith, e, some))
         go (turn ∷ x) e h = absurd (other (omega (arith, e)))
         go (join false ∷ x) e h =
             let o : w % 4 ≡ 1 = omega (arith, e) in
-            let fails : eqb c 1 ≡ false = sym (goes_joined (w % 4) c o) ∙ off in
+            let fails : c ≡ false = sym (goes_joined (w % 4) c o) ∙ off in
             record { waits = x; word = omega (arith, e); comes = rw fails (h.0 fails r passed) }
         go (join true ∷ x) e h =
             let o : w % 4 ≡ 2 = omega (arith, e) in
-            let one : c ≡ 1 = omega (arith, l, eqb-false c 0 (sym (goes_either (w % 4) c o) ∙ off)) in
-            let holds : eqb c 1 ≡ true = code_holds c one in
+            let holds : c ≡ true = turned_round c false (sym (goes_either (w % 4) c o) ∙ off) in
             record { waits = x; word = omega (arith, e); comes = rw holds (h.0 holds r passed) }
 
-    pub told_end : {w c q : ℕ} → Told bytes words state p w c q → (1 < w → ⊥) → ConditionTold bytes words state p c q
+    pub told_end : {w q : ℕ} {c : Bool} → Told bytes words state p w c q → (1 < w → ⊥) → ConditionTo bytes words state p c q
     unfolding coded code_of Comes
-    told_end {w} {c} {q} t none = go t.waits t.word t.comes
+    told_end {w} {q} {c} t none = go t.waits t.word t.comes
       where
         coded_some : (x : List Wait) → 0 < coded x
         coded_some [] = omega arith
         coded_some (y ∷ x) = let k = coded_some x in omega (arith, k)
 
-        go : (x : List Wait) → w ≡ coded x → Comes bytes words state p x (eqb c 1) q → ConditionTold bytes words state p c q
-        go [] e h = record { holds = λ o. rw (code_holds c o) at h; fails = λ z. rw (code_fails c z) at h }
+        go : (x : List Wait) → w ≡ coded x → Comes bytes words state p x c q → ConditionTo bytes words state p c q
+        go [] e h = h
         go (y ∷ x) e h = let k = coded_some x in absurd (none (omega (arith, e, k)))
 
 -- ---- the loop that settles
 
-pub record Settling (bytes : List ℕ) (w₀ c₀ q₀ w c q : ℕ) : Type 0 where
+pub record Settling (bytes : List ℕ) (w₀ : ℕ) (c₀ : Bool) (q₀ w : ℕ) (c : Bool) (q : ℕ) : Type 0 where
   pub further : q₀ ≤ q
   pub there : Stands bytes q 0
-  pub small : c < 2
   pub tells : (words state : List ℕ) (p : ℕ) → Told bytes words state p w₀ c₀ q₀ → Told bytes words state p w c q
 
-module _ {bytes : List ℕ} {w₀ c₀ q₀ : ℕ} where
-  pub settling_start : Stands bytes q₀ 0 → c₀ < 2 → Settling bytes w₀ c₀ q₀ w₀ c₀ q₀
-  settling_start there l = record { further = omega arith; there = there; small = l; tells = λ words state p t. t }
+module _ {bytes : List ℕ} {w₀ q₀ : ℕ} {c₀ : Bool} where
+  pub settling_start : Stands bytes q₀ 0 → Settling bytes w₀ c₀ q₀ w₀ c₀ q₀
+  settling_start there = record { further = omega arith; there = there; tells = λ words state p t. t }
 
-  module _ {w c q : ℕ} where
-    pub settling_turn : Settling bytes w₀ c₀ q₀ w c q → 1 < w → w % 4 ≡ 0 → Settling bytes w₀ c₀ q₀ (w / 4) (1 - c) q
+  module _ {w q : ℕ} {c : Bool} where
+    pub settling_turn : Settling bytes w₀ c₀ q₀ w c q → 1 < w → w % 4 ≡ 0 → Settling bytes w₀ c₀ q₀ (w / 4) (not c) q
     settling_turn s some last = record {
       further = s.further;
       there = s.there;
-      small = omega arith;
-      tells = λ words state p t. told_turn bytes words state (s.tells words state p t) some s.small last;
+      tells = λ words state p t. told_turn bytes words state (s.tells words state p t) some last;
     }
 
     pub settling_decided : {r : ℕ} → Settling bytes w₀ c₀ q₀ w c q → 1 < w → (w % 4 ≡ 0 → ⊥) → goes_on (w % 4) c ≡ false → BehindAll bytes q 1 r → Settling bytes w₀ c₀ q₀ (w / 4) c r
     settling_decided s some other off passed = record {
       further = omega (arith, s.further, passed.ends);
       there = passed.there;
-      small = s.small;
-      tells = λ words state p t. told_decided bytes words state (s.tells words state p t) some s.small other off passed;
+      tells = λ words state p t. told_decided bytes words state (s.tells words state p t) some other off passed;
     }
 
-    pub settled_goes : Settling bytes w₀ c₀ q₀ w c q → 1 < w → (w % 4 ≡ 0 → ⊥) → goes_on (w % 4) c ≡ true → Settled bytes w₀ c₀ q₀ (w / 4) 2 q
+    pub settled_goes : Settling bytes w₀ c₀ q₀ w c q → 1 < w → (w % 4 ≡ 0 → ⊥) → goes_on (w % 4) c ≡ true → Settled bytes w₀ c₀ q₀ (w / 4) None q
     settled_goes s some other on = record {
       further = s.further;
-      told = λ words state p t. untold bytes words state;
-      due = λ words state p t l. told_goes bytes words state (s.tells words state p t) some other on;
+      tells = λ words state p t. told_goes bytes words state (s.tells words state p t) some other on;
     }
 
-    pub settled_end : {w' : ℕ} → Settling bytes w₀ c₀ q₀ w c q → (1 < w → ⊥) → Settled bytes w₀ c₀ q₀ w' c q
+    pub settled_end : {w' : ℕ} → Settling bytes w₀ c₀ q₀ w c q → (1 < w → ⊥) → Settled bytes w₀ c₀ q₀ w' (Some c) q
     settled_end s none = record {
       further = s.further;
-      told = λ words state p t. told_end bytes words state (s.tells words state p t) none;
-      due = λ words state p t l. absurd (l s.small);
+      tells = λ words state p t. told_end bytes words state (s.tells words state p t) none;
     }

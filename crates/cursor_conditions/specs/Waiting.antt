@@ -1,7 +1,7 @@
 -- Connectives that wait for the conditions behind them, between the first byte of the whole condition and the part that comes next.
-use Rattle.std.specs.Prelude.{ℕ, ◌+◌, ◌*◌, ◌≤◌, ◌<◌, ◌≡◌, Bool, true, false, not, cond, ◌&&◌, List, [], ◌∷◌, eqb, leb, ltb}
+use Rattle.std.specs.Prelude.{ℕ, ◌+◌, ◌*◌, ◌≤◌, ◌≡◌, Bool, true, false, not, cond, ◌&&◌, List, [], ◌∷◌, eqb, leb, ltb, Option, MatchOption}
 use Rattle.cursor.specs.Places.{BehindAll}
-use Rattle.cursor.specs.Told.{ConditionTo, ConditionTold}
+use Rattle.cursor.specs.Told.{ConditionTo}
 
 -- 57 to 59
 unfoldable pub is_connective : (b : ℕ) → Bool
@@ -23,9 +23,9 @@ unfoldable pub coded : List Wait → ℕ
 coded [] = 1
 coded (x ∷ l) = coded l * 4 + code_of x
 
--- behind a first part with code c the second one decides: of 58 where it holds, of 59 where it does not
-unfoldable pub goes_on : (o c : ℕ) → Bool
-goes_on o c = cond (eqb o 1) (eqb c 1) (eqb c 0)
+-- behind a first part with the value c the second one decides: of 58 where it holds, of 59 where it does not
+unfoldable pub goes_on : (o : ℕ) (c : Bool) → Bool
+goes_on o c = cond (eqb o 1) c (not c)
 
 module _ (bytes words state : List ℕ) (p : ℕ) where
   -- what the condition at p comes to by those that wait, where the part behind them has the value c and ends at q
@@ -40,14 +40,13 @@ module _ (bytes words state : List ℕ) (p : ℕ) where
     pub word : w ≡ coded waits
     pub due : (c : Bool) (r : ℕ) → ConditionTo bytes words state q c r → Comes waits c r
 
-  -- the part that ends at q has code c
-  pub record Told (w c q : ℕ) : Type 0 where
+  -- the part that ends at q has the value c
+  pub record Told (w : ℕ) (c : Bool) (q : ℕ) : Type 0 where
     pub waits : List Wait
     pub word : w ≡ coded waits
-    pub comes : Comes waits (eqb c 1) q
+    pub comes : Comes waits c q
 
--- those that wait are settled as far as the part's code c goes: the code of the whole, or another part comes next
-pub record Settled (bytes : List ℕ) (w c q w' code q' : ℕ) : Type 0 where
+-- those that wait are settled as far as the part's value c goes: what the whole comes to, or another part comes next
+pub record Settled (bytes : List ℕ) (w : ℕ) (c : Bool) (q w' : ℕ) (r : Option Bool) (q' : ℕ) : Type 0 where
   pub further : q ≤ q'
-  pub told : (words state : List ℕ) (p : ℕ) → Told bytes words state p w c q → ConditionTold bytes words state p code q'
-  pub due : (words state : List ℕ) (p : ℕ) → Told bytes words state p w c q → (code < 2 → ⊥) → Due bytes words state p w' q'
+  pub tells : (words state : List ℕ) (p : ℕ) → Told bytes words state p w c q → MatchOption r (Due bytes words state p w' q') (λ b. ConditionTo bytes words state p b q')

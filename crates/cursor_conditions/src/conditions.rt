@@ -1,15 +1,14 @@
-// Conditions along the cursor: 1 where one holds, 0 where it does not.
+// Conditions along the cursor: whether one holds, where that is told.
 
 ghost use Rattle.std.specs.Prelude.{◌≡◌, true, ◌<◌};
 ghost use Rattle.cursor.specs.Places.{Stands, Begins, FirstByte};
 ghost use Rattle.cursor.specs.Told.{NumberTold, ConditionTold, TestTold};
-ghost use Rattle.cursor.specs.Codes.{truth_code, RelationTold, is_operation, is_relation};
+ghost use Rattle.cursor.specs.Codes.{RelationTold, is_operation, is_relation};
 ghost use Rattle.cursor_conditions.specs.Forms.{ScaledForm, CommonForm, MemberAndCommon};
 ghost use Rattle.cursor_conditions.specs.Waiting.{is_connective, goes_on, Settled};
 
 use cursor::numbers::{
-    SILENT, is_operation, literal, literal_at, operation, plus_entry, ranged, shifted, simple,
-    variable_at,
+    is_operation, literal, literal_at, operation, plus_entry, ranged, shifted, simple, variable_at,
 };
 use cursor::places::{behind, first_byte, stands};
 use cursor::sets::near_set;
@@ -20,39 +19,28 @@ use words::arithmetic::product;
 use words::literals::long;
 use words::sets::{intersection, is_member, is_subset};
 
-// The code that tells nothing.
-pub const UNTOLD: u8 = 2;
-
 // The greatest word of connectives to which one more is put.
 const MOST_WAITING: u64 = 4611686018427387903;
 
-fn truth(b: bool) -> u8
-    ensures { result ≡ truth_code b }
-{
-    if b { 1 } else { 0 }
-}
-
 // 50 to 52 of two numbers.
-fn related(b: u8, x: i64, y: i64) -> u8
+fn related(b: u8, x: i64, y: i64) -> bool
     ensures { RelationTold b x y result }
 {
     if b == 0x52 {
-        return truth(x <= y);
+        return x <= y;
     }
     if b == 0x51 {
-        return truth(x < y);
+        return x < y;
     }
-    truth(x == y)
+    x == y
 }
 
 // Whether this byte compares two numbers: 50 to 52.
+#[tactic(auto, unfolding(cursor::specs::Codes::is_relation))]
 fn is_relation(b: u8) -> bool
     ensures { result ≡ is_relation b }
 {
-    if b < 0x50 {
-        return false;
-    }
-    b < 0x53
+    0x50 <= b && b < 0x53
 }
 
 // 50 to 52, a number variable and a literal at the cursor.
@@ -62,23 +50,19 @@ fn variable_first(
     at: &mut usize,
     outline: &[u64; PREPARED_WORDS],
     state: &[u64; STATE_WORDS],
-) -> u8
+) -> Option<bool>
     requires { Begins m.now.now at.old b × (is_relation b ≡ true) }
     ensures { ConditionTold m.now.now outline.now state.now at.old result at.new }
 {
     let p = *at;
     let e = *m;
-    if stands(e, p, 8) {
-        if e[p + 1] == 0x21 {
-            if e[p + 3] == 0x20 {
-                *at = p + 8;
-                let x = variable_at(m, p + 1, outline, state);
-                let y = literal_at(m, p + 3, outline, state);
-                return related(b, x, y);
-            }
-        }
+    if stands(e, p, 8) && e[p + 1] == 0x21 && e[p + 3] == 0x20 {
+        *at = p + 8;
+        let x = variable_at(m, p + 1, outline, state);
+        let y = literal_at(m, p + 3, outline, state);
+        return Some(related(b, x, y));
     }
-    UNTOLD
+    None
 }
 
 // 50 to 52, a literal and a number variable at the cursor.
@@ -88,23 +72,19 @@ fn literal_first(
     at: &mut usize,
     outline: &[u64; PREPARED_WORDS],
     state: &[u64; STATE_WORDS],
-) -> u8
+) -> Option<bool>
     requires { Begins m.now.now at.old b × (is_relation b ≡ true) }
     ensures { ConditionTold m.now.now outline.now state.now at.old result at.new }
 {
     let p = *at;
     let e = *m;
-    if stands(e, p, 8) {
-        if e[p + 1] == 0x20 {
-            if e[p + 6] == 0x21 {
-                *at = p + 8;
-                let x = literal_at(m, p + 1, outline, state);
-                let y = variable_at(m, p + 6, outline, state);
-                return related(b, x, y);
-            }
-        }
+    if stands(e, p, 8) && e[p + 1] == 0x20 && e[p + 6] == 0x21 {
+        *at = p + 8;
+        let x = literal_at(m, p + 1, outline, state);
+        let y = variable_at(m, p + 6, outline, state);
+        return Some(related(b, x, y));
     }
-    UNTOLD
+    None
 }
 
 // 50 to 52, a number variable with a literal added or taken off, and a literal at the cursor.
@@ -114,20 +94,14 @@ fn shifted_first(
     at: &mut usize,
     outline: &[u64; PREPARED_WORDS],
     state: &[u64; STATE_WORDS],
-) -> u8
+) -> Option<bool>
     requires { Begins m.now.now at.old b × (is_relation b ≡ true) }
     ensures { ConditionTold m.now.now outline.now state.now at.old result at.new }
 {
-    let p = *at;
-    *at = p + 1;
-    let x = shifted(m, at, outline, state);
-    if x < SILENT {
-        let y = literal(m, at, outline, state);
-        if y < SILENT {
-            return related(b, x, y);
-        }
-    }
-    UNTOLD
+    *at += 1;
+    let x = shifted(m, at, outline, state)?;
+    let y = literal(m, at, outline, state)?;
+    Some(related(b, x, y))
 }
 
 // 50 to 52, a number variable with a table's entry added, and a literal at the cursor.
@@ -137,20 +111,14 @@ fn plus_entry_first(
     at: &mut usize,
     outline: &[u64; PREPARED_WORDS],
     state: &[u64; STATE_WORDS],
-) -> u8
+) -> Option<bool>
     requires { Begins m.now.now at.old b × (is_relation b ≡ true) }
     ensures { ConditionTold m.now.now outline.now state.now at.old result at.new }
 {
-    let p = *at;
-    *at = p + 1;
-    let x = plus_entry(m, at, outline, state);
-    if x < SILENT {
-        let y = literal(m, at, outline, state);
-        if y < SILENT {
-            return related(b, x, y);
-        }
-    }
-    UNTOLD
+    *at += 1;
+    let x = plus_entry(m, at, outline, state)?;
+    let y = literal(m, at, outline, state)?;
+    Some(related(b, x, y))
 }
 
 // 50 to 52 at the cursor, of a literal and a number variable, or of a number variable and a literal. The variable stands as it is, or with a literal
@@ -160,7 +128,7 @@ pub fn short_comparison(
     at: &mut usize,
     outline: &[u64; PREPARED_WORDS],
     state: &[u64; STATE_WORDS],
-) -> u8
+) -> Option<bool>
     ensures { ConditionTold m.now.now outline.now state.now at.old result at.new }
 {
     let p = *at;
@@ -178,25 +146,19 @@ pub fn short_comparison(
         }
         return shifted_first(b, m, at, outline, state);
     }
-    UNTOLD
+    None
 }
 
 // Whether 52 20 a 24 20 b 21 v stands at a place: a literal is at most a number variable, scaled by another.
 fn is_scaled(e: &[u8], p: usize) -> bool
     ensures { result ≡ true → ScaledForm e.now p }
 {
-    if stands(e, p, 14) {
-        if e[p] == 0x52 {
-            if e[p + 1] == 0x20 {
-                if e[p + 6] == 0x24 {
-                    if e[p + 7] == 0x20 {
-                        return e[p + 12] == 0x21;
-                    }
-                }
-            }
-        }
-    }
-    false
+    stands(e, p, 14)
+        && e[p] == 0x52
+        && e[p + 1] == 0x20
+        && e[p + 6] == 0x24
+        && e[p + 7] == 0x20
+        && e[p + 12] == 0x21
 }
 
 // Such a comparison at the cursor.
@@ -205,7 +167,7 @@ pub fn scaled_comparison(
     at: &mut usize,
     outline: &[u64; PREPARED_WORDS],
     state: &[u64; STATE_WORDS],
-) -> u8
+) -> Option<bool>
     ensures { ConditionTold m.now.now outline.now state.now at.old result at.new }
 {
     let p = *at;
@@ -214,12 +176,10 @@ pub fn scaled_comparison(
         let a = literal_at(m, p + 1, outline, state);
         let b = literal_at(m, p + 7, outline, state);
         let x = variable_at(m, p + 12, outline, state);
-        let y = ranged(product(b, x));
-        if y < SILENT {
-            return truth(a <= y);
-        }
+        let y = ranged(product(b, x))?;
+        return Some(a <= y);
     }
-    UNTOLD
+    None
 }
 
 // 22 to 27 and two simple numbers at the cursor.
@@ -229,20 +189,14 @@ fn two_simple(
     at: &mut usize,
     outline: &[u64; PREPARED_WORDS],
     state: &[u64; STATE_WORDS],
-) -> i64
+) -> Option<i64>
     requires { Begins m.now.now at.old b × (is_operation b ≡ true) }
     ensures { NumberTold m.now.now outline.now state.now at.old result at.new }
 {
-    let p = *at;
-    *at = p + 1;
-    let x = simple(m, at, outline, state);
-    if x < SILENT {
-        let y = simple(m, at, outline, state);
-        if y < SILENT {
-            return operation(b, x, y);
-        }
-    }
-    SILENT
+    *at += 1;
+    let x = simple(m, at, outline, state)?;
+    let y = simple(m, at, outline, state)?;
+    operation(b, x, y)
 }
 
 // 22 to 27 and two simple numbers, or a simple number that is none, at the cursor.
@@ -251,7 +205,7 @@ fn deeper(
     at: &mut usize,
     outline: &[u64; PREPARED_WORDS],
     state: &[u64; STATE_WORDS],
-) -> i64
+) -> Option<i64>
     ensures { NumberTold m.now.now outline.now state.now at.old result at.new }
 {
     let b = first_byte(*m, *at);
@@ -268,20 +222,14 @@ fn comparison(
     at: &mut usize,
     outline: &[u64; PREPARED_WORDS],
     state: &[u64; STATE_WORDS],
-) -> u8
+) -> Option<bool>
     requires { Begins m.now.now at.old b × (is_relation b ≡ true) }
     ensures { ConditionTold m.now.now outline.now state.now at.old result at.new }
 {
-    let p = *at;
-    *at = p + 1;
-    let x = simple(m, at, outline, state);
-    if x < SILENT {
-        let y = simple(m, at, outline, state);
-        if y < SILENT {
-            return related(b, x, y);
-        }
-    }
-    UNTOLD
+    *at += 1;
+    let x = simple(m, at, outline, state)?;
+    let y = simple(m, at, outline, state)?;
+    Some(related(b, x, y))
 }
 
 // 50 to 52 and two such numbers at the cursor.
@@ -291,20 +239,14 @@ fn deep_comparison(
     at: &mut usize,
     outline: &[u64; PREPARED_WORDS],
     state: &[u64; STATE_WORDS],
-) -> u8
+) -> Option<bool>
     requires { Begins m.now.now at.old b × (is_relation b ≡ true) }
     ensures { ConditionTold m.now.now outline.now state.now at.old result at.new }
 {
-    let p = *at;
-    *at = p + 1;
-    let x = deeper(m, at, outline, state);
-    if x < SILENT {
-        let y = deeper(m, at, outline, state);
-        if y < SILENT {
-            return related(b, x, y);
-        }
-    }
-    UNTOLD
+    *at += 1;
+    let x = deeper(m, at, outline, state)?;
+    let y = deeper(m, at, outline, state)?;
+    Some(related(b, x, y))
 }
 
 // 53 and two elements at the cursor.
@@ -313,23 +255,19 @@ fn same(
     at: &mut usize,
     outline: &[u64; PREPARED_WORDS],
     state: &[u64; STATE_WORDS],
-) -> u8
+) -> Option<bool>
     requires { Begins m.now.now at.old 0x53 }
     ensures { ConditionTold m.now.now outline.now state.now at.old result at.new }
 {
     let p = *at;
     let e = *m;
-    if stands(e, p, 5) {
-        if begins_element(e[p + 1]) {
-            if begins_element(e[p + 3]) {
-                *at = p + 5;
-                return truth(
-                    object(e[p + 1], e[p + 2], state) == object(e[p + 3], e[p + 4], state),
-                );
-            }
-        }
+    if stands(e, p, 5) && begins_element(e[p + 1]) && begins_element(e[p + 3]) {
+        *at = p + 5;
+        let i = object(e[p + 1], e[p + 2], state);
+        let j = object(e[p + 3], e[p + 4], state);
+        return Some(i == j);
     }
-    UNTOLD
+    None
 }
 
 // 54, an element and 41 v at the cursor.
@@ -338,22 +276,18 @@ fn member(
     at: &mut usize,
     outline: &[u64; PREPARED_WORDS],
     state: &[u64; STATE_WORDS],
-) -> u8
+) -> Option<bool>
     requires { Begins m.now.now at.old 0x54 }
     ensures { ConditionTold m.now.now outline.now state.now at.old result at.new }
 {
     let p = *at;
     let e = *m;
-    if stands(e, p, 5) {
-        if e[p + 3] == 0x41 {
-            if begins_element(e[p + 1]) {
-                *at = p + 5;
-                let s = word_at(state, e[p + 4] as usize);
-                return truth(is_member(object(e[p + 1], e[p + 2], state), s));
-            }
-        }
+    if stands(e, p, 5) && e[p + 3] == 0x41 && begins_element(e[p + 1]) {
+        *at = p + 5;
+        let s = word_at(state, e[p + 4] as usize);
+        return Some(is_member(object(e[p + 1], e[p + 2], state), s));
     }
-    UNTOLD
+    None
 }
 
 // 54, an element and a near set at the cursor.
@@ -362,23 +296,21 @@ fn member_near(
     at: &mut usize,
     outline: &[u64; PREPARED_WORDS],
     state: &[u64; STATE_WORDS],
-) -> u8
+) -> Option<bool>
     requires { Begins m.now.now at.old 0x54 }
     ensures { ConditionTold m.now.now outline.now state.now at.old result at.new }
 {
     let p = *at;
     let e = *m;
-    if stands(e, p, 3) {
-        if begins_element(e[p + 1]) {
-            *at = p + 3;
-            let s = near_set(m, at, outline, state);
-            if *at == p + 3 {
-                return UNTOLD;
-            }
-            return truth(is_member(object(e[p + 1], e[p + 2], state), s));
+    if stands(e, p, 3) && begins_element(e[p + 1]) {
+        *at = p + 3;
+        let s = near_set(m, at, outline, state);
+        if *at == p + 3 {
+            return None;
         }
+        return Some(is_member(object(e[p + 1], e[p + 2], state), s));
     }
-    UNTOLD
+    None
 }
 
 // 54 at the cursor: of a set variable in place, else of a near set.
@@ -387,20 +319,19 @@ fn any_member(
     at: &mut usize,
     outline: &[u64; PREPARED_WORDS],
     state: &[u64; STATE_WORDS],
-) -> u8
+) -> Option<bool>
     requires { Begins m.now.now at.old 0x54 }
     ensures { ConditionTold m.now.now outline.now state.now at.old result at.new }
 {
     let mut end = *at;
-    let c = member(m, &mut end, outline, state);
-    if c < UNTOLD {
+    if let Some(c) = member(m, &mut end, outline, state) {
         *at = end;
-        return c;
+        return Some(c);
     }
     let mut far = *at;
-    let d = member_near(m, &mut far, outline, state);
+    let c = member_near(m, &mut far, outline, state);
     *at = far;
-    d
+    c
 }
 
 // 55 and a near set at the cursor.
@@ -409,7 +340,7 @@ fn empty(
     at: &mut usize,
     outline: &[u64; PREPARED_WORDS],
     state: &[u64; STATE_WORDS],
-) -> u8
+) -> Option<bool>
     requires { Begins m.now.now at.old 0x55 }
     ensures { ConditionTold m.now.now outline.now state.now at.old result at.new }
 {
@@ -417,9 +348,9 @@ fn empty(
     *at = p + 1;
     let s = near_set(m, at, outline, state);
     if *at == p + 1 {
-        return UNTOLD;
+        return None;
     }
-    truth(s == 0)
+    Some(s == 0)
 }
 
 // 56 and two near sets at the cursor.
@@ -428,7 +359,7 @@ fn subset(
     at: &mut usize,
     outline: &[u64; PREPARED_WORDS],
     state: &[u64; STATE_WORDS],
-) -> u8
+) -> Option<bool>
     requires { Begins m.now.now at.old 0x56 }
     ensures { ConditionTold m.now.now outline.now state.now at.old result at.new }
 {
@@ -437,13 +368,13 @@ fn subset(
     let s = near_set(m, at, outline, state);
     let q = *at;
     if q == p + 1 {
-        return UNTOLD;
+        return None;
     }
     let t = near_set(m, at, outline, state);
     if *at == q {
-        return UNTOLD;
+        return None;
     }
-    truth(is_subset(s, t))
+    Some(is_subset(s, t))
 }
 
 // 50 to 52 at the cursor: of a number variable and a literal in place, else of two simple numbers.
@@ -453,32 +384,29 @@ fn any_comparison(
     at: &mut usize,
     outline: &[u64; PREPARED_WORDS],
     state: &[u64; STATE_WORDS],
-) -> u8
+) -> Option<bool>
     requires { Begins m.now.now at.old b × (is_relation b ≡ true) }
     ensures { ConditionTold m.now.now outline.now state.now at.old result at.new }
 {
     let mut first = *at;
-    let c = variable_first(b, m, &mut first, outline, state);
-    if c < UNTOLD {
+    if let Some(c) = variable_first(b, m, &mut first, outline, state) {
         *at = first;
-        return c;
+        return Some(c);
     }
     let mut second = *at;
-    let d = literal_first(b, m, &mut second, outline, state);
-    if d < UNTOLD {
+    if let Some(c) = literal_first(b, m, &mut second, outline, state) {
         *at = second;
-        return d;
+        return Some(c);
     }
     let mut third = *at;
-    let f = comparison(b, m, &mut third, outline, state);
-    if f < UNTOLD {
+    if let Some(c) = comparison(b, m, &mut third, outline, state) {
         *at = third;
-        return f;
+        return Some(c);
     }
     let mut far = *at;
-    let g = deep_comparison(b, m, &mut far, outline, state);
+    let c = deep_comparison(b, m, &mut far, outline, state);
     *at = far;
-    g
+    c
 }
 
 // 55 45 40 n members 41 v at the cursor: none of these members is one of the set variable.
@@ -487,25 +415,19 @@ fn missing(
     at: &mut usize,
     outline: &[u64; PREPARED_WORDS],
     state: &[u64; STATE_WORDS],
-) -> u8
+) -> Option<bool>
     requires { Begins m.now.now at.old 0x55 }
     ensures { ConditionTold m.now.now outline.now state.now at.old result at.new }
 {
     let p = *at;
     let e = *m;
-    if stands(e, p, 14) {
-        if e[p + 1] == 0x45 {
-            if e[p + 2] == 0x40 {
-                if e[p + 12] == 0x41 {
-                    *at = p + 14;
-                    let s = long(&e[p + 4..]);
-                    let t = word_at(state, e[p + 13] as usize);
-                    return truth(intersection(s, t) == 0);
-                }
-            }
-        }
+    if stands(e, p, 14) && e[p + 1] == 0x45 && e[p + 2] == 0x40 && e[p + 12] == 0x41 {
+        *at = p + 14;
+        let s = long(&e[p + 4..]);
+        let t = word_at(state, e[p + 13] as usize);
+        return Some(intersection(s, t) == 0);
     }
-    UNTOLD
+    None
 }
 
 // 55 at the cursor: of a literal's members in a set variable in place, else of a near set.
@@ -514,20 +436,19 @@ fn any_empty(
     at: &mut usize,
     outline: &[u64; PREPARED_WORDS],
     state: &[u64; STATE_WORDS],
-) -> u8
+) -> Option<bool>
     requires { Begins m.now.now at.old 0x55 }
     ensures { ConditionTold m.now.now outline.now state.now at.old result at.new }
 {
     let mut end = *at;
-    let c = missing(m, &mut end, outline, state);
-    if c < UNTOLD {
+    if let Some(c) = missing(m, &mut end, outline, state) {
         *at = end;
-        return c;
+        return Some(c);
     }
     let mut far = *at;
-    let d = empty(m, &mut far, outline, state);
+    let c = empty(m, &mut far, outline, state);
     *at = far;
-    d
+    c
 }
 
 // Whether 57 55 45 40 n members 41 u stands at a place where fifteen bytes stand.
@@ -535,16 +456,7 @@ fn is_common(e: &[u8], p: usize) -> bool
     requires { Stands e.now p 15 }
     ensures { result ≡ true → CommonForm e.now p }
 {
-    if e[p + 1] == 0x55 {
-        if e[p] == 0x57 {
-            if e[p + 2] == 0x45 {
-                if e[p + 3] == 0x40 {
-                    return e[p + 13] == 0x41;
-                }
-            }
-        }
-    }
-    false
+    e[p + 1] == 0x55 && e[p] == 0x57 && e[p + 2] == 0x45 && e[p + 3] == 0x40 && e[p + 13] == 0x41
 }
 
 // Whether 58 54 30 k 41 v 57 55 45 40 n members 41 u stands at a place: an object is a member of one set variable, and some of these members are
@@ -552,18 +464,12 @@ fn is_common(e: &[u8], p: usize) -> bool
 fn is_member_and_common(e: &[u8], p: usize) -> bool
     ensures { result ≡ true → MemberAndCommon e.now p }
 {
-    if stands(e, p, 21) {
-        if is_common(e, p + 6) {
-            if e[p] == 0x58 {
-                if e[p + 1] == 0x54 {
-                    if e[p + 2] == 0x30 {
-                        return e[p + 4] == 0x41;
-                    }
-                }
-            }
-        }
-    }
-    false
+    stands(e, p, 21)
+        && is_common(e, p + 6)
+        && e[p] == 0x58
+        && e[p + 1] == 0x54
+        && e[p + 2] == 0x30
+        && e[p + 4] == 0x41
 }
 
 // Such a condition at the cursor.
@@ -572,7 +478,7 @@ pub fn member_and_common(
     at: &mut usize,
     outline: &[u64; PREPARED_WORDS],
     state: &[u64; STATE_WORDS],
-) -> u8
+) -> Option<bool>
     ensures { ConditionTold m.now.now outline.now state.now at.old result at.new }
 {
     let p = *at;
@@ -582,12 +488,10 @@ pub fn member_and_common(
         let s = word_at(state, e[p + 5] as usize);
         let t = word_at(state, e[p + 20] as usize);
         let u = long(&e[p + 11..]);
-        if is_member(object(e[p + 2], e[p + 3], state), s) {
-            return truth(intersection(u, t) != 0);
-        }
-        return 0;
+        let k = object(e[p + 2], e[p + 3], state);
+        return Some(is_member(k, s) && intersection(u, t) != 0);
     }
-    UNTOLD
+    None
 }
 
 // A condition with no condition inside.
@@ -597,7 +501,7 @@ fn plain(
     at: &mut usize,
     outline: &[u64; PREPARED_WORDS],
     state: &[u64; STATE_WORDS],
-) -> u8
+) -> Option<bool>
     requires { FirstByte m.now.now at.old b }
     ensures { ConditionTold m.now.now outline.now state.now at.old result at.new }
 {
@@ -619,54 +523,50 @@ fn plain(
     if is_relation(b) {
         return any_comparison(b, m, at, outline, state);
     }
-    UNTOLD
+    None
 }
 
 // Whether this byte turns a condition round or joins two: 57 to 59.
+#[tactic(auto, unfolding(crate::specs::Waiting::is_connective))]
 fn is_connective(b: u8) -> bool
     ensures { result ≡ is_connective b }
 {
-    if b < 0x57 {
-        return false;
-    }
-    b < 0x5a
+    0x57 <= b && b < 0x5a
 }
 
-// Whether behind a first part with code c the second one decides, by the connective's code.
-fn goes_on(o: u64, c: u8) -> bool
+// Whether behind a first part that holds or not, as c says, the second one decides, by the connective's code.
+#[tactic(auto, unfolding(crate::specs::Waiting::goes_on))]
+fn goes_on(o: u64, c: bool) -> bool
     ensures { result ≡ goes_on o c }
 {
-    if o == 1 {
-        return c == 1;
-    }
-    c == 0
+    if o == 1 { c } else { !c }
 }
 
-// Settles the connectives that wait, the last one first, where the part before the cursor has code c: the code of the whole, or UNTOLD where
+// Settles the connectives that wait, the last one first, where the part before the cursor has the value c: the value of the whole, or None where
 // another part comes next.
-fn settled(m: &&[u8], at: &mut usize, waiting: &mut u64, c: u8) -> u8
-    requires { Stands m.now.now at.old 0 × (c < 2) }
+fn settled(m: &&[u8], at: &mut usize, waiting: &mut u64, c: bool) -> Option<bool>
+    requires { Stands m.now.now at.old 0 }
     ensures { Settled m.now.now waiting.old c at.old waiting.new result at.new }
 {
-    let mut code = c;
+    let mut holds = c;
     let mut w = *waiting;
     let mut q = *at;
     while 1 < w {
         let o = w % 4;
         w = w / 4;
         if o == 0 {
-            code = 1 - code;
+            holds = !holds;
         } else {
-            if goes_on(o, code) {
+            if goes_on(o, holds) {
                 *waiting = w;
                 *at = q;
-                return UNTOLD;
+                return None;
             }
             q = behind(*m, q, 1);
         }
     }
     *at = q;
-    code
+    Some(holds)
 }
 
 // Plain conditions under 57 to 59, whatever their nesting while no more than thirty of these wait.
@@ -675,7 +575,7 @@ pub fn whole(
     at: &mut usize,
     outline: &[u64; PREPARED_WORDS],
     state: &[u64; STATE_WORDS],
-) -> u8
+) -> Option<bool>
     ensures { ConditionTold m.now.now outline.now state.now at.old result at.new }
 {
     let mut waiting: u64 = 1;
@@ -684,45 +584,41 @@ pub fn whole(
         let b = first_byte(*m, q);
         if is_connective(b) {
             if MOST_WAITING < waiting {
-                return UNTOLD;
+                return None;
             }
             waiting = waiting * 4 + ((b - 0x57) as u64);
             q += 1;
         } else {
-            let c = plain(b, m, &mut q, outline, state);
-            if UNTOLD <= c {
-                return UNTOLD;
-            }
-            let d = settled(m, &mut q, &mut waiting, c);
-            if d < UNTOLD {
+            let c = plain(b, m, &mut q, outline, state)?;
+            if let Some(d) = settled(m, &mut q, &mut waiting, c) {
                 *at = q;
-                return d;
+                return Some(d);
             }
         }
     }
 }
 
-// Such conditions joined by 58, no further than to one that fails: where the code is 0 the cursor tells nothing.
+// Such conditions joined by 58, no further than to one that fails, where the cursor tells nothing.
 pub fn test(
     m: &&[u8],
     at: &mut usize,
     outline: &[u64; PREPARED_WORDS],
     state: &[u64; STATE_WORDS],
-) -> u8
+) -> Option<bool>
     ensures { TestTold m.now.now outline.now state.now at.old result at.new }
 {
     let mut due: usize = 1;
     while due != 0 {
         if first_byte(*m, *at) == 0x58 {
-            *at = *at + 1;
+            *at += 1;
             due += 1;
         } else {
-            let c = whole(m, at, outline, state);
-            if c != 1 {
-                return c;
+            let c = whole(m, at, outline, state)?;
+            if !c {
+                return Some(false);
             }
             due -= 1;
         }
     }
-    1
+    Some(true)
 }

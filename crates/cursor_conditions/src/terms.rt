@@ -7,8 +7,8 @@ ghost use Rattle.cursor.specs.Places.{Stands, Begins};
 ghost use Rattle.cursor.specs.Told.{NumberTold, ChosenTold};
 ghost use Rattle.cursor.specs.Codes.{begins_joined};
 
-use crate::conditions::{UNTOLD, member_and_common, scaled_comparison, whole};
-use cursor::numbers::{SILENT, literal, operation, simple, two_entries};
+use crate::conditions::{member_and_common, scaled_comparison, whole};
+use cursor::numbers::{literal, operation, simple, two_entries};
 use cursor::places::{behind, first_byte, stands};
 use cursor::sets::set;
 use outline::layout::{PREPARED_WORDS, STATE_WORDS};
@@ -21,7 +21,7 @@ fn size(
     at: &mut usize,
     outline: &[u64; PREPARED_WORDS],
     state: &[u64; STATE_WORDS],
-) -> i64
+) -> Option<i64>
     requires { Begins m.now.now at.old 0x29 }
     ensures { NumberTold m.now.now outline.now state.now at.old result at.new }
 {
@@ -29,36 +29,31 @@ fn size(
     *at = p + 1;
     let s = set(m, at, outline, state);
     if *at == p + 1 {
-        return SILENT;
+        return None;
     }
-    count(s) as i64
+    Some(count(s) as i64)
 }
 
-// The first of two literals at the cursor where c is 1, else the second.
+// The first of two literals at the cursor where c holds, else the second.
 fn literal_by(
-    c: u8,
+    c: bool,
     m: &&[u8],
     at: &mut usize,
     outline: &[u64; PREPARED_WORDS],
     state: &[u64; STATE_WORDS],
-) -> i64
-    requires { c < 2 }
+) -> Option<i64>
     ensures { ChosenTold m.now.now outline.now state.now at.old c result at.new }
 {
     let p = *at;
     let e = *m;
-    if stands(e, p, 10) {
-        if e[p] == 0x20 {
-            if e[p + 5] == 0x20 {
-                *at = p + 10;
-                if c == 1 {
-                    return integer(&e[p + 1..]);
-                }
-                return integer(&e[p + 6..]);
-            }
+    if stands(e, p, 10) && e[p] == 0x20 && e[p + 5] == 0x20 {
+        *at = p + 10;
+        if c {
+            return Some(integer(&e[p + 1..]));
         }
+        return Some(integer(&e[p + 6..]));
     }
-    SILENT
+    None
 }
 
 // 2B, a condition and two literals at the cursor.
@@ -67,17 +62,13 @@ pub fn choice(
     at: &mut usize,
     outline: &[u64; PREPARED_WORDS],
     state: &[u64; STATE_WORDS],
-) -> i64
+) -> Option<i64>
     requires { Begins m.now.now at.old 0x2b }
     ensures { NumberTold m.now.now outline.now state.now at.old result at.new }
 {
-    let p = *at;
-    *at = p + 1;
-    let c = whole(m, at, outline, state);
-    if c < UNTOLD {
-        return literal_by(c, m, at, outline, state);
-    }
-    SILENT
+    *at += 1;
+    let c = whole(m, at, outline, state)?;
+    literal_by(c, m, at, outline, state)
 }
 
 // The same by a member of one set and members in common with another.
@@ -86,17 +77,13 @@ fn common_choice(
     at: &mut usize,
     outline: &[u64; PREPARED_WORDS],
     state: &[u64; STATE_WORDS],
-) -> i64
+) -> Option<i64>
     requires { Begins m.now.now at.old 0x2b }
     ensures { NumberTold m.now.now outline.now state.now at.old result at.new }
 {
-    let p = *at;
-    *at = p + 1;
-    let c = member_and_common(m, at, outline, state);
-    if c < UNTOLD {
-        return literal_by(c, m, at, outline, state);
-    }
-    SILENT
+    *at += 1;
+    let c = member_and_common(m, at, outline, state)?;
+    literal_by(c, m, at, outline, state)
 }
 
 // The same by a comparison with a scaled number variable.
@@ -105,17 +92,13 @@ pub fn scaled_choice(
     at: &mut usize,
     outline: &[u64; PREPARED_WORDS],
     state: &[u64; STATE_WORDS],
-) -> i64
+) -> Option<i64>
     requires { Begins m.now.now at.old 0x2b }
     ensures { NumberTold m.now.now outline.now state.now at.old result at.new }
 {
-    let p = *at;
-    *at = p + 1;
-    let c = scaled_comparison(m, at, outline, state);
-    if c < UNTOLD {
-        return literal_by(c, m, at, outline, state);
-    }
-    SILENT
+    *at += 1;
+    let c = scaled_comparison(m, at, outline, state)?;
+    literal_by(c, m, at, outline, state)
 }
 
 // A literal, or a choice between two.
@@ -124,15 +107,14 @@ fn term(
     at: &mut usize,
     outline: &[u64; PREPARED_WORDS],
     state: &[u64; STATE_WORDS],
-) -> i64
+) -> Option<i64>
     ensures { NumberTold m.now.now outline.now state.now at.old result at.new }
 {
     if first_byte(*m, *at) == 0x2b {
         let mut end = *at;
-        let z = common_choice(m, &mut end, outline, state);
-        if z < SILENT {
+        if let Some(z) = common_choice(m, &mut end, outline, state) {
             *at = end;
-            return z;
+            return Some(z);
         }
         return choice(m, at, outline, state);
     }
@@ -152,7 +134,7 @@ fn terms(
     at: &mut usize,
     outline: &[u64; PREPARED_WORDS],
     state: &[u64; STATE_WORDS],
-) -> i64
+) -> Option<i64>
     ensures { NumberTold m.now.now outline.now state.now at.old result at.new }
 {
     let mut due: usize = 1;
@@ -160,38 +142,27 @@ fn terms(
     let mut most: i64 = 0;
     while due != 0 {
         if first_byte(*m, *at) == 0x22 {
-            *at = *at + 1;
+            *at += 1;
             due += 1;
         } else {
-            let x = term(m, at, outline, state);
-            if SILENT <= x {
-                return SILENT;
-            }
-            z = z + x;
-            most = most + magnitude(x);
+            let x = term(m, at, outline, state)?;
+            z += x;
+            most += magnitude(x);
             if 2147483648 <= most {
-                return SILENT;
+                return None;
             }
             due -= 1;
         }
     }
-    z
+    Some(z)
 }
 
 // Whether one of two bytes begins a sum or a choice.
+#[tactic(auto, unfolding(cursor::specs::Codes::begins_joined))]
 fn joins(a: u8, b: u8) -> bool
     ensures { result ≡ begins_joined a b }
 {
-    if a == 0x2b {
-        return true;
-    }
-    if a == 0x22 {
-        return true;
-    }
-    if b == 0x2b {
-        return true;
-    }
-    b == 0x22
+    a == 0x2b || a == 0x22 || b == 0x2b || b == 0x22
 }
 
 // 22 and a table's entry first at the cursor: another entry behind it, else a simple number.
@@ -200,15 +171,14 @@ fn entry_first(
     at: &mut usize,
     outline: &[u64; PREPARED_WORDS],
     state: &[u64; STATE_WORDS],
-) -> i64
+) -> Option<i64>
     requires { Begins m.now.now at.old 0x22 }
     ensures { NumberTold m.now.now outline.now state.now at.old result at.new }
 {
     let mut end = *at;
-    let z = two_entries(m, &mut end, outline, state);
-    if z < SILENT {
+    if let Some(z) = two_entries(m, &mut end, outline, state) {
         *at = end;
-        return z;
+        return Some(z);
     }
     simple(m, at, outline, state)
 }
@@ -220,7 +190,7 @@ fn sum_of_terms(
     at: &mut usize,
     outline: &[u64; PREPARED_WORDS],
     state: &[u64; STATE_WORDS],
-) -> i64
+) -> Option<i64>
     ensures { NumberTold m.now.now outline.now state.now at.old result at.new }
 {
     let e = *m;
@@ -236,7 +206,7 @@ fn sum_of_terms(
             return simple(m, at, outline, state);
         }
     }
-    SILENT
+    None
 }
 
 // 24, a literal and terms at the cursor.
@@ -245,55 +215,42 @@ fn weighed(
     at: &mut usize,
     outline: &[u64; PREPARED_WORDS],
     state: &[u64; STATE_WORDS],
-) -> i64
+) -> Option<i64>
     requires { Begins m.now.now at.old 0x24 }
     ensures { NumberTold m.now.now outline.now state.now at.old result at.new }
 {
     let p = *at;
     let e = *m;
-    if stands(e, p, 7) {
-        if e[p + 6] == 0x22 {
-            *at = p + 1;
-            let x = literal(m, at, outline, state);
-            if x < SILENT {
-                let y = terms(m, at, outline, state);
-                if y < SILENT {
-                    return operation(0x24, x, y);
-                }
-            }
-        }
+    if stands(e, p, 7) && e[p + 6] == 0x22 {
+        *at = p + 1;
+        let x = literal(m, at, outline, state)?;
+        let y = terms(m, at, outline, state)?;
+        return operation(0x24, x, y);
     }
-    SILENT
+    None
 }
 
-// The first of two simple numbers at the cursor where c is 1, else the second.
+// The first of two simple numbers at the cursor where c holds, else the second.
 fn simple_by(
-    c: u8,
+    c: bool,
     m: &&[u8],
     at: &mut usize,
     outline: &[u64; PREPARED_WORDS],
     state: &[u64; STATE_WORDS],
-) -> i64
-    requires { Stands m.now.now at.old 0 × (c < 2) }
+) -> Option<i64>
+    requires { Stands m.now.now at.old 0 }
     ensures { ChosenTold m.now.now outline.now state.now at.old c result at.new }
 {
     let p = *at;
-    let x = simple(m, at, outline, state);
-    if x < SILENT {
-        let q = *at;
-        if behind(*m, p, 1) == q {
-            let y = simple(m, at, outline, state);
-            if y < SILENT {
-                if behind(*m, q, 1) == *at {
-                    if c == 1 {
-                        return x;
-                    }
-                    return y;
-                }
-            }
+    let x = simple(m, at, outline, state)?;
+    let q = *at;
+    if behind(*m, p, 1) == q {
+        let y = simple(m, at, outline, state)?;
+        if behind(*m, q, 1) == *at {
+            return Some(if c { x } else { y });
         }
     }
-    SILENT
+    None
 }
 
 // 2B, a condition and two simple numbers at the cursor.
@@ -302,17 +259,13 @@ fn simple_choice(
     at: &mut usize,
     outline: &[u64; PREPARED_WORDS],
     state: &[u64; STATE_WORDS],
-) -> i64
+) -> Option<i64>
     requires { Begins m.now.now at.old 0x2b }
     ensures { NumberTold m.now.now outline.now state.now at.old result at.new }
 {
-    let p = *at;
-    *at = p + 1;
-    let c = whole(m, at, outline, state);
-    if c < UNTOLD {
-        return simple_by(c, m, at, outline, state);
-    }
-    SILENT
+    *at += 1;
+    let c = whole(m, at, outline, state)?;
+    simple_by(c, m, at, outline, state)
 }
 
 // 2B at the cursor: of two literals, else of two simple numbers.
@@ -321,20 +274,19 @@ fn any_choice(
     at: &mut usize,
     outline: &[u64; PREPARED_WORDS],
     state: &[u64; STATE_WORDS],
-) -> i64
+) -> Option<i64>
     requires { Begins m.now.now at.old 0x2b }
     ensures { NumberTold m.now.now outline.now state.now at.old result at.new }
 {
     let mut end = *at;
-    let x = choice(m, &mut end, outline, state);
-    if x < SILENT {
+    if let Some(z) = choice(m, &mut end, outline, state) {
         *at = end;
-        return x;
+        return Some(z);
     }
     let mut far = *at;
-    let y = simple_choice(m, &mut far, outline, state);
+    let z = simple_choice(m, &mut far, outline, state);
     *at = far;
-    y
+    z
 }
 
 // A number of one of these forms at the cursor.
@@ -343,7 +295,7 @@ pub fn number(
     at: &mut usize,
     outline: &[u64; PREPARED_WORDS],
     state: &[u64; STATE_WORDS],
-) -> i64
+) -> Option<i64>
     ensures { NumberTold m.now.now outline.now state.now at.old result at.new }
 {
     let b = first_byte(*m, *at);
@@ -359,5 +311,5 @@ pub fn number(
     if b == 0x29 {
         return size(m, at, outline, state);
     }
-    SILENT
+    None
 }

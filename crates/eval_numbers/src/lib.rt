@@ -7,12 +7,11 @@ ghost use Rattle.eval_sets.specs.Runs as runs;
 ghost use Rattle.eval_sets.specs.Runs.{environment, run_number, run_condition};
 ghost use Rattle.eval_sets.specs.Promise.{NumberPromise};
 
-use eval_sets::answers::{
-    ConditionValue, NOTHING, NumberValue, PairValue, condition_past, number_past,
-};
+use eval_sets::answers::{ConditionValue, Told, condition_past, number_past};
 use eval_sets::bytes::{after, skip};
 use eval_sets::first_bytes::{ConditionForm, NumberForm, condition_form, number_form};
 use eval_sets::leaves;
+use eval_sets::troubles::Trouble;
 use outline::layout::{PREPARED_WORDS, STATE_WORDS};
 
 // Two numbers, one behind the other.
@@ -24,19 +23,15 @@ fn pair(
     state: &[u64; STATE_WORDS],
     outline: &[u64; PREPARED_WORDS],
     depth: usize,
-) -> PairValue
+) -> Result<Told<(i64, i64)>, Trouble>
     ensures { result ≡ runs.pair_at depth (environment model.now state.now outline.now) (drop at e.now) }
 {
-    match number_from(e, at, model, state, outline, depth) {
-        NumberValue::Value(x, n) => match number_from(e, at + n, model, state, outline, depth) {
-            NumberValue::Value(y, m) => {
-                let used = n + m;
-                PairValue::Values(x, y, used)
-            }
-            NumberValue::Trouble(t) => PairValue::Trouble(t),
-        },
-        NumberValue::Trouble(t) => PairValue::Trouble(t),
-    }
+    let x = number_from(e, at, model, state, outline, depth)?;
+    let y = number_from(e, at + x.used, model, state, outline, depth)?;
+    Ok(Told {
+        value: (x.value, y.value),
+        used: x.used + y.used,
+    })
 }
 
 // The number behind n bytes, and the part behind it passed over.
@@ -49,18 +44,17 @@ fn number_before(
     state: &[u64; STATE_WORDS],
     outline: &[u64; PREPARED_WORDS],
     depth: usize,
-) -> NumberValue
+) -> Result<Told<i64>, Trouble>
     requires { n ≤ length (drop at e.now) }
     ensures { result ≡ runs.number_before_at n depth (environment model.now state.now outline.now) (drop at e.now) }
 {
-    match number_from(e, at + n, model, state, outline, depth) {
-        NumberValue::Value(z, m) => {
-            let k = n + m;
-            let used = k + skip(after(e, at + k));
-            NumberValue::Value(z, used)
-        }
-        NumberValue::Trouble(t) => NumberValue::Trouble(t),
-    }
+    let z = number_from(e, at + n, model, state, outline, depth)?;
+    let k = n + z.used;
+    let used = k + skip(after(e, at + k));
+    Ok(Told {
+        value: z.value,
+        used,
+    })
 }
 
 // The number behind n bytes and a part that is passed over.
@@ -73,7 +67,7 @@ fn number_beyond(
     state: &[u64; STATE_WORDS],
     outline: &[u64; PREPARED_WORDS],
     depth: usize,
-) -> NumberValue
+) -> Result<Told<i64>, Trouble>
     requires { n ≤ length (drop at e.now) }
     ensures { result ≡ runs.number_beyond_at n depth (environment model.now state.now outline.now) (drop at e.now) }
 {
@@ -90,7 +84,7 @@ fn choice(
     state: &[u64; STATE_WORDS],
     outline: &[u64; PREPARED_WORDS],
     depth: usize,
-) -> NumberValue
+) -> Result<Told<i64>, Trouble>
     ensures { result ≡ runs.choice_at depth (environment model.now state.now outline.now) (drop at e.now) }
 {
     match condition_from(e, at, model, state, outline, depth) {
@@ -101,7 +95,7 @@ fn choice(
                 number_beyond(e, at, n, model, state, outline, depth)
             }
         }
-        ConditionValue::Trouble(t) => NumberValue::Trouble(t),
+        ConditionValue::Trouble(t) => Err(t),
     }
 }
 
@@ -141,7 +135,7 @@ fn number_behind(
     state: &[u64; STATE_WORDS],
     outline: &[u64; PREPARED_WORDS],
     depth: usize,
-) -> NumberValue
+) -> Result<Told<i64>, Trouble>
     ensures { result ≡ runs.number_at depth (environment model.now state.now outline.now) form (drop at e.now) }
 {
     match form {
@@ -155,7 +149,7 @@ fn number_behind(
         NumberForm::Size => leaves::size_number(e, at, state, outline, depth),
         NumberForm::Total => leaves::total_number(e, at, model, state, outline, depth),
         NumberForm::Choice => choice(e, at, model, state, outline, depth),
-        NumberForm::Other => NumberValue::Trouble(NOTHING),
+        NumberForm::Other => Err(Trouble::Nothing),
     }
 }
 
@@ -185,7 +179,7 @@ fn condition_behind(
             e, at, model, state, outline, depth,
         )),
         ConditionForm::Connective(b) => connective(b, e, at, model, state, outline, depth),
-        ConditionForm::Other => ConditionValue::Trouble(NOTHING),
+        ConditionForm::Other => ConditionValue::Trouble(Trouble::Nothing),
     }
 }
 
@@ -198,14 +192,14 @@ fn number_from(
     state: &[u64; STATE_WORDS],
     outline: &[u64; PREPARED_WORDS],
     depth: usize,
-) -> NumberValue
+) -> Result<Told<i64>, Trouble>
     ensures { result ≡ run_number depth (environment model.now state.now outline.now) (drop at e.now) }
 {
     if depth == 0 {
-        return NumberValue::Trouble(NOTHING);
+        return Err(Trouble::Nothing);
     }
     if e.len() <= at {
-        return NumberValue::Trouble(NOTHING);
+        return Err(Trouble::Nothing);
     }
     let b = e[at];
     let next = at + 1;
@@ -234,10 +228,10 @@ pub fn condition_from(
     ensures { result ≡ run_condition depth (environment model.now state.now outline.now) (drop at e.now) }
 {
     if depth == 0 {
-        return ConditionValue::Trouble(NOTHING);
+        return ConditionValue::Trouble(Trouble::Nothing);
     }
     if e.len() <= at {
-        return ConditionValue::Trouble(NOTHING);
+        return ConditionValue::Trouble(Trouble::Nothing);
     }
     let b = e[at];
     let next = at + 1;
@@ -257,7 +251,7 @@ pub fn number(
     state: &[u64; STATE_WORDS],
     outline: &[u64; PREPARED_WORDS],
     depth: usize,
-) -> NumberValue
+) -> Result<Told<i64>, Trouble>
     ensures run { result ≡ run_number depth (environment model.now state.now outline.now) e.now }
     ensures promise { NumberPromise depth (environment model.now state.now outline.now) e.now result }
 {

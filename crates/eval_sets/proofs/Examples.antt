@@ -17,14 +17,16 @@ use Rattle.model.specs.Readers.{◌>>=◌ as ◌bind_readers◌, ◌>>◌ as ◌
 use Rattle.model.specs.Meaning as of_meaning
 use Rattle.words.specs.FullSets as of_full_sets
 use Rattle.words.specs.Tables as of_tables
-use Rattle.eval_sets.specs.declared.answers.NumberValue.{NumberValue}
-use Rattle.eval_sets.specs.declared.answers.NumberValue.TheVariants as N
+use Rattle.std.specs.Prelude.{Err}
+use Rattle.eval_sets.specs.declared.troubles.Trouble.TheVariants as T
 use Rattle.eval_sets.specs.declared.answers.ConditionValue.{ConditionValue}
 use Rattle.eval_sets.specs.declared.answers.ConditionValue.TheVariants as C
 use Rattle.words.specs.States as of_states
 use Rattle.outline.specs.Outline.{kinds_from}
 use Rattle.eval_sets.specs.Forms as the_forms
 use Rattle.eval_sets.specs.Answers as of_answers
+use Rattle.eval_sets.specs.Answers.{NumberValue, told}
+use Rattle.eval_sets.specs.Troubles as of_troubles
 use Rattle.eval_sets.specs.Runs as of_runs
 use Rattle.eval_sets.specs.Promise.{SetKinds, Describes}
 use Rattle.eval_sets.specs.Runs.{Environment, environment, run_number, run_condition}
@@ -46,17 +48,17 @@ pub data Asked : Type 0 where
   condition_at : (depth : ℕ) (bytes : List ℕ) → Asked
   span_of : (bytes : List ℕ) → Asked
 
-pub data Told : Type 0 where
-  number : NumberValue → Told
-  condition : ConditionValue → Told
-  bytes : ℕ → Told
+pub data Tellable : Type 0 where
+  number : NumberValue → Tellable
+  condition : ConditionValue → Tellable
+  bytes : ℕ → Tellable
 
-unfoldable pub opened : Asked → Told
+unfoldable pub opened : Asked → Tellable
 unfolding hex ◌bind_values◌ of_values.in_range of_values.floor_by of_values.floor_quotient of_sets.is_member of_sets.union of_sets.intersection of_sets.difference of_full_sets.full_of
     of_sets.is_subset of_sets.cons_if of_sets.members_from of_sets.members of_readers.after of_readers.continue ◌bind_readers◌ ◌then_readers◌ of_readers.give
     of_readers.require of_readers.byte of_readers.word of_readers.signed of_readers.one of_readers.integer of_meaning.equal_z of_meaning.sum_over
     of_tables.or_zero of_tables.cell_at of_tables.entry_in of_states.value_of the_forms.number_form the_forms.set_form the_forms.condition_form the_forms.shape_of
-    the_forms.operands the_forms.parts the_forms.span of_answers.number_answer of_answers.past_number of_answers.past_condition of_answers.number_of_two
+    the_forms.operands the_forms.parts the_forms.span of_troubles.named of_answers.number_answer of_answers.past_number of_answers.past_condition of_answers.number_of_two
     of_answers.condition_of_two of_answers.negated of_runs.element_of of_runs.run_element of_runs.two_elements of_runs.element_then_set of_runs.set_then_element
     of_runs.two_sets of_runs.literal_members of_runs.literal_set of_runs.set_variable_at of_runs.changed of_runs.combined of_runs.complemented of_runs.set_behind
     of_runs.run_set of_runs.literal_value of_runs.literal_number of_runs.number_variable_at of_runs.arithmetic of_runs.entry_of of_runs.entry_number
@@ -110,40 +112,40 @@ asked =
     ∷ span_of (hex 16 0x2a_00_40_03_07_00_00_00_00_00_00_00_30_00_0a_00)
     ∷ []
 
-abbrev pub told : List Told
-told =
-    number (N.Value (negsuc 3) 11)
-    ∷ number (N.Trouble 12)
-    ∷ number (N.Trouble 11)
-    ∷ number (N.Value (negsuc 1) 8)
-    ∷ number (N.Value (negsuc 0) 6)
-    ∷ number (N.Value (pos 1) 4)
-    ∷ number (N.Value (pos 2) 7)
-    ∷ number (N.Value (pos 3) 7)
-    ∷ number (N.Value (pos 64) 12)
-    ∷ number (N.Value (pos 0) 12)
-    ∷ number (N.Value (pos 0x7fff_ffff) 14)
-    ∷ number (N.Trouble 11)
-    ∷ number (N.Value (pos 9) 28)
-    ∷ number (N.Value (pos 9) 28)
+abbrev pub answers : List Tellable
+answers =
+    number (told (negsuc 3) 11)
+    ∷ number (Err T.DivisorZero)
+    ∷ number (Err T.OutOfRange)
+    ∷ number (told (negsuc 1) 8)
+    ∷ number (told (negsuc 0) 6)
+    ∷ number (told (pos 1) 4)
+    ∷ number (told (pos 2) 7)
+    ∷ number (told (pos 3) 7)
+    ∷ number (told (pos 64) 12)
+    ∷ number (told (pos 0) 12)
+    ∷ number (told (pos 0x7fff_ffff) 14)
+    ∷ number (Err T.OutOfRange)
+    ∷ number (told (pos 9) 28)
+    ∷ number (told (pos 9) 28)
     ∷ condition (C.Holds false 23)
     ∷ condition (C.Holds true 9)
     ∷ condition (C.Holds false 9)
     ∷ condition (C.Holds true 8)
-    ∷ number (N.Trouble 0)
-    ∷ number (N.Trouble 0)
-    ∷ number (N.Trouble 0)
-    ∷ number (N.Trouble 0)
-    ∷ number (N.Trouble 0)
+    ∷ number (Err T.Nothing)
+    ∷ number (Err T.Nothing)
+    ∷ number (Err T.Nothing)
+    ∷ number (Err T.Nothing)
+    ∷ number (Err T.Nothing)
     ∷ bytes 28
     ∷ bytes 14
     ∷ []
 
-abbrev pub all_of : List Asked → List Told
+abbrev pub all_of : List Asked → List Tellable
 all_of [] = []
 all_of (q ∷ qs) = opened q ∷ all_of qs
 
-pub examples : all_of asked ≡ told
+pub examples : all_of asked ≡ answers
 unfolding opened hex
 examples = refl
 

@@ -15,14 +15,12 @@ use Rattle.model.specs.Values.{Value, value, trouble, ◌>>=◌ as ◌and_then�
 use Rattle.model.specs.Syntax.{Variable, Table}
 use Rattle.model.specs.Meaning.{two, entry_at, sum_over}
 use Rattle.words.specs.Tables.{cell_at, entry_in, columns_of, cells_of, at_of, table_word, Tabled}
-use Rattle.eval_sets.specs.declared.answers.NumberValue.{NumberValue}
 use Rattle.eval_sets.specs.declared.answers.ConditionValue.{ConditionValue}
 use Rattle.eval_sets.specs.declared.answers.SetValue.{SetValue}
 use Rattle.eval_sets.specs.declared.answers.Parts.{Parts}
-use Rattle.eval_sets.specs.declared.answers.NumberValue.TheVariants as N
 use Rattle.words.specs.States.{value_of, state_of}
 use Rattle.eval_sets.specs.Forms.{span}
-use Rattle.eval_sets.specs.Answers.{number_answer, condition_answer, set_answer, element_answer, past_number, past_condition, number_of_two, condition_of_two, negated}
+use Rattle.eval_sets.specs.Answers.{NumberValue, told, number_answer, condition_answer, set_answer, element_answer, past_number, past_condition, number_of_two, condition_of_two, negated}
 use Rattle.eval_sets.specs.Runs.{run_element, two_elements, element_then_set, set_then_element, two_sets, entry_of, pair_second, pair_first, run_pair, number_before, chosen, choice_first, skip_at, run_choice, agree, decided, connective_first, run_connective}
 
 -- ---- variables
@@ -106,7 +104,7 @@ module _ (rn : List ℕ → NumberValue) (rc : List ℕ → ConditionValue) (e :
 
   before_is : (v : Value ℤ) (n m l : ℕ) → span (drop m (drop n e)) 0 1 ≡ l → number_before n (number_answer v m) (skip_at e) ≡ number_answer v (n + (m + l))
   unfolding number_before number_answer
-  before_is (value z) n m l h = rw (← (drop-drop m n e), h) (ap (λ (k : ℕ). N.Value z k) (omega arith))
+  before_is (value z) n m l h = rw (← (drop-drop m n e), h) (ap (λ (k : ℕ). told z k) (omega arith))
   before_is (trouble t) n m l h = refl
 
   pub choice_is : (c : Value Bool) (x y : Value ℤ) (n m l : ℕ) → rc e ≡ condition_answer c n

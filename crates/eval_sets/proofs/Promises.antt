@@ -2,9 +2,9 @@
 use Prim.Native.Nat.{ℕ}
 use mathlib.Core.Path.{◌≡◌, ◌∙◌}
 use mathlib.Core.List.{List}
-use Rattle.eval_sets.specs.declared.answers.NumberValue.{NumberValue}
 use Rattle.eval_sets.specs.declared.answers.ElementValue.{ElementValue}
 use Rattle.eval_sets.specs.declared.answers.SetValue.{SetValue}
+use Rattle.eval_sets.specs.Answers.{NumberValue}
 use Rattle.eval_sets.specs.Runs.{Environment, run_element, run_set, run_number, run_condition}
 use Rattle.eval_sets.specs.Promise.{NumberPromise, ConditionPromise, SetPromise, ElementPromise}
 use Rattle.eval_sets.proofs.Reading.{of_read}

@@ -13,10 +13,8 @@ use Rattle.laws.proofs.Bools.{by_cond}
 use Rattle.model.specs.Numbers.{range_end}
 use Rattle.model.specs.Values.{Value, value, trouble, in_range, floor_quotient, ◌>>=◌ as ◌and_then◌}
 use Rattle.model.specs.Readers.{Read, read, refused, word, integer}
-use Rattle.eval_sets.specs.declared.answers.NumberValue.{NumberValue}
-use Rattle.eval_sets.specs.declared.answers.NumberValue.TheVariants as N
-use Rattle.eval_sets.specs.declared.answers.PairValue.{PairValue}
-use Rattle.eval_sets.specs.declared.answers.PairValue.TheVariants as P
+use Rattle.std.specs.Prelude.{Ok, Err}
+use Rattle.eval_sets.specs.declared.answers.Told.{Told}
 use Rattle.eval_sets.specs.declared.answers.ConditionValue.{ConditionValue}
 use Rattle.eval_sets.specs.declared.answers.ConditionValue.TheVariants as C
 use Rattle.eval_sets.specs.declared.answers.ElementValue.{ElementValue}
@@ -35,7 +33,7 @@ use Rattle.eval_sets.specs.declared.first_bytes.SetForm.TheVariants as SF
 use Rattle.eval_sets.specs.declared.first_bytes.ConditionForm.{ConditionForm}
 use Rattle.eval_sets.specs.declared.first_bytes.ConditionForm.TheVariants as CF
 use Rattle.eval_sets.specs.Forms.{number_form, set_form, condition_form}
-use Rattle.eval_sets.specs.Answers.{number_answer, past_number, past_condition, number_of_two, condition_of_two, negated}
+use Rattle.eval_sets.specs.Answers.{NumberValue, PairValue, number_answer, past_number, past_condition, number_of_two, condition_of_two, negated}
 use Rattle.eval_sets.specs.Bounds.{NumberWithin, PairWithin, ConditionWithin, NumberRoom, ConditionRoom, PairInRange}
 use Rattle.eval_sets.specs.Runs as R
 use Rattle.eval_sets.specs.Runs.{Environment, run_element, run_set, run_number, run_condition, set_behind, number_behind, condition_behind, run_pair, run_choice, run_connective}
@@ -145,13 +143,13 @@ arithmetic_within Op.Greater a b n L h = fits_within _ n L h
 
 two_within : (o : Operation) (L : ℕ) (v : PairValue) → PairWithin L v → NumberWithin L (number_of_two (R.arithmetic o) v)
 unfolding number_of_two
-two_within o L (P.Values x y n) h = arithmetic_within o x y n L h.1.1
-two_within o L (P.Trouble t) h = tt
+two_within o L (Ok v) h = arithmetic_within o v.value.0 v.value.1 v.used L h.1.1
+two_within o L (Err t) h = tt
 
 test_within : (g : ℤ → ℤ → Bool) (L : ℕ) (v : PairValue) → PairWithin L v → ConditionWithin L (condition_of_two g v)
 unfolding condition_of_two
-test_within g L (P.Values x y n) h = h.1.1
-test_within g L (P.Trouble t) h = tt
+test_within g L (Ok v) h = h.1.1
+test_within g L (Err t) h = tt
 
 negated_within : (L : ℕ) (v : ConditionValue) → ConditionWithin L v → ConditionWithin L (negated v)
 unfolding negated
@@ -161,8 +159,8 @@ negated_within L (C.Trouble t) h = tt
 -- behind the first n bytes
 pub number_past_within : (e : List ℕ) (n : ℕ) (v : NumberValue) → n ≤ length e → NumberWithin (length (drop n e)) v → NumberWithin (length e) (past_number n v)
 unfolding past_number
-number_past_within e n (N.Value z m) h k = (k.0, sum_within e n m h k.1)
-number_past_within e n (N.Trouble t) h k = tt
+number_past_within e n (Ok z) h k = (k.0, sum_within e n z.used h k.1)
+number_past_within e n (Err t) h k = tt
 
 pub condition_past_within : (e : List ℕ) (n : ℕ) (v : ConditionValue) → n ≤ length e → ConditionWithin (length (drop n e)) v → ConditionWithin (length e) (past_condition n v)
 unfolding past_condition
@@ -176,12 +174,12 @@ module _ (rn : List ℕ → NumberValue) (rc : List ℕ → ConditionValue)
   pair_within e = first (rn e) (hn e)
     where
       second : (x : ℤ) (n : ℕ) (v : NumberValue) → mag x < range_end → n ≤ length e → NumberWithin (length (drop n e)) v → PairWithin (length e) (R.pair_second x n v)
-      second x n (N.Value y m) f h k = (f, (k.0, sum_within e n m h k.1))
-      second x n (N.Trouble t) f h k = tt
+      second x n (Ok y) f h k = (f, (k.0, sum_within e n y.used h k.1))
+      second x n (Err t) f h k = tt
 
       first : (v : NumberValue) → NumberWithin (length e) v → PairWithin (length e) (R.pair_first v (λ n. rn (drop n e)))
-      first (N.Value x n) h = second x n (rn (drop n e)) h.0 h.1 (hn (drop n e))
-      first (N.Trouble t) h = tt
+      first (Ok x) h = second x.value x.used (rn (drop x.used e)) h.0 h.1 (hn (drop x.used e))
+      first (Err t) h = tt
 
   pub skip_within : (e : List ℕ) (n : ℕ) → n ≤ length e → n + R.skip_at e n ≤ length e
   skip_within e n h = sum_within e n (R.skip_at e n) h (span_within (drop n e) 0 1)
@@ -191,8 +189,8 @@ module _ (rn : List ℕ → NumberValue) (rc : List ℕ → ConditionValue)
   choice_within e = first (rc e) (hc e)
     where
       before : (n : ℕ) (v : NumberValue) → n ≤ length e → NumberWithin (length (drop n e)) v → NumberWithin (length e) (R.number_before n v (R.skip_at e))
-      before n (N.Value z m) h k = (k.0, skip_within e (n + m) (sum_within e n m h k.1))
-      before n (N.Trouble t) h k = tt
+      before n (Ok z) h k = (k.0, skip_within e (n + z.used) (sum_within e n z.used h k.1))
+      before n (Err t) h k = tt
 
       first : (v : ConditionValue) → ConditionWithin (length e) v → NumberWithin (length e) (R.choice_first v (λ n. rn (drop n e)) (R.skip_at e))
       first (C.Holds true n) h = before n (rn (drop n e)) h (hn (drop n e))
@@ -324,30 +322,30 @@ elements_used ws e = omega (arith, element_used ws e, element_used ws (drop (run
 
 -- ---- what an answer that is met tells
 
-pub number_known : (d : ℕ) (p : Environment) (e : List ℕ) (z : ℤ) (n : ℕ) → run_number d p e ≡ N.Value z n → (mag z < range_end) × (n ≤ length e)
-number_known d p e z n h = subst (λ (v : NumberValue). NumberWithin (length e) v) h (number_within d p e)
+pub number_known : (d : ℕ) (p : Environment) (e : List ℕ) {v : Told ℤ} → run_number d p e ≡ Ok v → (mag v.value < range_end) × (v.used ≤ length e)
+number_known d p e h = subst (NumberWithin (length e)) h (number_within d p e)
 
 pub condition_known : (d : ℕ) (p : Environment) (e : List ℕ) (b : Bool) (n : ℕ) → run_condition d p e ≡ C.Holds b n → n ≤ length e
 condition_known d p e b n h = subst (λ (v : ConditionValue). ConditionWithin (length e) v) h (condition_within d p e)
 
-pub number_past : (d : ℕ) (p : Environment) (at : ℕ) (e : List ℕ) (z : ℤ) (n : ℕ) → run_number d p (drop at e) ≡ N.Value z n → n ≤ length e - at
-number_past d p at e z n h = omega (arith, (number_known d p (drop at e) z n h).1, length-drop at e)
+pub number_past : (d : ℕ) (p : Environment) (at : ℕ) (e : List ℕ) {v : Told ℤ} → run_number d p (drop at e) ≡ Ok v → v.used ≤ length e - at
+number_past d p at e h = omega (arith, (number_known d p (drop at e) h).1, length-drop at e)
 
 pub condition_past : (d : ℕ) (p : Environment) (at : ℕ) (e : List ℕ) (b : Bool) (n : ℕ) → run_condition d p (drop at e) ≡ C.Holds b n → n ≤ length e - at
 condition_past d p at e b n h = omega (arith, condition_known d p (drop at e) b n h, length-drop at e)
 
 -- k bytes more can be counted
 pub number_room : (k l : ℕ) (v : NumberValue) → NumberWithin l v → k + l < 2 ^ 64 → NumberRoom k v
-number_room k l (N.Value z n) h r = omega (arith, h.1)
-number_room k l (N.Trouble t) h r = tt
+number_room k l (Ok v) h r = omega (arith, h.1)
+number_room k l (Err t) h r = tt
 
 pub condition_room : (k l : ℕ) (v : ConditionValue) → ConditionWithin l v → k + l < 2 ^ 64 → ConditionRoom k v
 condition_room k l (C.Holds b n) h r = omega (arith, h)
 condition_room k l (C.Trouble t) h r = tt
 
 pub pair_in_range : (l : ℕ) (v : PairValue) → PairWithin l v → PairInRange v
-pair_in_range l (P.Values x y n) h = (h.0, h.1.0)
-pair_in_range l (P.Trouble t) h = tt
+pair_in_range l (Ok v) h = (h.0, h.1.0)
+pair_in_range l (Err t) h = tt
 
 module _ (d : ℕ) (p : Environment) where
   pub pair_run_within : (e : List ℕ) → PairWithin (length e) (run_pair (λ f. run_number d p f) e)

@@ -1,5 +1,6 @@
--- The evaluators' definitions: forms, answers, the run of an expression, and what is promised of it.
+-- The evaluators' definitions: forms, troubles, answers, the run of an expression, and what is promised of it.
 pub mod Forms
+pub mod Troubles
 pub mod Answers
 pub mod Bounds
 pub mod Runs

@@ -9,12 +9,11 @@ use Rattle.model.specs.Expressions as reading
 use Rattle.model.specs.Meaning.{element_value, set_value, number_value, condition_value}
 use Rattle.words.specs.Tables.{Tabled}
 use Rattle.outline.specs.Outline.{kinds_from}
-use Rattle.eval_sets.specs.declared.answers.NumberValue.{NumberValue}
 use Rattle.eval_sets.specs.declared.answers.ConditionValue.{ConditionValue}
 use Rattle.eval_sets.specs.declared.answers.ElementValue.{ElementValue}
 use Rattle.eval_sets.specs.declared.answers.SetValue.{SetValue}
 use Rattle.words.specs.States.{state_of}
-use Rattle.eval_sets.specs.Answers.{number_answer, condition_answer, set_answer, element_answer}
+use Rattle.eval_sets.specs.Answers.{NumberValue, number_answer, condition_answer, set_answer, element_answer}
 use Rattle.eval_sets.specs.Runs.{Environment, table_in}
 
 -- each set variable's kind word tells its objects, at most 64

@@ -1,5 +1,5 @@
 -- The run of an expression on bytes, in the evaluators' own steps; the first byte tells the form, what stands behind it the parts.
-use Rattle.std.specs.Prelude.{ℕ, zero, suc, ◌+◌, ◌-◌, ◌%◌, ◌^◌, Bool, true, false, cond, List, [], ◌∷◌, length, get_or, drop, eqb, ltb, ℤ, pos, ◌+ℤ◌, ◌-ℤ◌, ◌*ℤ◌}
+use Rattle.std.specs.Prelude.{Ok, Err, ℕ, zero, suc, ◌+◌, ◌-◌, ◌%◌, ◌^◌, Bool, true, false, cond, List, [], ◌∷◌, length, get_or, drop, eqb, ltb, ℤ, pos, ◌+ℤ◌, ◌-ℤ◌, ◌*ℤ◌}
 use Rattle.std.specs.Int.Signed.{lt_z, le_z}
 use Rattle.model.specs.Numbers.{range_end, most_objects}
 use Rattle.model.specs.Values.{Value, ◌>>=◌, in_range, floor_quotient}
@@ -10,10 +10,6 @@ use Rattle.model.specs.Meaning.{equal_z, sum_over}
 use Rattle.words.specs.FullSets.{full_of}
 use Rattle.words.specs.Tables.{entry_in, columns_of, cells_of, at_of}
 use Rattle.outline.specs.Outline.{kinds_from, tables_from}
-use Rattle.eval_sets.specs.declared.answers.NumberValue.{NumberValue}
-use Rattle.eval_sets.specs.declared.answers.NumberValue.TheVariants as N
-use Rattle.eval_sets.specs.declared.answers.PairValue.{PairValue}
-use Rattle.eval_sets.specs.declared.answers.PairValue.TheVariants as P
 use Rattle.eval_sets.specs.declared.answers.ConditionValue.{ConditionValue}
 use Rattle.eval_sets.specs.declared.answers.ConditionValue.TheVariants as C
 use Rattle.eval_sets.specs.declared.answers.ElementValue.{ElementValue}
@@ -34,7 +30,7 @@ use Rattle.eval_sets.specs.declared.first_bytes.Relation.TheVariants as Re
 use Rattle.eval_sets.specs.declared.first_bytes.ConditionForm.{ConditionForm}
 use Rattle.eval_sets.specs.declared.first_bytes.ConditionForm.TheVariants as CF
 use Rattle.words.specs.States.{value_of}
-use Rattle.eval_sets.specs.Answers.{number_answer, set_answer, element_answer, absent_number, absent_condition, absent_set, absent_element, past_number, past_condition, past_set, number_of_two, condition_of_two, negated}
+use Rattle.eval_sets.specs.Answers.{NumberValue, PairValue, told, number_answer, set_answer, element_answer, absent_number, absent_condition, absent_set, absent_element, past_number, past_condition, past_set, number_of_two, condition_of_two, negated}
 use Rattle.eval_sets.specs.Forms.{number_form, set_form, condition_form, span}
 
 -- what an expression is evaluated in: the model's bytes, the state's words, the outline's words
@@ -206,20 +202,20 @@ subset_of p = C.Holds (Sets.is_subset p.first p.second) p.used
 -- ---- two parts, one behind the other
 
 unfoldable pub pair_second : ℤ → ℕ → NumberValue → PairValue
-pair_second x n (N.Value y m) = P.Values x y (n + m)
-pair_second x n (N.Trouble t) = P.Trouble t
+pair_second x n (Ok y) = told (x, y.value) (n + y.used)
+pair_second x n (Err t) = Err t
 
 unfoldable pub pair_first : NumberValue → (ℕ → NumberValue) → PairValue
-pair_first (N.Value x n) next = pair_second x n (next n)
-pair_first (N.Trouble t) next = P.Trouble t
+pair_first (Ok x) next = pair_second x.value x.used (next x.used)
+pair_first (Err t) next = Err t
 
 unfoldable pub run_pair : (List ℕ → NumberValue) → List ℕ → PairValue
 run_pair rn e = pair_first (rn e) (λ n. rn (drop n e))
 
 -- the number behind n bytes, before a part that is passed over
 unfoldable pub number_before : ℕ → NumberValue → (ℕ → ℕ) → NumberValue
-number_before n (N.Value z m) skip = N.Value z (n + m + skip (n + m))
-number_before n (N.Trouble t) skip = N.Trouble t
+number_before n (Ok z) skip = told z.value (n + z.used + skip (n + z.used))
+number_before n (Err t) skip = Err t
 
 unfoldable pub chosen : Bool → ℕ → (ℕ → NumberValue) → (ℕ → ℕ) → NumberValue
 chosen true n next skip = number_before n (next n) skip
@@ -227,7 +223,7 @@ chosen false n next skip = past_number (n + skip n) (next (n + skip n))
 
 unfoldable pub choice_first : ConditionValue → (ℕ → NumberValue) → (ℕ → ℕ) → NumberValue
 choice_first (C.Holds b n) next skip = chosen b n next skip
-choice_first (C.Trouble t) next skip = N.Trouble t
+choice_first (C.Trouble t) next skip = Err t
 
 -- the bytes of the expression behind n bytes
 abbrev pub skip_at : List ℕ → ℕ → ℕ

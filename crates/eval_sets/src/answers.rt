@@ -1,35 +1,24 @@
-// What the evaluators answer: a value with the bytes that its expression takes, or the number of the trouble.
+// What the evaluators answer: a value with the bytes that its expression takes, or the trouble.
 
 ghost use Rattle.std.specs.Prelude.{◌≡◌};
 ghost use Rattle.eval_sets.specs.Answers.{past_number, past_condition};
 ghost use Rattle.eval_sets.specs.Bounds.{NumberRoom, ConditionRoom};
 
-// The numbers of troubles: out of range, quotient by zero; 0 where the bytes hold no such expression.
-pub const OUT_OF_RANGE: u8 = 11;
+use crate::troubles::Trouble;
 
-pub const DIVISOR_ZERO: u8 = 12;
-
-pub const NOTHING: u8 = 0;
-
-// A number.
+// A value, and the bytes that its expression takes.
 #[derive(Clone, Copy)]
-pub enum NumberValue {
-    Value(i64, usize),
-    Trouble(u8),
+pub struct Told<T> {
+    pub value: T,
+    pub used: usize,
 }
 
-// Two numbers, one behind the other.
-#[derive(Clone, Copy)]
-pub enum PairValue {
-    Values(i64, i64, usize),
-    Trouble(u8),
-}
-
-// A condition.
+// A condition. It stays an enum of its own: a Result of a Told bool is half as large again, and evaluators of conditions were
+// up to a third slower with it.
 #[derive(Clone, Copy)]
 pub enum ConditionValue {
     Holds(bool, usize),
-    Trouble(u8),
+    Trouble(Trouble),
 }
 
 // An element, below 64.
@@ -57,14 +46,15 @@ pub struct Parts {
 }
 
 // The answer behind k bytes.
-pub fn number_past(k: usize, v: NumberValue) -> NumberValue
+pub fn number_past(k: usize, v: Result<Told<i64>, Trouble>) -> Result<Told<i64>, Trouble>
     requires { NumberRoom k v }
     ensures { result ≡ past_number k v }
 {
-    match v {
-        NumberValue::Value(z, n) => NumberValue::Value(z, k + n),
-        NumberValue::Trouble(t) => NumberValue::Trouble(t),
-    }
+    let x = v?;
+    Ok(Told {
+        value: x.value,
+        used: k + x.used,
+    })
 }
 
 pub fn condition_past(k: usize, v: ConditionValue) -> ConditionValue

@@ -10,41 +10,42 @@ ghost use Rattle.eval_sets.specs.Bounds.{PairInRange};
 ghost use Rattle.eval_sets.specs.Runs as runs;
 ghost use Rattle.eval_sets.specs.Runs.{fits};
 
-use crate::answers::{ConditionValue, DIVISOR_ZERO, NOTHING, NumberValue, OUT_OF_RANGE, PairValue};
+use crate::answers::{ConditionValue, Told};
 use crate::bytes::{after, name};
 use crate::first_bytes::{Operation, Relation};
 use crate::sets::{element, set_near, set_then_element, two_elements, two_sets};
+use crate::troubles::Trouble;
 use outline::layout::{PREPARED_WORDS, STATE_WORDS, TABLES};
 use outline::word_at;
 use words::arithmetic::{difference, floor_quotient, in_range, product, signed_word, sum};
 use words::literals::integer;
 
-// A number in range, or trouble 11.
-fn ranged(z: i64, used: usize) -> NumberValue
+// A number in range; another is out of range.
+fn ranged(z: i64, used: usize) -> Result<Told<i64>, Trouble>
     ensures { result ≡ number_answer (fits z) used }
 {
     if in_range(z) {
-        return NumberValue::Value(z, used);
+        return Ok(Told { value: z, used });
     }
-    NumberValue::Trouble(OUT_OF_RANGE)
+    Err(Trouble::OutOfRange)
 }
 
 // 20, behind its byte: an i32.
-pub fn literal_number(e: &[u8]) -> NumberValue
+pub fn literal_number(e: &[u8]) -> Result<Told<i64>, Trouble>
     ensures { result ≡ runs.literal_number e.now }
 {
     if e.len() < 4 {
-        return NumberValue::Trouble(NOTHING);
+        return Err(Trouble::Nothing);
     }
     ranged(integer(e), 4)
 }
 
 // 21, behind its byte: a number variable.
-pub fn number_variable(e: &[u8], state: &[u64; STATE_WORDS]) -> NumberValue
+pub fn number_variable(e: &[u8], state: &[u64; STATE_WORDS]) -> Result<Told<i64>, Trouble>
     ensures { result ≡ runs.number_variable_at state.now e.now }
 {
     if e.len() == 0 {
-        return NumberValue::Trouble(NOTHING);
+        return Err(Trouble::Nothing);
     }
     ranged(signed_word(word_at(state, name(e))), 1)
 }
@@ -67,19 +68,19 @@ fn greater(a: i64, b: i64) -> i64
     a
 }
 
-// The quotient rounded down; trouble 12 before 11.
-fn quotient(a: i64, b: i64, used: usize) -> NumberValue
+// The quotient rounded down; a divisor of zero comes before a value out of range.
+fn quotient(a: i64, b: i64, used: usize) -> Result<Told<i64>, Trouble>
     requires { (mag a < range_end) × (mag b < range_end) }
     ensures { result ≡ number_answer (floor_quotient a b and_then fits) used }
 {
     if b == 0 {
-        return NumberValue::Trouble(DIVISOR_ZERO);
+        return Err(Trouble::DivisorZero);
     }
     ranged(floor_quotient(a, b), used)
 }
 
 // 22 to 27, of two values in range.
-fn operation(o: Operation, a: i64, b: i64, used: usize) -> NumberValue
+fn operation(o: Operation, a: i64, b: i64, used: usize) -> Result<Told<i64>, Trouble>
     requires { (mag a < range_end) × (mag b < range_end) }
     ensures { result ≡ number_answer (runs.arithmetic o a b) used }
 {
@@ -94,14 +95,12 @@ fn operation(o: Operation, a: i64, b: i64, used: usize) -> NumberValue
 }
 
 // 22 to 27, by the answer of the two numbers.
-pub fn arithmetic(o: Operation, p: PairValue) -> NumberValue
+pub fn arithmetic(o: Operation, p: Result<Told<(i64, i64)>, Trouble>) -> Result<Told<i64>, Trouble>
     requires { PairInRange p }
     ensures { result ≡ number_of_two (runs.arithmetic o) p }
 {
-    match p {
-        PairValue::Values(a, b, used) => operation(o, a, b, used),
-        PairValue::Trouble(t) => NumberValue::Trouble(t),
-    }
+    let p = p?;
+    operation(o, p.value.0, p.value.1, p.used)
 }
 
 // The word of table t.
@@ -118,11 +117,11 @@ pub fn entry_number(
     model: &[u8],
     state: &[u64; STATE_WORDS],
     outline: &[u64; PREPARED_WORDS],
-) -> NumberValue
+) -> Result<Told<i64>, Trouble>
     ensures { result ≡ runs.entry_number model.now state.now outline.now e.now }
 {
     if e.len() == 0 {
-        return NumberValue::Trouble(NOTHING);
+        return Err(Trouble::Nothing);
     }
     let table = table_in(outline, name(e));
     let x = two_elements(after(e, 1), state);
@@ -139,7 +138,7 @@ pub fn size_number(
     state: &[u64; STATE_WORDS],
     outline: &[u64; PREPARED_WORDS],
     depth: usize,
-) -> NumberValue
+) -> Result<Told<i64>, Trouble>
     ensures { result ≡ runs.size_number (runs.run_set depth state.now outline.now (drop at e.now)) }
 {
     let x = set_near(e, at, state, outline, depth);
@@ -154,11 +153,11 @@ pub fn total_number(
     state: &[u64; STATE_WORDS],
     outline: &[u64; PREPARED_WORDS],
     depth: usize,
-) -> NumberValue
+) -> Result<Told<i64>, Trouble>
     ensures { result ≡ runs.total_at depth (runs.environment model.now state.now outline.now) (drop at e.now) }
 {
     if e.len() <= at {
-        return NumberValue::Trouble(NOTHING);
+        return Err(Trouble::Nothing);
     }
     let table = table_in(outline, name(after(e, at)));
     let x = set_then_element(e, at + 1, state, outline, depth);
@@ -185,12 +184,12 @@ fn relation(r: Relation, a: i64, b: i64) -> bool
 }
 
 // 50 to 52, by the answer of the two numbers.
-pub fn comparison(r: Relation, p: PairValue) -> ConditionValue
+pub fn comparison(r: Relation, p: Result<Told<(i64, i64)>, Trouble>) -> ConditionValue
     ensures { result ≡ condition_of_two (runs.compared r) p }
 {
     match p {
-        PairValue::Values(a, b, used) => ConditionValue::Holds(relation(r, a, b), used),
-        PairValue::Trouble(t) => ConditionValue::Trouble(t),
+        Ok(p) => ConditionValue::Holds(relation(r, p.value.0, p.value.1), p.used),
+        Err(t) => ConditionValue::Trouble(t),
     }
 }
 

@@ -8,3 +8,4 @@ pub mod bytes;
 pub mod first_bytes;
 pub mod leaves;
 pub mod sets;
+pub mod troubles;

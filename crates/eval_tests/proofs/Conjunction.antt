@@ -7,6 +7,8 @@ use native.Mathlib.Omega.{arith}
 use lib.ListN.{length, get_or, drop, length-drop}
 use Rattle.eval_sets.specs.declared.answers.ConditionValue.{ConditionValue}
 use Rattle.eval_sets.specs.declared.answers.ConditionValue.TheVariants as C
+use Rattle.eval_sets.specs.declared.troubles.Trouble.{Trouble}
+use Rattle.eval_sets.specs.declared.troubles.Trouble.TheVariants.{Nothing}
 use Rattle.eval_sets.specs.Answers.{past_condition}
 use Rattle.eval_sets.specs.Bounds.{ConditionRoom}
 use Rattle.eval_sets.specs.Forms.{condition_form}
@@ -20,11 +22,11 @@ use Rattle.eval_tests.proofs.Stopping.{stopped_past, stopped_within, stopped_roo
 -- ---- a condition, by depth and first byte
 
 module _ (p : Environment) (d at : ℕ) (e : List ℕ) where
-  pub no_depth_lem : d ≡ 0 → C.Trouble 0 ≡ stopped (run_condition d p (drop at e))
+  pub no_depth_lem : d ≡ 0 → C.Trouble Nothing ≡ stopped (run_condition d p (drop at e))
   unfolding stopped
   no_depth_lem h = rw ((condition_opens p).no_depth_lem d at e h)
 
-  pub no_byte : length e ≤ at → C.Trouble 0 ≡ stopped (run_condition d p (drop at e))
+  pub no_byte : length e ≤ at → C.Trouble Nothing ≡ stopped (run_condition d p (drop at e))
   unfolding stopped
   no_byte h = rw ((condition_opens p).no_byte d at e h)
 
@@ -84,6 +86,6 @@ module _ (p : Environment) (d at : ℕ) (e : List ℕ) {r : ConditionValue} (fir
   unfolding both_of
   first_fails h y = rw (whole_is, h, y)
 
-  pub first_troubles : {t : ℕ} → r ≡ C.Trouble t → C.Trouble t ≡ whole
+  pub first_troubles : {t : Trouble} → r ≡ C.Trouble t → C.Trouble t ≡ whole
   unfolding both_of
   first_troubles h = rw (whole_is, h)

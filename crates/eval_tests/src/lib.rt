@@ -9,7 +9,8 @@ ghost use Rattle.eval_sets.specs.Runs.{environment, run_condition, connective_at
 ghost use Rattle.eval_tests.specs.Stopped.{stopped, TestPromise};
 
 use eval_numbers::condition_from;
-use eval_sets::answers::{ConditionValue, NOTHING};
+use eval_sets::answers::ConditionValue;
+use eval_sets::troubles::Trouble;
 use outline::layout::{PREPARED_WORDS, STATE_WORDS};
 
 // The answer without its bytes where it does not hold.
@@ -82,10 +83,10 @@ fn test_from(
     ensures { result ≡ stopped (run_condition depth (environment model.now state.now outline.now) (drop at e.now)) }
 {
     if depth == 0 {
-        return ConditionValue::Trouble(NOTHING);
+        return ConditionValue::Trouble(Trouble::Nothing);
     }
     if e.len() <= at {
-        return ConditionValue::Trouble(NOTHING);
+        return ConditionValue::Trouble(Trouble::Nothing);
     }
     if e[at] == 0x58 {
         return past(1, both(e, at + 1, model, state, outline, depth - 1));

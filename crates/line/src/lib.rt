@@ -2,52 +2,66 @@
 
 #![tactic(auto)]
 
-use search_report::answers::{Answer, Outcome};
-use search_report::figures::numbers;
-use solver::buffers::plan_part;
-use std::io;
+use search_report::answers::Answer;
+use search_report::figures::{numbers, refusal_number};
+use std::fmt;
 
-// Writes the numbers, with one space before each but the first.
-pub fn write_numbers(rt: &impl Print, numbers: &[u64]) -> io::Result<()> {
-    for (i, number) in numbers.iter().enumerate() {
-        if 0 < i {
-            print!(rt; " ")?;
+// Numbers in a row, with one space before each but the first.
+#[derive(Clone, Copy)]
+pub struct Row<'a>(pub &'a [u64]);
+
+impl fmt::Display for Row<'_> {
+    fn fmt<W: fmt::Write>(&self, f: &mut fmt::Formatter<W>) -> fmt::Result {
+        for (i, number) in self.0.iter().enumerate() {
+            if 0 < i {
+                write!(f, " ")?;
+            }
+            write!(f, "{number}")?;
         }
-        print!(rt; "{number}")?;
+        Ok(())
     }
-    Ok(())
 }
 
-// Writes the steps, with one space before each.
-fn write_steps(rt: &impl Print, steps: &[u8]) -> io::Result<()> {
-    for step in steps {
-        print!(rt; " {step}")?;
+// The line of a refusal, by its number.
+#[derive(Clone, Copy)]
+pub struct Refused(pub u8);
+
+impl fmt::Display for Refused {
+    fn fmt<W: fmt::Write>(&self, f: &mut fmt::Formatter<W>) -> fmt::Result {
+        write!(f, "refused {}", self.0)
     }
-    Ok(())
 }
 
-// Writes all fields and the steps.
-pub fn write_fields(rt: &impl Print, answer: Answer, plan: &mut [u8]) -> io::Result<()> {
-    let line = numbers(answer);
-    write_numbers(rt, &line)?;
-    print!(rt; " :")?;
-    let n = answer.length;
-    let steps = plan_part(plan, n);
-    write_steps(rt, steps)?;
-    println!(rt)
+// All fields of an answer, a colon and its steps.
+#[derive(Clone, Copy)]
+pub struct AllFields<'a> {
+    pub answer: Answer,
+    pub steps: &'a [u8],
 }
 
-// Writes the line of a refusal.
-pub fn write_refused(rt: &impl Print, number: u8) -> io::Result<()> {
-    println!(rt; "refused {number}")
+impl fmt::Display for AllFields<'_> {
+    fn fmt<W: fmt::Write>(&self, f: &mut fmt::Formatter<W>) -> fmt::Result {
+        write!(f, "{} :", Row(&numbers(self.answer)))?;
+        for step in self.steps {
+            write!(f, " {step}")?;
+        }
+        Ok(())
+    }
 }
 
-// Writes the line of an answer whose steps are at the front of the plan buffer.
-pub fn write_answer(rt: &impl Print, answer: Answer, plan: &mut [u8]) -> io::Result<()> {
-    let outcome = answer.outcome;
-    match outcome {
-        Outcome::Verdict(_) => write_fields(rt, answer, plan),
-        Outcome::ByState(t) => write_refused(rt, t),
-        Outcome::ByInput(t) => write_refused(rt, t),
+// The line of an answer with its steps.
+#[derive(Clone, Copy)]
+pub struct Line<'a> {
+    pub answer: Answer,
+    pub steps: &'a [u8],
+}
+
+impl fmt::Display for Line<'_> {
+    fn fmt<W: fmt::Write>(&self, f: &mut fmt::Formatter<W>) -> fmt::Result {
+        let Line { answer, steps } = *self;
+        match answer.outcome {
+            Ok(_) => write!(f, "{}", AllFields { answer, steps }),
+            Err(refusal) => write!(f, "{}", Refused(refusal_number(refusal))),
+        }
     }
 }

@@ -115,6 +115,9 @@ module _ (end : ℕ) (K : Costs Cost) (m : Model) where
   unfolding follow_from system_of
   follow_from_outcome p s g = after_constraints_outcome (admits_outcome end m s) (follow_outcome p s g)
 
+  pub follow_from_trouble : (p : List ℕ) (s : State) (g : Cost) {t : ℕ} → follow_from K (system_of end m) p s g ≡ trouble t → PlanTrouble t
+  follow_from_trouble p s g e = outcome_trouble (follow_from_outcome p s g) e
+
 -- ---- the plan check on bytes
 
 pub data CheckRefusal (t : ℕ) : Type 0 where

@@ -1,4 +1,5 @@
 -- Names taken one after the other: what a line comes to, a line more, and the end of the list or of the thousand.
+use Rattle.std.specs.Prelude.{Option}
 use Prim.Native.Nat.{ℕ, suc, ◌<◌}
 use mathlib.Core.Path.{◌≡◌, refl, sym, ◌∙◌, ap, subst}
 use mathlib.Core.Bool.{Bool, true, false, true≢false}
@@ -15,34 +16,28 @@ use Rattle.search_report.specs.declared.answers.Answer.{Answer}
 use Rattle.program.specs.Program.{Planned}
 use Rattle.search_report.specs.declared.answers.Fields.{Fields}
 use Rattle.month_names.specs.Names.{Name, named, most_names, name_of}
-use Rattle.month_names.specs.Lines.{LineOf, Unbroken, joined, Started, Scanned, Usable}
+use Rattle.month_names.specs.Lines.{LineOf, Unbroken, joined, Started, Scanned, Unusable, NameIs}
 use Rattle.month_names.specs.declared.Line.{Line}
-use Rattle.month_names.specs.declared.Scan.{Scan}
 use Rattle.month_names.proofs.Splitting.{unbroken_joined, names_of_closed, names_with_last, names_of_full, all_behind}
 use Rattle.month_figures.specs.Closing.{Taken, answered, unread, cheapest_in, gives}
 use Rattle.month_figures.specs.Kept.{unread_fields, TakenIs, CheapestWithin, figures_of, Addable, Added, NoneYet}
 use Rattle.month_figures.specs.declared.Figures.{Figures}
 use Rattle.month_figures.proofs.Fitting.{CostWithin, figures_roomy}
 use Rattle.month.specs.Month.{answer_to, AnswerFor, no_name, no_file, planned, AnswersFor, none, and_one, MonthOf}
-use Rattle.month.specs.Taking.{FileSays, LineSays, LineRoom, LineAnswer, SoFar}
+use Rattle.month.specs.Taking.{FileSays, LineSays, LineAnswer, SoFar}
+use Rattle.month.specs.declared.End.{End}
+use Rattle.month.specs.declared.End.TheVariants.{Full, Over}
 use Rattle.month.specs.Taking as T
 use Rattle.month.proofs.Costs.{most_cost, most_cost_small, answer_within, numbers_within}
 
 -- ---- a line as it comes
 
-pub line_begins : {line : Line} (name : List ℕ) → Started line → LineSays name line
+pub line_begins : {line : Line} → Started line → LineSays line
 unfolding any
-line_begins name h = record { bytes = []; unbroken = refl; line_of = h.none_yet name }
-
--- within the reading of a line: what is left lies in the buffer, and the line has what came
-pub record LineComes (buffer₀ name₀ buffer name : List ℕ) (line : Line) (at end : ℕ) : Type 0 where
-  pub room : LineRoom buffer at end name
-  pub same_buffer : length buffer ≡ length buffer₀
-  pub same_name : length name ≡ length name₀
-  pub says : LineSays name line
+line_begins h = record { bytes = []; unbroken = refl; line_of = h.none_yet }
 
 -- a part of the list more
-pub line_goes_on : {part name name' : List ℕ} {line : Line} {at : ℕ} {x : Scan} → LineSays name line → Scanned part at name name' line x → LineSays name' x.line
+pub line_goes_on : {part : List ℕ} {line line' : Line} {closed : Option ℕ} → LineSays line → Scanned part line line' closed → LineSays line'
 line_goes_on l S =
     record { bytes = l.bytes ++ S.taken; unbroken = unbroken_joined l.bytes S.taken l.unbroken S.unbroken; line_of = S.more l.bytes l.line_of }
 
@@ -55,18 +50,16 @@ planned_numbers bytes plan plan' a P room e =
     (subst (λ (n : ℕ). FieldsAre (run 16384 bytes (settings 16 64 100000) (lent_of n 2064)) (numbers_of a)) room
     (subst (λ (n : ℕ). FieldsAre (run 16384 bytes (settings 16 64 100000) (lent_of (length plan) n)) (numbers_of a)) P.lent P.searched.fields))
 
-module _ (name : List ℕ) (line : Line) (x : Fields) where
-  pub line_usable : Usable line true → FileSays x → LineAnswer name line x
-  unfolding name_of
-  line_usable U says = record { answer = λ bytes i. rw (sym (U.same bytes name i)) (pick bytes says) }
+module _ (line : Line) (x : Fields) where
+  pub line_named : {name : List ℕ} → NameIs line name → FileSays x → LineAnswer line x
+  line_named {name} N says = record { answer = λ bytes i. rw (N.same bytes i) (pick says) }
     where
-      pick : (bytes : List ℕ) → FileSays x → (d : Taken) × AnswerFor (named bytes) d × TakenIs d x
-      pick bytes (T.no_file e) = (unread, no_file, e)
-      pick bytes (T.planned model is) = (answered (answer_to model), planned model, is)
+      pick : FileSays x → (d : Taken) × AnswerFor (named name) d × TakenIs d x
+      pick (T.no_file e) = (unread, no_file, e)
+      pick (T.planned model is) = (answered (answer_to model), planned model, is)
 
-  pub line_unusable : Usable line false → x ≡ unread_fields → LineAnswer name line x
-  unfolding name_of
-  line_unusable U e = record { answer = λ bytes i. rw (sym (U.same bytes name i)) (unread, no_name, e) }
+  pub line_unusable : Unusable line → x ≡ unread_fields → LineAnswer line x
+  line_unusable U e = record { answer = λ bytes i. rw (U.none bytes i) (unread, no_name, e) }
 
 -- ---- a line more
 
@@ -107,7 +100,7 @@ names_are_lines {f} s = ap (λ (g : Figures). g.names) s.shown ∙ sym (as_many_
 pub so_far_none : (f : Figures) → NoneYet f → SoFar f
 so_far_none f h = record { lines = []; answers = []; unbroken = tt; each = none; shown = h.none_yet; few = omega arith }
 
-module _ (f : Figures) (s : SoFar f) (name : List ℕ) (line : Line) (x : Fields) (L : LineSays name line) (A : LineAnswer name line x) where
+module _ (f : Figures) (s : SoFar f) (line : Line) (x : Fields) (L : LineSays line) (A : LineAnswer line x) where
   pub so_far_addable : Addable f x
   so_far_addable =
       let (d, a, is) = A.answer L.bytes L.line_of in
@@ -135,27 +128,21 @@ module _ (f : Figures) (s : SoFar f) (name : List ℕ) (line : Line) (x : Fields
       let behind : f'.names ≡ length (s.answers ++ (d ∷ [])) = ap (λ (g : Figures). g.names) (added.one_further s.answers d s.shown is) in
       omega (arith, names_are_lines s, as_many_lines s, length-append s.answers (d ∷ []))
 
--- between two lines: the buffers have their room, what is left lies in the buffer, and the figures are those of what was taken
-pub record Between (buffer name : List ℕ) (figures : Figures) (at end : ℕ) : Type 0 where
-  pub buffer_room : length buffer ≡ 4096
-  pub room : LineRoom buffer at end name
-  pub so_far : SoFar figures
-
 -- ---- the end
 
 -- the list is over, or cannot be read, behind a line that is closed
-pub month_over : (f : Figures) (failed : Bool) → SoFar f → MonthOf (record { figures = f; over = true; failed = failed })
-month_over f failed s =
+pub month_over : (f : Figures) (end : End) → SoFar f → (end ≡ Full → ⊥) → MonthOf (record { figures = f; end = end })
+month_over f end s short =
     record {
       list = joined s.lines;
       answers = s.answers;
       each = rw (names_of_closed s.lines s.unbroken s.few) s.each;
       figures = s.shown;
-      enough = λ e. absurd (true≢false e);
+      enough = λ e. absurd (short e);
     }
 
 -- a thousand names are taken
-pub month_full : (f : Figures) → SoFar f → ltb f.names most_names ≡ false → MonthOf (record { figures = f; over = false; failed = false })
+pub month_full : (f : Figures) → SoFar f → ltb f.names most_names ≡ false → MonthOf (record { figures = f; end = Full })
 month_full f s full =
     let exactly : length s.lines ≡ most_names = omega (arith, ltb-false f.names most_names full, names_are_lines s, s.few) in
     record {
@@ -163,25 +150,25 @@ month_full f s full =
       answers = s.answers;
       each = rw (names_of_closed s.lines s.unbroken s.few) s.each;
       figures = s.shown;
-      enough = λ _ _ rest. names_of_full s.lines rest s.unbroken exactly ∙ sym (names_of_closed s.lines s.unbroken s.few);
+      enough = λ _ rest. names_of_full s.lines rest s.unbroken exactly ∙ sym (names_of_closed s.lines s.unbroken s.few);
     }
 
-line_there : (bytes : List ℕ) {name : List ℕ} {line : Line} → LineOf bytes name line → (line.length ≡ 0 → ⊥) → is_empty bytes ≡ false
+line_there : (bytes : List ℕ) {line : Line} → LineOf bytes line → (line.length ≡ 0 → ⊥) → is_empty bytes ≡ false
 unfolding is_empty
 line_there [] i h = absurd (h (i.few (omega arith)))
 line_there (b ∷ bs) i h = refl
 
 -- the list is over behind a line that lacks its line end
-pub month_last : (f f' : Figures) (s : SoFar f) (name : List ℕ) (line : Line) (x : Fields) → LineSays name line → LineAnswer name line x → (line.length ≡ 0 → ⊥)
-    → ltb f.names most_names ≡ true → Added f x f' → MonthOf (record { figures = f'; over = true; failed = false })
+pub month_last : (f f' : Figures) (s : SoFar f) (line : Line) (x : Fields) → LineSays line → LineAnswer line x → (line.length ≡ 0 → ⊥)
+    → ltb f.names most_names ≡ true → Added f x f' → MonthOf (record { figures = f'; end = Over })
 unfolding so_far_more
-month_last f f' s name line x L A some more added =
-    let more-taken = so_far_more f s name line x L A f' more added in
+month_last f f' s line x L A some more added =
+    let more-taken = so_far_more f s line x L A f' more added in
     let fewer : length s.lines < most_names = omega (arith, ltb-true f.names most_names more, names_are_lines s) in
     record {
       list = joined s.lines ++ L.bytes;
       answers = more-taken.answers;
       each = rw (names_with_last s.lines L.bytes s.unbroken L.unbroken (line_there L.bytes L.line_of some) fewer) more-taken.each;
       figures = more-taken.shown;
-      enough = λ e. absurd (true≢false e);
+      enough = λ e. cc;
     }

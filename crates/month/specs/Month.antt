@@ -1,5 +1,5 @@
 -- A month: what stands for a name in the list of answers, and the figures of that list. docs/FORMAT.md, "Month".
-use Rattle.std.specs.Prelude.{ℕ, ◌≡◌, false, List, [], ◌∷◌, ◌++◌}
+use Rattle.std.specs.Prelude.{ℕ, ◌≡◌, List, [], ◌∷◌, ◌++◌}
 use Rattle.model.specs.declared.Cost.{Cost}
 use Rattle.search.specs.Answer.{Answer}
 use Rattle.search.specs.Run.{run}
@@ -7,6 +7,7 @@ use Rattle.solver.specs.Searches.{settings, lent_of}
 use Rattle.month_names.specs.Names.{Name, named, unusable, names_of}
 use Rattle.month_figures.specs.Closing.{Taken, answered, unread}
 use Rattle.month_figures.specs.Kept.{figures_of}
+use Rattle.month.specs.declared.End.TheVariants.{Full}
 use Rattle.month.specs.declared.Month.{Month}
 
 -- "with the settings of the one-model program"; 64 plan bytes and 2,064 words are its own
@@ -31,4 +32,4 @@ pub record MonthOf (x : Month) : Type 0 where
   pub answers : List Taken
   pub each : AnswersFor (names_of list) answers
   pub figures : x.figures ≡ figures_of answers
-  pub enough : x.over ≡ false → x.failed ≡ false → (rest : List ℕ) → names_of (list ++ rest) ≡ names_of list
+  pub enough : x.end ≡ Full → (rest : List ℕ) → names_of (list ++ rest) ≡ names_of list

@@ -3,14 +3,13 @@ use Rattle.std.specs.Prelude.{ℕ, ◌≤◌, ◌≡◌, List, map, length}
 use Rattle.laws.specs.Lists.{All}
 use Rattle.search_report.specs.Answers.{FieldsAre}
 use Rattle.search_report.specs.declared.answers.Fields.{Fields}
-use Rattle.month_names.specs.Names.{most_names, most_name_bytes, name_of}
+use Rattle.month_names.specs.Names.{most_names, name_of}
 use Rattle.month_names.specs.Lines.{LineOf, Unbroken}
 use Rattle.month_names.specs.declared.Line.{Line}
 use Rattle.month_figures.specs.Closing.{Taken}
 use Rattle.month_figures.specs.Kept.{unread_fields, TakenIs, figures_of}
 use Rattle.month_figures.specs.declared.Figures.{Figures}
 use Rattle.month.specs.Month.{answer_to, AnswerFor, AnswersFor}
-use Rattle.month.specs.declared.Reading.{Reading}
 
 -- the numbers are those of no file, or of the search of some bytes
 pub data FileSays (x : Fields) : Type 0 where
@@ -18,26 +17,14 @@ pub data FileSays (x : Fields) : Type 0 where
   planned : (bytes : List ℕ) → FieldsAre (answer_to bytes) x → FileSays x
 
 -- the line's bytes as they came, up to a line feed or the end
-pub record LineSays (name : List ℕ) (line : Line) : Type 0 where
+pub record LineSays (line : Line) : Type 0 where
   pub bytes : List ℕ
   pub unbroken : Unbroken bytes
-  pub line_of : LineOf bytes name line
-
--- what the reading of a line needs: what is left of the input lies in the buffer, and a name has its room
-pub record LineRoom (buffer : List ℕ) (at end : ℕ) (name : List ℕ) : Type 0 where
-  pub left : at ≤ end
-  pub within : end ≤ length buffer
-  pub name_room : length name ≡ most_name_bytes
-
--- a line was read; what is left of the input lies in the buffer
-pub record ReadingSays (room : ℕ) (name : List ℕ) (x : Reading) : Type 0 where
-  pub line : LineSays name x.line
-  pub left : x.at ≤ x.end
-  pub within : x.end ≤ room
+  pub line_of : LineOf bytes line
 
 -- what a line comes to
-pub record LineAnswer (name : List ℕ) (line : Line) (x : Fields) : Type 0 where
-  pub answer : (bytes : List ℕ) → LineOf bytes name line → (d : Taken) × AnswerFor (name_of bytes) d × TakenIs d x
+pub record LineAnswer (line : Line) (x : Fields) : Type 0 where
+  pub answer : (bytes : List ℕ) → LineOf bytes line → (d : Taken) × AnswerFor (name_of bytes) d × TakenIs d x
 
 -- lines that were taken, an answer for each, and the figures
 pub record SoFar (figures : Figures) : Type 0 where

@@ -10,7 +10,7 @@ use Rattle.search.specs.Answer.{Outcome, verdict, by_state, by_input, outcome_nu
 use Rattle.search_report.specs.Answers.{FieldsAre}
 use Rattle.search_report.specs.declared.answers.Fields.{Fields}
 use Rattle.month_figures.specs.Closing.{Taken, answered, unread, is_verdict, gives, is_refused, cost_of, bound_of, has_plan, is_open, count_in, refused_in, cheapest_in, gap_in, whole_of, remainder_of}
-use Rattle.month_figures.specs.Kept.{TakenIs, Tells}
+use Rattle.month_figures.specs.Kept.{TakenIs, Tells, TellsUpTo, TellsCost}
 
 -- refused, with no verdict; or a verdict, whose number stands in the numbers
 pub data Seen (x : Fields) : Taken → Type 0 where
@@ -58,41 +58,33 @@ module _ (x : Fields) where
   -- ---- counts
 
   module _ (v : ℕ) where
-    pub not_counted : (x.refused ≡ 0 → ⊥) → Tells (count_in v) x 0
-    unfolding count_in
-    not_counted r = tells (count_in v) 0 law
+    pub not_counted : (x.refused ≡ 0 → x.verdict ≡ v → ⊥) → TellsUpTo 1 (count_in v) x 0
+    unfolding count_in gives
+    not_counted h = record { tells = tells (count_in v) 0 law; within = omega arith }
       where
         law : (d : Taken) → Seen x d → 0 ≡ count_in v d
         law d (refusal e i g) = rw (g v)
-        law d (a_verdict e i g is) = absurd (r e)
+        law d (a_verdict e i g is) = rw (g v, ne_eqb x.verdict v (h e))
 
-    pub counted : x.refused ≡ 0 → x.verdict ≡ v → Tells (count_in v) x 1
+    pub counted : x.refused ≡ 0 → x.verdict ≡ v → TellsUpTo 1 (count_in v) x 1
     unfolding count_in gives
-    counted r h = tells (count_in v) 1 law
+    counted r h = record { tells = tells (count_in v) 1 law; within = omega arith }
       where
         law : (d : Taken) → Seen x d → 1 ≡ count_in v d
         law d (refusal e i g) = absurd (omega arith)
         law d (a_verdict e i g is) = rw (g v, eq-eqb x.verdict v h)
 
-    pub counted_elsewhere : x.refused ≡ 0 → (x.verdict ≡ v → ⊥) → Tells (count_in v) x 0
-    unfolding count_in gives
-    counted_elsewhere r h = tells (count_in v) 0 law
-      where
-        law : (d : Taken) → Seen x d → 0 ≡ count_in v d
-        law d (refusal e i g) = absurd (omega arith)
-        law d (a_verdict e i g is) = rw (g v, ne_eqb x.verdict v h)
-
-  pub is_refused_lem : (x.refused ≡ 0 → ⊥) → Tells refused_in x 1
+  pub refusal_counted : (x.refused ≡ 0 → ⊥) → TellsUpTo 1 refused_in x 1
   unfolding refused_in
-  is_refused_lem r = tells refused_in 1 law
+  refusal_counted r = record { tells = tells refused_in 1 law; within = omega arith }
     where
       law : (d : Taken) → Seen x d → 1 ≡ refused_in d
       law d (refusal e i g) = rw i
       law d (a_verdict e i g is) = absurd (r e)
 
-  pub is_verdict_lem : x.refused ≡ 0 → Tells refused_in x 0
+  pub refusal_not_counted : x.refused ≡ 0 → TellsUpTo 1 refused_in x 0
   unfolding refused_in is_refused
-  is_verdict_lem r = tells refused_in 0 law
+  refusal_not_counted r = record { tells = tells refused_in 0 law; within = omega arith }
     where
       law : (d : Taken) → Seen x d → 0 ≡ refused_in d
       law d (refusal e i g) = absurd (omega arith)
@@ -100,55 +92,38 @@ module _ (x : Fields) where
 
   -- ---- the cost at verdict 0
 
-  pub no_cost_of_refusal : (x.refused ≡ 0 → ⊥) → Tells cheapest_in x 0
-  unfolding cheapest_in
-  no_cost_of_refusal r = tells cheapest_in 0 law
-    where
-      law : (d : Taken) → Seen x d → 0 ≡ cheapest_in d
-      law d (refusal e i g) = rw (g 0)
-      law d (a_verdict e i g is) = absurd (r e)
-
-  pub cost_of_cheapest : x.refused ≡ 0 → x.verdict ≡ 0 → Tells cheapest_in x x.cost
+  pub cost_of_cheapest : x.refused ≡ 0 → x.verdict ≡ 0 → TellsCost x x.cost
   unfolding cheapest_in gives cost_of
-  cost_of_cheapest r h = tells cheapest_in x.cost law
+  cost_of_cheapest r h = record { tells = tells cheapest_in x.cost law; within = λ most w. w r h }
     where
       law : (d : Taken) → Seen x d → x.cost ≡ cheapest_in d
       law d (refusal e i g) = absurd (omega arith)
       law d (a_verdict e i g is) = rw (g 0, eq-eqb x.verdict 0 h, is.cost)
 
-  pub no_cost_of_other : x.refused ≡ 0 → (x.verdict ≡ 0 → ⊥) → Tells cheapest_in x 0
+  pub no_cost_of_other : (x.refused ≡ 0 → x.verdict ≡ 0 → ⊥) → TellsCost x 0
   unfolding cheapest_in gives
-  no_cost_of_other r h = tells cheapest_in 0 law
+  no_cost_of_other h = record { tells = tells cheapest_in 0 law; within = λ most w. omega arith }
     where
       law : (d : Taken) → Seen x d → 0 ≡ cheapest_in d
-      law d (refusal e i g) = absurd (omega arith)
-      law d (a_verdict e i g is) = rw (g 0, ne_eqb x.verdict 0 h)
+      law d (refusal e i g) = rw (g 0)
+      law d (a_verdict e i g is) = rw (g 0, ne_eqb x.verdict 0 (h e))
 
   -- ---- the gap of a stopped run that has a plan
 
-  pub no_gap_of_refusal : (x.refused ≡ 0 → ⊥) → Tells gap_in x 0
-  unfolding gap_in is_open
-  no_gap_of_refusal r = tells gap_in 0 law
+  pub no_gap_of_other : (x.refused ≡ 0 → (x.flag ≡ 0 → ⊥) → 2 ≤ x.verdict → x.verdict ≤ 4 → ⊥) → Tells gap_in x 0
+  unfolding gap_in is_open gives has_plan
+  no_gap_of_other h = tells gap_in 0 law
     where
       law : (d : Taken) → Seen x d → 0 ≡ gap_in d
       law d (refusal e i g) = rw (g 2, g 3, g 4)
-      law d (a_verdict e i g is) = absurd (r e)
-
-  pub no_gap_without_plan : x.refused ≡ 0 → x.flag ≡ 0 → Tells gap_in x 0
-  unfolding gap_in is_open has_plan
-  no_gap_without_plan r f = tells gap_in 0 law
-    where
-      law : (d : Taken) → Seen x d → 0 ≡ gap_in d
-      law d (refusal e i g) = absurd (omega arith)
-      law (answered a) (a_verdict e i g is) = unless_both (gives 2 (answered a) || gives 3 (answered a) || gives 4 (answered a)) a.flag _ (flag_clear a.flag is.flag f)
-
-  pub no_gap_unless_stopped : x.refused ≡ 0 → (x.verdict ≡ 2 → ⊥) → (x.verdict ≡ 3 → ⊥) → (x.verdict ≡ 4 → ⊥) → Tells gap_in x 0
-  unfolding gap_in is_open gives
-  no_gap_unless_stopped r h2 h3 h4 = tells gap_in 0 law
-    where
-      law : (d : Taken) → Seen x d → 0 ≡ gap_in d
-      law d (refusal e i g) = absurd (omega arith)
-      law d (a_verdict e i g is) = rw (g 2, g 3, g 4, stops_are_not x.verdict h2 h3 h4)
+      law (answered a) (a_verdict e i g is) = pick a.flag refl
+        where
+          pick : (b : Bool) → a.flag ≡ b → 0 ≡ gap_in (answered a)
+          pick false f = unless_both (gives 2 (answered a) || gives 3 (answered a) || gives 4 (answered a)) a.flag _ f
+          pick true f =
+              let some : x.flag ≡ 1 = is.flag ∙ rw f in
+              let out : 2 ≤ x.verdict → x.verdict ≤ 4 → ⊥ = h e (λ z. omega arith) in
+              rw (g 2, g 3, g 4, stops_are_not x.verdict (λ n. out (omega arith) (omega arith)) (λ n. out (omega arith) (omega arith)) (λ n. out (omega arith) (omega arith)))
 
   pub gap_of_stopped : x.refused ≡ 0 → (x.flag ≡ 0 → ⊥) → 2 ≤ x.verdict → x.verdict ≤ 4 → Tells gap_in x (x.cost - x.bound)
   unfolding gap_in is_open gives has_plan cost_of bound_of

@@ -2,7 +2,7 @@
 
 #![tactic(auto)]
 
-ghost use Rattle.std.specs.Prelude.{◌≡◌, ◌-◌, max, ltb};
+ghost use Rattle.std.specs.Prelude.{◌≡◌, ltb};
 ghost use Rattle.month_names.specs.Names.{most_names};
 ghost use Rattle.month_figures.specs.Closing.{count_in, refused_in, gap_in, whole_of, remainder_of};
 ghost use Rattle.month_figures.specs.Kept.{unread_fields, Tells, TellsUpTo, TellsCost, Shares, NoneYet, Addable, Added, Closes};
@@ -75,16 +75,19 @@ pub fn unread() -> Fields
 }
 
 // 1 where the answer has this verdict, else 0.
+#[tactic(auto, using(crate::proofs::Seen::counted, crate::proofs::Seen::not_counted))]
 fn count_in(x: Fields, verdict: u32) -> u64
     ensures { TellsUpTo 1 (count_in verdict) x result }
 {
-    if 0 < x.refused {
-        return 0;
+    if x.refused == 0 && x.verdict == verdict {
+        1
+    } else {
+        0
     }
-    if x.verdict == verdict { 1 } else { 0 }
 }
 
 // 1 at a refusal, else 0.
+#[tactic(auto, using(crate::proofs::Seen::refusal_counted, crate::proofs::Seen::refusal_not_counted))]
 fn refused_in(x: Fields) -> u64
     ensures { TellsUpTo 1 refused_in x result }
 {
@@ -92,49 +95,27 @@ fn refused_in(x: Fields) -> u64
 }
 
 // The cost at verdict 0, else 0.
+#[tactic(auto, using(crate::proofs::Seen::cost_of_cheapest, crate::proofs::Seen::no_cost_of_other))]
 fn cheapest_in(x: Fields) -> u64
     ensures { TellsCost x result }
 {
-    if x.refused == 0 {
-        if x.verdict == 0 {
-            return x.cost;
-        }
-        return 0;
+    if x.refused == 0 && x.verdict == 0 {
+        x.cost
+    } else {
+        0
     }
-    0
 }
 
-// What is open between cost and bound: nothing where the bound is no less.
-fn difference(cost: u64, bound: u64) -> u64
-    ensures { result ≡ cost - bound }
-{
-    if bound < cost { cost - bound } else { 0 }
-}
-
-// The gap of a stopped run that has a plan, else 0.
+// What is open between cost and bound in a stopped run that has a plan, nothing where the bound is no less; else 0.
+#[tactic(auto, using(crate::proofs::Seen::gap_of_stopped, crate::proofs::Seen::no_gap_of_other))]
 fn gap_in(x: Fields) -> u64
     ensures { Tells gap_in x result }
 {
-    if x.refused == 0 {
-        if x.flag == 0 {
-            return 0;
-        }
-        if x.verdict < 2 {
-            return 0;
-        }
-        if 4 < x.verdict {
-            return 0;
-        }
-        return difference(x.cost, x.bound);
+    if x.refused == 0 && x.flag != 0 && 2 <= x.verdict && x.verdict <= 4 {
+        x.cost.saturating_sub(x.bound)
+    } else {
+        0
     }
-    0
-}
-
-// The greater of two numbers.
-fn greater(a: u64, b: u64) -> u64
-    ensures { result ≡ max a b }
-{
-    if a < b { b } else { a }
 }
 
 // What the answer adds to each figure.
@@ -160,7 +141,6 @@ pub fn added(figures: Figures, x: Fields) -> Figures
     ensures { Added figures x result }
 {
     let one = share_of(x);
-    let gap = greater(figures.gap, one.gap);
     Figures {
         names: figures.names + 1,
         cheapest: figures.cheapest + one.cheapest,
@@ -171,7 +151,7 @@ pub fn added(figures: Figures, x: Fields) -> Figures
         contradicted: figures.contradicted + one.contradicted,
         refused: figures.refused + one.refused,
         sum: figures.sum + one.cost,
-        gap: gap,
+        gap: figures.gap.max(one.gap),
     }
 }
 
@@ -182,14 +162,14 @@ pub fn takes_more(figures: Figures) -> bool
     figures.names < 1000
 }
 
-// The whole part of the mean.
+// The whole part of the mean. With `checked_div` and `unwrap_or` the proof did not close.
 fn whole(sum: u64, count: u64) -> u64
     ensures { result ≡ whole_of sum count }
 {
     if count == 0 { 0 } else { sum / count }
 }
 
-// The remainder of the mean.
+// The remainder of the mean. With `checked_rem` and `unwrap_or` the proof did not close.
 fn remainder(sum: u64, count: u64) -> u64
     ensures { result ≡ remainder_of sum count }
 {

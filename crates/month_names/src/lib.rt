@@ -2,97 +2,91 @@
 
 #![tactic(auto)]
 
-ghost use Rattle.std.specs.Prelude.{◌≡◌, ◌||◌, ◌≤◌, eqb, length};
-ghost use Rattle.month_names.specs.Names.{most_name_bytes};
-ghost use Rattle.month_names.specs.Lines.{Started, Pushed, Scanned, Usable};
+ghost use Rattle.std.specs.Prelude.{◌≡◌, eqb, MatchOption};
+ghost use Rattle.month_names.specs.Lines.{Started, Pushed, Scanned, Usable, Unusable, NameIs};
 
-// How many bytes a line has, 256 where a name may not have so many; whether one of them is 0.
-#[derive(Clone, Copy)]
+// A line as far as it came: its bytes as far as a name may go; how many there are, 256 where a name may not have so many; whether one of them is 0.
+#[derive(Drop)]
 pub struct Line {
-    pub length: usize,
-    pub zero: bool,
+    bytes: [u8; 255],
+    length: usize,
+    zero: bool,
 }
 
-// A line as far as a part of the list has it: the place behind what was taken, and whether a line feed closed it.
-#[derive(Clone, Copy)]
-pub struct Scan {
-    pub line: Line,
-    pub at: usize,
-    pub closed: bool,
-}
-
-// A line before its first byte.
-pub fn started() -> Line
-    ensures { Started result }
-{
-    Line {
-        length: 0,
-        zero: false,
-    }
-}
-
-// Whether a 0 was met, with this byte.
-fn zero_met(zero: bool, byte: u8) -> bool
-    ensures { result ≡ (zero || eqb byte 0) }
-{
-    if byte == 0 { true } else { zero }
-}
-
-// The line with a byte more, which is put into the buffer where a name may still have it.
-fn pushed(buffer: &mut [u8], line: Line, byte: u8) -> Line
-    requires { length buffer.old ≡ most_name_bytes }
-    ensures { Pushed buffer.old buffer.new line byte result }
-{
-    let n = line.length;
-    let zero = zero_met(line.zero, byte);
-    if n < 255 {
-        buffer[n] = byte;
-        return Line {
-            length: n + 1,
-            zero: zero,
-        };
-    }
-    Line {
-        length: 256,
-        zero: zero,
-    }
-}
-
-// Takes bytes from a place of a part of the list into the line, up to a line feed or the end of the part.
-pub fn scanned(part: &[u8], at: usize, buffer: &mut [u8], line: Line) -> Scan
-    requires { (at ≤ length part.now) × (length buffer.old ≡ most_name_bytes) }
-    ensures { Scanned part.now at buffer.old buffer.new line result }
-{
-    let mut known = line;
-    let mut i = at;
-    while i < part.len() {
-        let byte = part[i];
-        if byte == 10 {
-            return Scan {
-                line: known,
-                at: i + 1,
-                closed: true,
-            };
+impl Line {
+    // A line before its first byte.
+    pub fn started() -> Line
+        ensures { Started result }
+    {
+        Line {
+            bytes: [0; 255],
+            length: 0,
+            zero: false,
         }
-        known = pushed(buffer, known, byte);
-        i += 1;
     }
-    Scan {
-        line: known,
-        at: i,
-        closed: false,
-    }
-}
 
-// Whether the line is a name that may be opened.
-pub fn usable(line: Line) -> bool
-    ensures { Usable line result }
-{
-    if line.length == 0 {
-        return false;
+    // Begins a further line in the place of this one.
+    pub fn clear(&mut self)
+        ensures { Started self.new }
+    {
+        self.length = 0;
+        self.zero = false;
     }
-    if 255 < line.length {
-        return false;
+
+    // Puts a byte behind the others; it is kept where a name may still have it.
+    #[tactic(auto, using(crate::proofs::Pushing::pushed_inside, crate::proofs::Pushing::pushed_beyond))]
+    fn push(&mut self, byte: u8)
+        ensures { Pushed self.old byte self.new }
+    {
+        self.zero |= byte == 0;
+        if self.length < 255 {
+            self.bytes[self.length] = byte;
+            self.length += 1;
+        } else {
+            self.length = 256;
+        }
     }
-    !line.zero
+
+    // Takes the bytes of a part of the list up to a line feed, and gives the place behind it; or all of them, where there is none.
+    pub fn scan(&mut self, part: &[u8]) -> Option<usize>
+        ensures { Scanned part.now self.old self.new result }
+    {
+        for (i, byte) in part.iter().enumerate() {
+            if *byte == b'\n' {
+                return Some(i + 1);
+            }
+            self.push(*byte);
+        }
+        None
+    }
+
+    // Whether no byte came.
+    pub fn is_empty(&self) -> bool
+        ensures { result ≡ eqb self.now.length 0 }
+    {
+        self.length == 0
+    }
+
+    // Whether the line is a name that may be opened.
+    #[tactic(auto, using(crate::proofs::Pushing::usable_between, crate::proofs::Pushing::unusable_else))]
+    pub fn usable(&self) -> bool
+        ensures { Usable self.now result }
+    {
+        match self.length {
+            1..=255 => !self.zero,
+            _ => false,
+        }
+    }
+
+    // The name that the line is, where it may be opened.
+    #[tactic(auto, using(crate::proofs::Pushing::no_name, crate::proofs::Pushing::this_name))]
+    pub fn name(&self) -> Option<&[u8]>
+        ensures { MatchOption result (Unusable self.now) (λ name. NameIs self.now name.now) }
+    {
+        if self.usable() {
+            Some(&self.bytes[..self.length])
+        } else {
+            None
+        }
+    }
 }

@@ -9,14 +9,14 @@ use lib.ListN.{length, get_or, set, drop, length-set}
 use lib.Seq.{get_or-set_same, get_or-set_other}
 use lib.Dec.{leb, ltb}
 use lib.IntN.{ℤ, pos, ◌+ℤ◌}
-use lib.Signed.{mag, lt_z}
+use lib.Signed.{mag}
+use Rattle.std.specs.Prelude.{Option, Some}
 use borrow.Author.Tests.{leb-true, ltb-true}
 use Rattle.laws.proofs.Bools.{and_both}
 use Rattle.model.specs.Numbers.{range_end, range_size}
 use Rattle.model.specs.Values.{Value}
 use Rattle.words.proofs.Integers.{word_back}
-use Rattle.eval_sets.specs.declared.answers.NumberValue.TheVariants as N
-use Rattle.eval_sets.specs.Answers.{number_answer, element_answer}
+use Rattle.eval_sets.specs.Answers.{told, number_answer, element_answer}
 use Rattle.eval_sets.specs.Runs.{table_in, entry_of, run_element, run_number}
 use Rattle.words.specs.Tables.{column_sum}
 use Rattle.quick.specs.Sets.{begins_element, object_in}
@@ -25,8 +25,8 @@ use Rattle.quick.proofs.Changes.{element_run}
 use Rattle.quick.proofs.Compared.{fits_value}
 use Rattle.quick.proofs.Totals.{total_of, variable_total}
 use Rattle.cursor.specs.Places.{Stands, Begins}
-use Rattle.cursor.specs.Told.{silent_from, here, NumberIs, NumberTo, SetTo}
-use Rattle.cursor.specs.Codes.{OperationTold, is_operation}
+use Rattle.cursor.specs.Told.{here, NumberIs, NumberTo, SetTo, NumberTold}
+use Rattle.cursor.specs.Codes.{ranged, OperationTold, is_operation}
 use Rattle.nested.specs.Waiting.{word_of, Waiting, none, first, second, Reads}
 use Rattle.cursor_conditions.proofs.ConditionLaws.{suc_sub_one}
 use Rattle.cursor.proofs.NumberLaws.{operates, two_numbers}
@@ -45,20 +45,29 @@ module _ (bytes words state : List ℕ) where
   pub some_used : (p : ℕ) (z : ℤ) (n : ℕ) → NumberIs bytes words state p z n → (n ≡ 0 → ⊥)
   unfolding run_number
   some_used p z n is e =
-      let runs : run_number 0 (here bytes words state) (drop p bytes) ≡ N.Value z n = is.runs 0 (omega (arith, e)) in
+      let runs : run_number 0 (here bytes words state) (drop p bytes) ≡ told z n = is.runs 0 (omega (arith, e)) in
       let clash : ◌≡◌ {A = ℕ} 0 1 = cc in
       absurd (omega arith)
+
+  -- a number where it is in range
+  pub ranged_told : (p q : ℕ) (z : ℤ) (r : Option ℤ) → r ≡ ranged z → (mag z < range_end → NumberTo bytes words state p z q) → NumberTold bytes words state p r q
+  unfolding ranged
+  ranged_told p q z r e number = go (ltb (mag z) range_end) refl
+    where
+      go : (t : Bool) → ltb (mag z) range_end ≡ t → NumberTold bytes words state p r q
+      go true t = rw (e, t) (number (ltb-true (mag z) range_end t))
+      go false t = rw (e, t) tt
 
   -- 2A t 41 v 30 j
   pub total_is : (p : ℕ) (z : ℤ) → Stands bytes p 6 → VariableTotal bytes p → z ≡ total_in bytes p words state → mag z < range_end → NumberTo bytes words state p z (p + 6)
   unfolding number_answer
   total_is p z there form e l = record { used = 6; ends = refl; is = record { there = there; fits = l; runs = runs } }
     where
-      runs : (d : ℕ) → 6 ≤ d → run_number d (here bytes words state) (drop p bytes) ≡ N.Value z 6
+      runs : (d : ℕ) → 6 ≤ d → run_number d (here bytes words state) (drop p bytes) ≡ told z 6
       runs d h =
           let deep : d - 2 + 2 ≡ d = omega (arith, h) in
           let run = rw deep at (variable_total bytes words state (d - 2) p form) in
-          run ∙ ap (λ (v : Value ℤ). number_answer v 6) (fits_value (total_in bytes p words state) (rw e at l)) ∙ ap (λ (v : ℤ). N.Value v 6) (sym e)
+          run ∙ ap (λ (v : Value ℤ). number_answer v 6) (fits_value (total_in bytes p words state) (rw e at l)) ∙ ap (λ (v : ℤ). told v 6) (sym e)
 
   -- 2A t, a set and an element
   pub near_total_is : {p s q : ℕ} (z : ℤ) → Begins bytes p 0x2a → SetTo bytes words state (p + 2) s q → Stands bytes q 2 → begins_element (get_or bytes q 0) ≡ true
@@ -73,11 +82,11 @@ module _ (bytes words state : List ℕ) where
       column : run_element state (drop (p + 2 + set.used) bytes) ≡ element_answer (object_in (get_or bytes q 0) (get_or bytes (q + 1) 0) state) 2
       column = ap (λ (i : ℕ). run_element state (drop i bytes)) (sym set.ends) ∙ element_run state bytes q there.inside element
 
-      runs : (d : ℕ) → 1 + (1 + (set.used + 2)) ≤ d → run_number d (here bytes words state) (drop p bytes) ≡ N.Value z (1 + (1 + (set.used + 2)))
+      runs : (d : ℕ) → 1 + (1 + (set.used + 2)) ≤ d → run_number d (here bytes words state) (drop p bytes) ≡ told z (1 + (1 + (set.used + 2)))
       runs d h =
           let deep : d - 2 + 2 ≡ d = omega (arith, h) in
           let run = rw deep at (total_of bytes words state (d - 2) p s set.is.objects set.used _ (omega (arith, set.ends, set.is.there.inside)) begins.byte (set.is.runs (d - 2 + 1) (omega (arith, h))) column) in
-          run ∙ ap (λ (v : Value ℤ). number_answer v (1 + (1 + (set.used + 2)))) (fits_value _ (rw e at l)) ∙ ap (λ (v : ℤ). N.Value v (1 + (1 + (set.used + 2)))) (sym e)
+          run ∙ ap (λ (v : Value ℤ). number_answer v (1 + (1 + (set.used + 2)))) (fits_value _ (rw e at l)) ∙ ap (λ (v : ℤ). told v (1 + (1 + (set.used + 2)))) (sym e)
 
   module _ (p : ℕ) where
     abbrev Waits : (waiting firsts : List ℕ) (a k : ℕ) → Type 0
@@ -151,13 +160,13 @@ module _ (bytes words state : List ℕ) where
       }
 
       -- it is the second: both make one
-      pub reads_second : (x y : ℤ) → Reading ws fs n q z told → told ≡ true → (n ≡ 0 → ⊥) → (get_or ws (n - 1) 0 < 0x80 → ⊥) → x ≡ word_of (get_or fs (n - 1) 0) → OperationTold (get_or ws (n - 1) 0 - 0x60) x z y
-          → lt_z y (pos silent_from) ≡ true → Reading ws fs (n - 1) q y told
-      reads_second x y r t some high e tells low =
+      pub reads_second : (x y : ℤ) → Reading ws fs n q z told → told ≡ true → (n ≡ 0 → ⊥) → (get_or ws (n - 1) 0 < 0x80 → ⊥) → x ≡ word_of (get_or fs (n - 1) 0) → OperationTold (get_or ws (n - 1) 0 - 0x60) x z (Some y)
+          → Reading ws fs (n - 1) q y told
+      reads_second x y r t some high e tells =
           let last = last_of ws fs r.from n r.waits some high in
           let o = operates last.byte last.operation in
           let byte : get_or ws (n - 1) 0 - 0x60 ≡ last.byte = omega (arith, last.mark) in
-          let makes : OperationTold last.byte (word_of (get_or fs (n - 1) 0)) z y = rw (byte, e) at tells in
+          let makes : OperationTold last.byte (word_of (get_or fs (n - 1) 0)) z (Some y) = rw (byte, e) at tells in
           record {
             waiting_room = r.waiting_room;
             firsts_room = r.firsts_room;
@@ -165,7 +174,7 @@ module _ (bytes words state : List ℕ) where
             from = last.place;
             waits = last.before;
             due = λ u. absurd (true≢false (sym t ∙ u));
-            got = λ u. two_numbers bytes words state last.begins o.form last.number (r.got t) (makes o.operation o.form low);
+            got = λ u. two_numbers bytes words state last.begins o.form last.number (r.got t) (makes o.operation o.form);
           }
 
       -- an operation waits for its numbers

@@ -11,7 +11,7 @@ ghost use Rattle.cursor.specs.Told.{NumberTold};
 ghost use Rattle.nested.specs.Known.{KnownAt};
 ghost use Rattle.nested.specs.Waiting.{Reads};
 
-use cursor::numbers::{SILENT, entry_on, is_operation, literal, operation};
+use cursor::numbers::{entry_on, is_operation, literal, operation, ranged};
 use cursor::places::{first_byte, stands};
 use cursor::sets::near_set;
 use cursor_conditions::terms::choice;
@@ -19,7 +19,7 @@ use outline::layout::{PREPARED_WORDS, STATE_WORDS, TABLES};
 use outline::word_at;
 use quick::sets::{begins_element, object};
 use quick::sums::{SUM_WORDS, is_variable_total, last_total};
-use words::arithmetic::{biased, in_range, signed_word};
+use words::arithmetic::{biased, signed_word};
 use words::tables::total;
 
 // How many operations may wait.
@@ -34,7 +34,7 @@ fn variable(
     at: &mut usize,
     outline: &[u64; PREPARED_WORDS],
     state: &[u64; STATE_WORDS],
-) -> i64
+) -> Option<i64>
     requires { Begins m.now.now at.old 0x21 }
     ensures { NumberTold m.now.now outline.now state.now at.old result at.new }
 {
@@ -42,9 +42,9 @@ fn variable(
     let e = *m;
     if stands(e, p, 2) {
         *at = p + 2;
-        return signed_word(word_at(state, e[p + 1] as usize));
+        return Some(signed_word(word_at(state, e[p + 1] as usize)));
     }
-    SILENT
+    None
 }
 
 // 2A t 41 v 30 j at the cursor, from the last sum where that is the same.
@@ -54,22 +54,17 @@ fn summed(
     outline: &[u64; PREPARED_WORDS],
     state: &[u64; STATE_WORDS],
     sums: &mut [u64; SUM_WORDS],
-) -> i64
+) -> Option<i64>
     requires { Remembers m.now.now outline.now sums.old }
     ensures { NumberTold m.now.now outline.now state.now at.old result at.new × Remembers m.now.now outline.now sums.new }
 {
     let p = *at;
     let e = *m;
-    if stands(e, p, 6) {
-        if is_variable_total(e, p) {
-            *at = p + 6;
-            let z = last_total(e, p, outline, state, sums);
-            if in_range(z) {
-                return z;
-            }
-        }
+    if stands(e, p, 6) && is_variable_total(e, p) {
+        *at = p + 6;
+        return ranged(last_total(e, p, outline, state, sums));
     }
-    SILENT
+    None
 }
 
 // 2A t, a near set and an element at the cursor.
@@ -78,7 +73,7 @@ fn summed_near(
     at: &mut usize,
     outline: &[u64; PREPARED_WORDS],
     state: &[u64; STATE_WORDS],
-) -> i64
+) -> Option<i64>
     requires { Begins m.now.now at.old 0x2a }
     ensures { NumberTold m.now.now outline.now state.now at.old result at.new }
 {
@@ -89,21 +84,16 @@ fn summed_near(
         let s = near_set(m, at, outline, state);
         let q = *at;
         if q == p + 2 {
-            return SILENT;
+            return None;
         }
-        if stands(e, q, 2) {
-            if begins_element(e[q]) {
-                *at = q + 2;
-                let table = word_at(outline, TABLES + e[p + 1] as usize);
-                let j = object(e[q], e[q + 1], state);
-                let z = total(e, table, s, j);
-                if in_range(z) {
-                    return z;
-                }
-            }
+        if stands(e, q, 2) && begins_element(e[q]) {
+            *at = q + 2;
+            let table = word_at(outline, TABLES + e[p + 1] as usize);
+            let j = object(e[q], e[q + 1], state);
+            return ranged(total(e, table, s, j));
         }
     }
-    SILENT
+    None
 }
 
 // A number without operations at the cursor, which begins with byte b. A table's sum at `place` is known: `sum`; others are remembered in `sums`.
@@ -116,7 +106,7 @@ fn part(
     place: usize,
     sum: i64,
     sums: &mut [u64; SUM_WORDS],
-) -> i64
+) -> Option<i64>
     requires { FirstByte m.now.now at.old b × KnownAt m.now.now outline.now state.now place sum × Remembers m.now.now outline.now sums.old }
     ensures { NumberTold m.now.now outline.now state.now at.old result at.new × Remembers m.now.now outline.now sums.new }
 {
@@ -135,17 +125,16 @@ fn part(
     if b == 0x2a {
         if *at == place {
             *at = place + 6;
-            return sum;
+            return Some(sum);
         }
         let p = *at;
-        let z = summed(m, at, outline, state, sums);
-        if z < SILENT {
-            return z;
+        if let Some(z) = summed(m, at, outline, state, sums) {
+            return Some(z);
         }
         let mut far = p;
-        let y = summed_near(m, &mut far, outline, state);
+        let z = summed_near(m, &mut far, outline, state);
         *at = far;
-        return y;
+        return z;
     }
     if b == 0x2b {
         let mut end = *at;
@@ -153,7 +142,7 @@ fn part(
         *at = end;
         return z;
     }
-    SILENT
+    None
 }
 
 // A literal or a number variable at the cursor.
@@ -162,7 +151,7 @@ fn short_part(
     at: &mut usize,
     outline: &[u64; PREPARED_WORDS],
     state: &[u64; STATE_WORDS],
-) -> i64
+) -> Option<i64>
     ensures { NumberTold m.now.now outline.now state.now at.old result at.new }
 {
     if first_byte(*m, *at) == 0x21 {
@@ -191,10 +180,9 @@ fn leading(
                 return n;
             }
             let mut q = *at + 1;
-            let x = short_part(m, &mut q, outline, state);
-            if SILENT <= x {
+            let Some(x) = short_part(m, &mut q, outline, state) else {
                 return n;
-            }
+            };
             waiting[n] = b + HAS_FIRST;
             firsts[n] = biased(x);
             n += 1;
@@ -214,7 +202,7 @@ pub fn number(
     place: usize,
     sum: i64,
     sums: &mut [u64; SUM_WORDS],
-) -> i64
+) -> Option<i64>
     requires { KnownAt m.now.now outline.now state.now place sum × Remembers m.now.now outline.now sums.old }
     ensures { NumberTold m.now.now outline.now state.now at.old result at.new × Remembers m.now.now outline.now sums.new }
 {
@@ -228,7 +216,7 @@ pub fn number(
         if told {
             if n == 0 {
                 *at = q;
-                return z;
+                return Some(z);
             }
             let o = waiting[n - 1];
             if o < 0x80 {
@@ -236,26 +224,20 @@ pub fn number(
                 firsts[n - 1] = biased(z);
                 told = false;
             } else {
-                z = operation(o - HAS_FIRST, signed_word(firsts[n - 1]), z);
-                if SILENT <= z {
-                    return SILENT;
-                }
+                z = operation(o - HAS_FIRST, signed_word(firsts[n - 1]), z)?;
                 n -= 1;
             }
         } else {
             let b = first_byte(*m, q);
             if is_operation(b) {
                 if n == MOST_WAITING {
-                    return SILENT;
+                    return None;
                 }
                 waiting[n] = b;
                 n += 1;
                 q += 1;
             } else {
-                z = part(b, m, &mut q, outline, state, place, sum, sums);
-                if SILENT <= z {
-                    return SILENT;
-                }
+                z = part(b, m, &mut q, outline, state, place, sum, sums)?;
                 told = true;
             }
         }

@@ -23,11 +23,10 @@ pub fn check(model: &[u8], plan: &[u8]) -> Checked
             return refused_plan(2);
         }
         let mut outline = [0u64; PREPARED_WORDS];
-        let refusal = read_and_prepare(model, &mut outline);
-        if refusal == 0 {
-            return follow(model, &outline, plan);
-        }
-        return refused_plan(refusal);
+        return match read_and_prepare(model, &mut outline) {
+            Ok(()) => follow(model, &outline, plan),
+            Err(refusal) => refused_plan(refusal.number()),
+        };
     }
     refused_plan(1)
 }

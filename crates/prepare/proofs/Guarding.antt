@@ -143,7 +143,7 @@ module _ (bytes : List ℕ) where
   guard_joined at variable mask need behind t within guarded here says test_within j words x n o h =
       let g = guarded words x n o h in
       let first = first_condition bytes model behind _ g.used here g.reads in
-      let test = says words first.item first.used o j.some_used first.reads in
+      let test = says words first.item first.used o first.reads in
       let left = transition_behind model.variables model.tables bytes behind first.item first.used _ g.used here first.reads g.reads in
       let place : behind + 1 + first.used ≡ behind + 1 + t.used = ap (λ (i : ℕ). behind + 1 + i) test.used in
       record {

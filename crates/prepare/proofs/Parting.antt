@@ -33,14 +33,14 @@ module _ (bytes : List ℕ) (at : ℕ) where
   pub guarded_plain : ConjunctSays bytes at (guard 0 0 0 at)
   guarded_plain words x n o h = record { part = x; used = n; inside = condition_inside bytes model at h; reads = h; decides = λ state. rw (passes_all 0 at state) }
 
-  pub guarded_test : (t : Test) → get_or bytes at 0 ≡ 0x59 → get_or bytes (at + 1) 0 ≡ 0x57 → TestSays bytes (at + 2) t → (t.used ≡ 0 → ⊥)
+  pub guarded_test : (t : Test) → get_or bytes at 0 ≡ 0x59 → get_or bytes (at + 1) 0 ≡ 0x57 → TestSays bytes (at + 2) t
       → ConjunctSays bytes at (guard t.variable t.mask t.need (at + 2 + t.used))
   unfolding passes
-  guarded_test t e f says used-some words x n o h =
+  guarded_test t e f says words x n o h =
       let p = either_parts model.variables model.tables bytes at x n e h in
       let q = negation_part model.variables model.tables bytes (at + 1) p.first p.first_used f p.reads_first in
       let two-on : at + 1 + 1 ≡ at + 2 = omega arith in
-      let test = says words q.part q.part_used o used-some (rw two-on at q.reads_part) in
+      let test = says words q.part q.part_used o (rw two-on at q.reads_part) in
       let place : at + 1 + p.first_used ≡ at + 2 + t.used = omega (arith, q.uses, test.used) in
       record {
         part = p.second;

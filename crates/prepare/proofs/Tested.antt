@@ -161,7 +161,7 @@ outline_describes state o = record {
 module _ (bytes : List ℕ) (at : ℕ) where
   -- what runs to the test in every state is the test
   told : (r : Test) → ((p : Environment) → run_condition most_nesting p (drop at bytes) ≡ C.Holds (eqb (Sets.intersection (get_or p.state r.variable 0) r.mask) r.need) r.used) → TestSays bytes at r
-  told r runs words x n o some h = record {
+  told r runs words x n o h = record {
     used = (holds_value (condition_value range_end (model_of bytes).tables x (state_of (model_of bytes).variables [])) n (answer [])).1;
     decides = λ state. (holds_value _ n (answer state)).0;
   }
@@ -181,20 +181,17 @@ module _ (bytes : List ℕ) (at : ℕ) where
   pub same_says : (v k : ℕ) → SameForm bytes at → get_or bytes (at + 2) 0 ≡ v → get_or bytes (at + 4) 0 ≡ k → TestSays bytes at (record { variable = v; mask = most_objects - 1; need = k % most_objects; used = 5 })
   same_says v k f e g = told _ (λ p. same_run p bytes at most_nesting v k (λ z. absurd (omega arith)) f e g ∙ rw (element_bits (get_or p.state v 0)))
 
-  pub nothing_says : (v mask need : ℕ) → TestSays bytes at (record { variable = v; mask = mask; need = need; used = 0 })
-  nothing_says v mask need words x n o some h = absurd (some refl)
-
 -- the value of 57
 negation_value : (ts : List Table) (c : Condition) (s : State) (b : Bool) → condition_value range_end ts c s ≡ value b → condition_value range_end ts (negation c) s ≡ value (not b)
 unfolding condition_value ◌and_then◌
 negation_value ts c s b e = rw e
 
 pub absent_says : (bytes : List ℕ) (at v bit : ℕ) → AbsentForm bytes at → get_or bytes (at + 5) 0 ≡ v → bit ≡ 2 ^ (get_or bytes (at + 3) 0 % most_objects) → TestSays bytes at (record { variable = v; mask = bit; need = 0; used = 6 })
-absent_says bytes at v bit f e b words x n o some h =
+absent_says bytes at v bit f e b words x n o h =
     let m = model_of bytes in
     let on : (i : ℕ) → at + 1 + i ≡ at + (1 + i) = λ i. omega arith in
     let q = negation_part m.variables m.tables bytes at x n f.negated h in
-    let t = member_says bytes (at + 1) v bit f.member (ap (λ (i : ℕ). get_or bytes i 0) (on 4) ∙ e) (b ∙ ap (λ (i : ℕ). 2 ^ (get_or bytes i 0 % most_objects)) (sym (on 2))) words q.part q.part_used o (λ z. absurd (omega arith)) q.reads_part in
+    let t = member_says bytes (at + 1) v bit f.member (ap (λ (i : ℕ). get_or bytes i 0) (on 4) ∙ e) (b ∙ ap (λ (i : ℕ). 2 ^ (get_or bytes i 0 % most_objects)) (sym (on 2))) words q.part q.part_used o q.reads_part in
     record {
       used = omega (arith, q.uses, t.used);
       decides = λ state.

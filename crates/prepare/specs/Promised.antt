@@ -34,7 +34,7 @@ pub record TestWithin (r : Test) : Type 0 where
 
 module _ (bytes : List ℕ) (at : ℕ) where
   abbrev pub TestSays : Test → Type 0
-  TestSays r = (words : List ℕ) (x : Condition) (n : ℕ) → Outlines bytes words (model_of bytes) → (r.used ≡ 0 → ⊥)
+  TestSays r = (words : List ℕ) (x : Condition) (n : ℕ) → Outlines bytes words (model_of bytes)
       → condition (model_of bytes).variables (model_of bytes).tables most_nesting (drop at bytes) ≡ read x n → TestIs (model_of bytes) r x n
 
   -- the guard of the transition that is read at `at`
@@ -49,7 +49,6 @@ module _ (bytes : List ℕ) (at : ℕ) where
 
 -- a test that can be joined to one of the mask's bits of the variable's word
 pub record Joins (variable mask : ℕ) (t : Test) : Type 0 where
-  pub some_used : t.used ≡ 0 → ⊥
   pub apart : (mask ≡ 0) ⊎ ((variable ≡ t.variable) × (intersection mask t.mask ≡ 0))
 
 -- ---- words that stay

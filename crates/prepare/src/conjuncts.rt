@@ -17,17 +17,14 @@ use outline::word_at;
 fn guarded(model: &[u8], at: usize) -> Guard
     ensures { ConjunctSays model.now at result }
 {
-    if byte_at(model, at) == 0x59 {
-        if byte_at(model, at + 1) == 0x57 {
-            let t = test_at(model, at + 2);
-            if 0 < t.used {
-                return Guard {
-                    variable: t.variable,
-                    mask: t.mask,
-                    need: t.need,
-                    behind: at + 2 + t.used,
-                };
-            }
+    if byte_at(model, at) == 0x59 && byte_at(model, at + 1) == 0x57 {
+        if let Some(t) = test_at(model, at + 2) {
+            return Guard {
+                variable: t.variable,
+                mask: t.mask,
+                need: t.need,
+                behind: at + 2 + t.used,
+            };
         }
     }
     Guard {
@@ -42,10 +39,7 @@ fn guarded(model: &[u8], at: usize) -> Guard
 fn divides(model: &[u8], at: usize, taken: usize) -> bool
     ensures { result ≡ (eqb (get_or model.now at 0) 0x58 && ltb taken most_conjuncts) }
 {
-    if byte_at(model, at) == 0x58 {
-        return taken < MOST_CONJUNCTS;
-    }
-    false
+    byte_at(model, at) == 0x58 && taken < MOST_CONJUNCTS
 }
 
 // Puts the condition at a place as conjunct n.
@@ -72,7 +66,7 @@ fn part(model: &[u8], outline: &mut [u64], k: usize, first: usize) -> usize
             due += 1;
         } else {
             put_conjunct(model, outline, at, n);
-            at = at + skip(after(model, at));
+            at += skip(after(model, at));
             n += 1;
             due -= 1;
         }
@@ -87,10 +81,8 @@ pub fn conjuncts(model: &[u8], outline: &mut [u64])
 {
     let all = word_at(outline, CONSTRAINT_COUNT) as usize;
     let mut n: usize = 0;
-    let mut k: usize = 0;
-    while k < all {
+    for k in 0..all {
         n = part(model, outline, k, n);
-        k += 1;
     }
     let count = [n as u64];
     put(outline, CONJUNCT_COUNT, &count);

@@ -23,16 +23,7 @@ pub struct Guard {
 fn joins(variable: usize, mask: u64, t: Test) -> bool
     ensures { result ≡ true → Joins variable mask t }
 {
-    if t.used == 0 {
-        return false;
-    }
-    if mask == 0 {
-        return true;
-    }
-    if variable == t.variable {
-        return mask & t.mask == 0;
-    }
-    false
+    mask == 0 || variable == t.variable && mask & t.mask == 0
 }
 
 // The guard of the transition at a place.
@@ -44,30 +35,28 @@ fn guard_of(model: &[u8], at: usize) -> Guard
     let mut need: u64 = 0;
     let mut behind = at;
     while byte_at(model, behind) == 8 {
-        let t = test_at(model, behind + 1);
-        let v = t.variable;
-        let m = t.mask;
-        let n = t.need;
-        let u = t.used;
-        if joins(variable, mask, t) {
-            variable = v;
-            mask = mask | m;
-            need = need | n;
-            behind = behind + 1 + u;
-        } else {
-            return Guard {
-                variable: variable,
-                mask: mask,
-                need: need,
-                behind: behind,
-            };
+        match test_at(model, behind + 1) {
+            Some(t) if joins(variable, mask, t) => {
+                variable = t.variable;
+                mask |= t.mask;
+                need |= t.need;
+                behind = behind + 1 + t.used;
+            }
+            _ => {
+                return Guard {
+                    variable,
+                    mask,
+                    need,
+                    behind,
+                };
+            }
         }
     }
     Guard {
-        variable: variable,
-        mask: mask,
-        need: need,
-        behind: behind,
+        variable,
+        mask,
+        need,
+        behind,
     }
 }
 
@@ -87,12 +76,10 @@ pub fn guards(model: &[u8], outline: &mut [u64])
     ensures { GuardsPut model.now outline.old outline.new }
 {
     let all = word_at(outline, TRANSITION_COUNT) as usize;
-    let mut t: usize = 0;
-    while t < all {
+    for t in 0..all {
         let at = word_at(outline, TRANSITIONS + t) as usize;
         let g = guard_of(model, at);
         put_guard(outline, GUARDS + 4 * t, g);
-        t += 1;
     }
 }
 

@@ -10,10 +10,11 @@ pub mod places;
 pub mod tests;
 pub mod writing;
 
-ghost use Rattle.std.specs.Prelude.{◌≡◌, ◌≤◌, length};
+ghost use Rattle.std.specs.Prelude.{◌≡◌, ◌≤◌, length, OnOk};
 ghost use Rattle.model.specs.Numbers.{most_model_bytes};
 ghost use Rattle.model.specs.Commands as commands;
 ghost use Rattle.outline.specs.Outline.{model_of, refusal_of};
+ghost use Rattle.read_model.specs.Refusals.{refusal_number};
 ghost use Rattle.prepare.specs.Layout.{prepared_words};
 ghost use Rattle.prepare.specs.Prepared.{Prepared};
 ghost use Rattle.prepare.specs.Promised.{Room, Ready};
@@ -22,6 +23,7 @@ use crate::conjuncts::conjuncts;
 use crate::guards::guards;
 use crate::masks::masks;
 use crate::places::places;
+use read_forms::refusals::Refusal;
 use read_model::read_model;
 
 // Prepares the model that is outlined; its outline stays.
@@ -36,15 +38,13 @@ fn prepare(model: &[u8], outline: &mut [u64])
     conjuncts(model, outline);
 }
 
-// Reads a model, outlines and prepares it: 0, or the number of the refusal.
-pub fn read_and_prepare(model: &[u8], outline: &mut [u64]) -> u8
+// Reads a model, outlines and prepares it.
+pub fn read_and_prepare(model: &[u8], outline: &mut [u64]) -> Result<(), Refusal>
     requires { (length model.now ≤ most_model_bytes) × (prepared_words ≤ length outline.old) }
-    ensures number { result ≡ refusal_of (commands.model model.now) }
-    ensures ready { result ≡ 0 → Ready model.now outline.new }
+    ensures number { refusal_number result ≡ refusal_of (commands.model model.now) }
+    ensures ready { OnOk result (Ready model.now outline.new) }
 {
-    let number = read_model(model, outline);
-    if number == 0 {
-        prepare(model, outline);
-    }
-    number
+    read_model(model, outline)?;
+    prepare(model, outline);
+    Ok(())
 }

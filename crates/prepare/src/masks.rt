@@ -12,6 +12,7 @@ use outline::word_at;
 use words::sizes::{MOST_OBJECTS, RANGE_SIZE};
 
 // The bits of a word that are compared, by the byte of its variable's kind.
+#[tactic(auto, unfolding(crate::specs::Prepared::compared_mask))]
 fn compared_mask(kind: u64) -> u64
     ensures { result ≡ compared_mask kind }
 {
@@ -25,6 +26,7 @@ fn compared_mask(kind: u64) -> u64
 }
 
 // The bits of a word that are hashed.
+#[tactic(auto, unfolding(crate::specs::Prepared::hashed_mask))]
 fn hashed_mask(kind: u64, preference: u64) -> u64
     ensures { result ≡ hashed_mask kind preference }
 {
@@ -52,9 +54,7 @@ pub fn masks(model: &[u8], outline: &mut [u64])
     requires { Room model.now outline.old }
     ensures { MasksPut outline.old outline.new }
 {
-    let mut v: usize = 0;
-    while v < STATE_WORDS {
+    for v in 0..STATE_WORDS {
         put_masks(outline, v);
-        v += 1;
     }
 }

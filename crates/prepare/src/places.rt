@@ -28,9 +28,7 @@ pub fn places(model: &[u8], outline: &mut [u64])
     ensures { PlacesPut model.now outline.old outline.new }
 {
     let all = word_at(outline, TABLE_COUNT) as usize;
-    let mut t: usize = 0;
-    while t < all {
+    for t in 0..all {
         put_places(outline, t);
-        t += 1;
     }
 }

@@ -7,28 +7,26 @@ use eval_sets::bytes::after;
 use laws::{byte_at, wide};
 
 // Whether 41 00 stands there.
+#[tactic(auto, unfolding(crate::specs::Forms::variable_zero_in))]
 fn is_variable_zero(e: &[u8]) -> bool
     ensures { result ≡ variable_zero_in e.now }
 {
-    if byte_at(e, 0) == 0x41 {
-        return byte_at(e, 1) == 0;
-    }
-    false
+    byte_at(e, 0) == 0x41 && byte_at(e, 1) == 0
 }
 
 // The object k of 30 k 41 00.
+#[tactic(auto, unfolding(crate::specs::Forms::beside_in))]
 fn object_beside(e: &[u8]) -> u64
     ensures { result ≡ beside_in e.now }
 {
-    if byte_at(e, 0) == 0x30 {
-        if is_variable_zero(after(e, 2)) {
-            return wide(byte_at(e, 1)) + 1;
-        }
+    if byte_at(e, 0) == 0x30 && is_variable_zero(after(e, 2)) {
+        return wide(byte_at(e, 1)) + 1;
     }
     0
 }
 
 // The object k of a first byte and 30 k 41 00: 54 requires it, 43 removes it.
+#[tactic(auto, unfolding(crate::specs::Forms::object_in))]
 pub fn object_in(e: &[u8], first: u8) -> u64
     ensures { result ≡ object_in first e.now }
 {
@@ -39,11 +37,9 @@ pub fn object_in(e: &[u8], first: u8) -> u64
 }
 
 // Whether 55 41 00 stands there.
+#[tactic(auto, unfolding(crate::specs::Forms::empty_in))]
 pub fn asks_for_empty(e: &[u8]) -> bool
     ensures { result ≡ empty_in e.now }
 {
-    if byte_at(e, 0) == 0x55 {
-        return is_variable_zero(after(e, 1));
-    }
-    false
+    byte_at(e, 0) == 0x55 && is_variable_zero(after(e, 1))
 }

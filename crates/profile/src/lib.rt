@@ -24,10 +24,7 @@ fn begins_with_set(model: &[u8], outline: &[u64; PREPARED_WORDS]) -> bool
     requires { Outlines model.now outline.now (model_of model.now) }
     ensures { result ≡ begins_with_set (model_of model.now).variables }
 {
-    if word_at(outline, VARIABLE_COUNT) == 0 {
-        return false;
-    }
-    MOST_OBJECTS < word_at(outline, KINDS)
+    word_at(outline, VARIABLE_COUNT) != 0 && MOST_OBJECTS < word_at(outline, KINDS)
 }
 
 // Whether the conditions 08 at a place are one, that variable 0 is empty.
@@ -36,9 +33,7 @@ fn only_empty(model: &[u8], at: usize) -> bool
 {
     if byte_at(model, at) == 8 {
         let e = after(model, at + 1);
-        if asks_for_empty(e) {
-            return byte_at(e, skip(e)) != 8;
-        }
+        return asks_for_empty(e) && byte_at(e, skip(e)) != 8;
     }
     false
 }
@@ -48,10 +43,8 @@ fn ends_empty(model: &[u8], outline: &[u64; PREPARED_WORDS]) -> bool
     requires { Outlines model.now outline.now (model_of model.now) }
     ensures { result ≡ ends_empty (model_of model.now).base_cases }
 {
-    if word_at(outline, BASE_CASE_COUNT) == 1 {
-        return only_empty(model, word_at(outline, BASE_CASES) as usize);
-    }
-    false
+    word_at(outline, BASE_CASE_COUNT) == 1
+        && only_empty(model, word_at(outline, BASE_CASES) as usize)
 }
 
 // Whether the model is in the loading profile.
@@ -59,12 +52,7 @@ pub fn in_profile(model: &[u8], outline: &[u64; PREPARED_WORDS]) -> bool
     requires { Outlines model.now outline.now (model_of model.now) }
     ensures { result ≡ in_profile (model_of model.now) }
 {
-    if begins_with_set(model, outline) {
-        if ends_empty(model, outline) {
-            return all_load(model, outline);
-        }
-    }
-    false
+    begins_with_set(model, outline) && ends_empty(model, outline) && all_load(model, outline)
 }
 
 // The length of a run in the profile: how many start members variable 0 has, or 1 if it has none.
@@ -73,8 +61,5 @@ pub fn loading_length(model: &[u8], outline: &[u64; PREPARED_WORDS]) -> usize
     ensures { result ≡ loading_length (model_of model.now) }
 {
     let members = count(word_at(outline, STARTS)) as usize;
-    if members == 0 {
-        return 1;
-    }
-    members
+    members.max(1)
 }

@@ -17,6 +17,7 @@ fn behind_conditions(model: &[u8], at: usize) -> usize
     ensures { BehindConditions model.now at result }
 {
     let mut behind = at;
+    // a condition tells where the next one is: no range gives its places
     while byte_at(model, behind) == 8 {
         behind = behind + 1 + skip(after(model, behind + 1));
     }
@@ -40,6 +41,7 @@ fn requires_object(model: &[u8], at: usize, object: u64) -> bool
     ensures { RequiresSays model.now at object result }
 {
     let mut next = at;
+    // a condition tells where the next one is: no range gives its places
     while byte_at(model, next) == 8 {
         let e = after(model, next + 1);
         if object_in(e, 0x54) == object {
@@ -58,19 +60,19 @@ fn removed(model: &[u8], at: usize) -> u64
     let mut seen = false;
     let mut object: u64 = 0;
     let mut next = at;
+    // an effect tells where the next one is: no range gives its places
     while byte_at(model, next) == 10 {
         let e = after(model, next + 2);
         let used = skip(e);
-        if byte_at(model, next + 1) == 0 {
+        let target = byte_at(model, next + 1);
+        if target == 0 {
             if seen {
                 return 0;
             }
             seen = true;
             object = object_in(e, 0x43);
-            next = next + 2 + used;
-        } else {
-            next = next + 2 + used;
         }
+        next = next + 2 + used;
     }
     object
 }
@@ -83,10 +85,7 @@ fn loads(model: &[u8], at: usize) -> bool
     let costs = behind_conditions(model, at);
     let effects = behind_costs(model, costs);
     let object = removed(model, effects);
-    if object == 0 {
-        return false;
-    }
-    requires_object(model, at, object)
+    object != 0 && requires_object(model, at, object)
 }
 
 // Whether all transitions do.
@@ -95,12 +94,8 @@ pub fn all_load(model: &[u8], outline: &[u64; PREPARED_WORDS]) -> bool
     ensures { result ≡ not (any (λ t. not (profile.loads t)) (model_of model.now).transitions) }
 {
     let all = word_at(outline, TRANSITION_COUNT) as usize;
-    let mut t: usize = 0;
-    while t < all {
-        let at = word_at(outline, TRANSITIONS + t) as usize;
-        if loads(model, at) {
-            t += 1;
-        } else {
+    for t in 0..all {
+        if !loads(model, word_at(outline, TRANSITIONS + t) as usize) {
             return false;
         }
     }

@@ -2,62 +2,33 @@
 
 #![tactic(auto)]
 
-ghost use Rattle.std.specs.Prelude.{◌≤◌, length};
+ghost use Rattle.std.specs.Prelude.{◌≤◌, length, IfOk, IfErr};
 ghost use Rattle.program.specs.Program.{Planned};
 
 use search_report::answers::Answer;
 use solver::entry::search_up_to;
 use std::io::Read;
 
-// How many bytes came, and whether a read failed.
-#[derive(Clone, Copy)]
-pub struct Came {
+// A read that failed, and how many bytes had come before it.
+#[derive(Clone, Copy, Debug)]
+pub struct ReadFailed {
     pub count: usize,
-    pub failed: bool,
 }
 
-// Reads once.
-pub fn read_some<R: Read>(file: &mut R, buffer: &mut [u8]) -> Came
-    ensures { result.count ≤ length buffer.new }
-{
-    match file.read(buffer) {
-        Ok(count) => Came {
-            count: count,
-            failed: false,
-        },
-        Err(_) => Came {
-            count: 0,
-            failed: true,
-        },
-    }
-}
-
-// Reads until the buffer is full, the file ends or a read fails.
-pub fn read_file<R: Read>(file: &mut R, buffer: &mut [u8]) -> Came
-    ensures { result.count ≤ length buffer.new }
+// Reads until the buffer is full or the file ends; answers how many bytes came. No method of the library reads so without a heap.
+pub fn read_file<R: Read>(file: &mut R, buffer: &mut [u8]) -> Result<usize, ReadFailed>
+    ensures read { IfOk result (λ n. n ≤ length buffer.new) }
+    ensures failed { IfErr result (λ e. e.count ≤ length buffer.new) }
 {
     let mut at: usize = 0;
     while at < buffer.len() {
-        let more = read_some(file, &mut buffer[at..]);
-        let n = more.count;
-        if more.failed {
-            return Came {
-                count: at,
-                failed: true,
-            };
+        match file.read(&mut buffer[at..]) {
+            Ok(0) => break,
+            Ok(n) => at += n,
+            Err(_) => return Err(ReadFailed { count: at }),
         }
-        if n == 0 {
-            return Came {
-                count: at,
-                failed: false,
-            };
-        }
-        at += n;
     }
-    Came {
-        count: at,
-        failed: false,
-    }
+    Ok(at)
 }
 
 // The search at the programs' settings; the plan is at the front of the plan buffer.

@@ -132,5 +132,5 @@ pub membership_says : (bytes : List ℕ) (at : ℕ) (words state : List ℕ) →
     → (condition_value range_end (model_of bytes).tables x (state_of (model_of bytes).variables state) ≡ value (member_in bytes at state)) × (n ≡ 5)
 unfolding object_in
 membership_says bytes at words state f x n o reads =
-    let test = member_says bytes at _ _ f refl refl words x n o (λ z. absurd (omega arith)) reads in
+    let test = member_says bytes at _ _ f refl refl words x n o reads in
     (test.decides state ∙ ap value (sym (member_test (get_or bytes (at + 2) 0 % most_objects) (get_or state (get_or bytes (at + 4) 0) 0))), test.used)

@@ -10,6 +10,7 @@ use lib.Dec.{ltb}
 use lib.IntN.{ℤ, pos, ◌+ℤ◌, ◌-ℤ◌}
 use lib.Signed.{mag, le_z}
 use borrow.Author.Tests.{ltb-true, lt-ltb, le-ltb}
+use Rattle.std.specs.Prelude.{Some, None, IfSome}
 use Rattle.model.specs.Numbers.{range_end, range_size, most_nesting}
 use Rattle.model.specs.Values.{Value, value, in_range}
 use Rattle.model.specs.Values.{◌>>=◌ as ◌and_then◌}
@@ -19,9 +20,8 @@ use Rattle.model.specs.Expressions.{number, condition}
 use Rattle.model.specs.Meaning.{two, number_value, condition_value}
 use Rattle.words.specs.States.{state_of}
 use Rattle.outline.specs.Outline.{model_of, Outlines}
-use Rattle.eval_sets.specs.declared.answers.NumberValue.TheVariants as N
 use Rattle.eval_sets.specs.declared.answers.Parts.{Parts}
-use Rattle.eval_sets.specs.Answers.{number_answer, past_number, condition_answer, past_condition, element_answer, absent_set}
+use Rattle.eval_sets.specs.Answers.{told, number_answer, past_number, condition_answer, past_condition, element_answer, absent_set}
 use Rattle.eval_sets.specs.Forms.{number_form, condition_form}
 use Rattle.eval_sets.specs.Runs.{Environment, environment, table_in, entry_of, fits, arithmetic, compared, run_element, two_elements, entry_number, literal_number, literal_value, number_behind, number_at, condition_behind, condition_at, run_number, run_condition}
 use Rattle.eval_sets.proofs.Opening.{number_variable_some, entry_some, number_opens, condition_opens}
@@ -32,7 +32,7 @@ use Rattle.prepare.proofs.Tested.{some_behind, holds_value, outline_describes}
 use Rattle.quick.specs.Sets.{begins_element, object_in}
 use Rattle.quick.specs.Entries.{EntryForm, entry_at}
 use Rattle.quick.proofs.Changes.{element_run}
-use Rattle.quick.specs.Quick.{SumForm, variable_in, entry_in, SumIs, decided, Told, QuickSays}
+use Rattle.quick.specs.Quick.{SumForm, variable_in, entry_in, SumIs, decided, QuickSays}
 
 pub fits_value : (z : ℤ) → mag z < range_end → fits z ≡ value z
 unfolding in_range
@@ -141,7 +141,7 @@ entry_form bytes at f = record {
 
 pub entry_says : (bytes : List ℕ) (at : ℕ) (words state : List ℕ) → EntryForm bytes at → mag (entry_at bytes at words state) < range_end → (x : Number) (n : ℕ) → Outlines bytes words (model_of bytes)
     → number (model_of bytes).variables (model_of bytes).tables most_nesting (drop at bytes) ≡ read x n
-    → N.Value (entry_at bytes at words state) 6 ≡ number_answer (number_value range_end (model_of bytes).tables x (state_of (model_of bytes).variables state)) n
+    → told (entry_at bytes at words state) 6 ≡ number_answer (number_value range_end (model_of bytes).tables x (state_of (model_of bytes).variables state)) n
 unfolding number_answer
 entry_says bytes at words state f l x n o reads =
     let p = environment bytes state words in
@@ -178,12 +178,9 @@ module _ (bytes : List ℕ) (at : ℕ) (words state : List ℕ) (z c : ℤ) wher
 
     pub sum_says : QuickSays bytes at words state (decided z c)
     unfolding decided
-    sum_says x n o reads = go (ltb (mag z) range_end) refl (le_z z c) refl
+    sum_says x n o reads = go (ltb (mag z) range_end) refl
       where
-        go : (t : Bool) → ltb (mag z) range_end ≡ t → (b : Bool) → le_z z c ≡ b → Told (cond (ltb (mag z) range_end) (cond (le_z z c) 1 0) 2) (condition_value range_end (model_of bytes).tables x (state_of (model_of bytes).variables state))
-        go true e true b = rw (e, b) (record { fails = λ q. absurd (omega (arith, q)); holds = λ q. value_is (ltb-true (mag z) range_end e) x n o reads ∙ ap value b })
-        go true e false b = rw (e, b) (record { fails = λ q. value_is (ltb-true (mag z) range_end e) x n o reads ∙ ap value b; holds = λ q. absurd (omega (arith, q)) })
-        go false e b d = rw e (record { fails = λ q. absurd (omega (arith, q)); holds = λ q. absurd (omega (arith, q)) })
-
-pub nothing_says : (bytes : List ℕ) (at : ℕ) (words state : List ℕ) → QuickSays bytes at words state 2
-nothing_says bytes at words state x n o reads = record { fails = λ q. absurd (omega (arith, q)); holds = λ q. absurd (omega (arith, q)) }
+        go : (t : Bool) → ltb (mag z) range_end ≡ t
+            → IfSome (cond (ltb (mag z) range_end) (Some (le_z z c)) None) (λ b. condition_value range_end (model_of bytes).tables x (state_of (model_of bytes).variables state) ≡ value b)
+        go true e = rw e (value_is (ltb-true (mag z) range_end e) x n o reads)
+        go false e = rw e tt

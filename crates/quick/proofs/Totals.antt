@@ -21,12 +21,11 @@ use Rattle.words.specs.Tables.{integer_at}
 use Rattle.words.proofs.Literal.{word_is, integer_is}
 use Rattle.words.proofs.Entries.{integer_there}
 use Rattle.prepare.specs.Forms.{SameForm}
-use Rattle.eval_sets.specs.declared.answers.NumberValue.{NumberValue}
-use Rattle.eval_sets.specs.declared.answers.NumberValue.TheVariants as N
 use Rattle.eval_sets.specs.declared.answers.ConditionValue.{ConditionValue}
 use Rattle.eval_sets.specs.declared.answers.SetValue.{SetValue}
 use Rattle.eval_sets.specs.declared.answers.Parts.{Parts}
-use Rattle.eval_sets.specs.Answers.{number_answer, past_number, condition_answer, past_condition, element_answer, set_answer}
+use Rattle.eval_sets.specs.declared.answers.Told.{Told}
+use Rattle.eval_sets.specs.Answers.{told as told_number, NumberValue, number_answer, past_number, condition_answer, past_condition, element_answer, set_answer}
 use Rattle.eval_sets.specs.Forms.{number_form, condition_form, shape_of, operands, parts as parts_of, span}
 use Rattle.eval_sets.specs.Runs.{Environment, environment, objects_in, run_connective, table_in, entry_of, fits, run_element, set_then_element, run_set, total_number, empty_set, number_before, chosen, choice_first, run_choice, number_behind, number_at, condition_behind, condition_at, run_number, run_condition}
 use Rattle.eval_sets.proofs.Opening.{total_some, number_opens, condition_opens}
@@ -40,9 +39,11 @@ use Rattle.quick.specs.Sums.{VariableTotal, ChangedTotal, TotalForm, of_variable
 use Rattle.quick.proofs.Changes.{changed_run}
 use Rattle.quick.proofs.Compared.{fits_value, literal_run}
 
-pub number_is : (v : Value ℤ) (n : ℕ) {z : ℤ} {k : ℕ} → number_answer v n ≡ N.Value z k → (v ≡ value z) × (n ≡ k)
+pub number_is : (v : Value ℤ) (n : ℕ) {z : ℤ} {k : ℕ} → number_answer v n ≡ told_number z k → (v ≡ value z) × (n ≡ k)
 unfolding number_answer
-number_is (value a) n e = (cc, cc)
+number_is (value a) n {z} {k} e =
+    let q : ◌≡◌ {A = Told ℤ} (record { value = a; used = n }) (record { value = z; used = k }) = cc in
+    (ap (λ (v : Told ℤ). value v.value) q, ap (λ (v : Told ℤ). v.used) q)
 number_is (trouble t) n e = let z : ◌≡◌ {A = ℕ} 0 1 = cc in absurd (omega arith)
 
 -- a byte that changes a set does not name one
@@ -109,7 +110,7 @@ module _ (bytes : List ℕ) where
 -- the number that a condition chooses; the bytes used are not told
 choice_value : (rn : List ℕ → NumberValue) (rc : List ℕ → ConditionValue) (e : List ℕ) (b : Bool) (x y : Value ℤ) (z : ℤ) (n m l : ℕ)
     → rc e ≡ condition_answer (value b) n → rn (drop n e) ≡ number_answer x m → span (drop n e) 0 1 ≡ m → rn (drop (n + m) e) ≡ number_answer y l
-    → cond b x y ≡ value z → (u : ℕ) × (run_choice rn rc e ≡ N.Value z u)
+    → cond b x y ≡ value z → (u : ℕ) × (run_choice rn rc e ≡ told_number z u)
 unfolding run_choice choice_first chosen number_before past_number number_answer condition_answer
 choice_value rn rc e true x y z n m l c first skip second chosen_is = (n + m + span (drop (n + m) e) 0 1, rw (c, first, chosen_is))
 choice_value rn rc e false x y z n m l c first skip second chosen_is = (n + m + l, rw (c, skip, second, chosen_is))
@@ -230,7 +231,7 @@ module _ (bytes words state : List ℕ) where
       let q = integer_is (drop at bytes) (word_is 4 (drop at bytes) (rw (length-drop at bytes) (omega arith))) in
       q ∙ ap (λ (z : ℤ). read z 4) (integer_there bytes at q)
 
-  closing_run : (at : ℕ) → ClosingForm bytes at → mag (closing_in bytes at words state) < range_end → (n : ℕ) × (run_number most_nesting here (drop at bytes) ≡ N.Value (closing_in bytes at words state) n)
+  closing_run : (at : ℕ) → ClosingForm bytes at → mag (closing_in bytes at words state) < range_end → (n : ℕ) × (run_number most_nesting here (drop at bytes) ≡ told_number (closing_in bytes at words state) n)
   unfolding number_form number_at number_behind past_number
   closing_run at f l =
       let run : List ℕ → NumberValue = λ g. run_number 31 here g in
@@ -258,7 +259,7 @@ module _ (bytes words state : List ℕ) where
 
   -- ---- values
 
-  told : (at : ℕ) (z : ℤ) → (mag z < range_end → (n : ℕ) × (run_number most_nesting here (drop at bytes) ≡ N.Value z n)) → BoundTold bytes at words state z
+  told : (at : ℕ) (z : ℤ) → (mag z < range_end → (n : ℕ) × (run_number most_nesting here (drop at bytes) ≡ told_number z n)) → BoundTold bytes at words state z
   told at z runs x n o reads l =
       let ran = runs l in
       (number_is _ n (sym (run_number_lem most_nesting here (drop at bytes) _ _ x n (outline_describes state o) reads) ∙ ran.1)).0

@@ -1,8 +1,8 @@
--- Conditions decided in place, sound or silent: a code of 0 or 1 is the answer, any other says nothing.
-use Rattle.std.specs.Prelude.{ℕ, ◌+◌, ◌%◌, ◌≤◌, ◌<◌, ◌≡◌, Bool, true, false, cond, List, length, get_or, drop, ltb, ℤ, pos, ◌+ℤ◌, ◌-ℤ◌}
+-- Conditions decided in place, sound or silent: what is answered is the condition's value; no answer says nothing.
+use Rattle.std.specs.Prelude.{ℕ, ◌+◌, ◌%◌, ◌≤◌, ◌<◌, ◌≡◌, Bool, cond, List, length, get_or, drop, ltb, ℤ, pos, ◌+ℤ◌, ◌-ℤ◌, Option, Some, None, IfSome}
 use Rattle.std.specs.Int.Signed.{mag, le_z}
 use Rattle.model.specs.Numbers.{range_end, range_size, most_nesting}
-use Rattle.model.specs.Values.{Value, value}
+use Rattle.model.specs.Values.{value}
 use Rattle.model.specs.Readers.{read}
 use Rattle.model.specs.Syntax.{Condition}
 use Rattle.model.specs.Expressions.{condition}
@@ -12,14 +12,10 @@ use Rattle.outline.specs.Outline.{model_of, Outlines}
 use Rattle.eval_sets.specs.Runs.{table_in, entry_of}
 use Rattle.quick.specs.Sets.{object_in}
 
-pub record Told (r : ℕ) (v : Value Bool) : Type 0 where
-  pub fails : r ≡ 0 → v ≡ value false
-  pub holds : r ≡ 1 → v ≡ value true
-
 -- of the condition that is read at `at`, in the state that the words stand for
-abbrev pub QuickSays : (bytes : List ℕ) (at : ℕ) (words state : List ℕ) → ℕ → Type 0
+abbrev pub QuickSays : (bytes : List ℕ) (at : ℕ) (words state : List ℕ) → Option Bool → Type 0
 QuickSays bytes at words state r = (x : Condition) (n : ℕ) → Outlines bytes words (model_of bytes) → condition (model_of bytes).variables (model_of bytes).tables most_nesting (drop at bytes) ≡ read x n
-    → Told r (condition_value range_end (model_of bytes).tables x (state_of (model_of bytes).variables state))
+    → IfSome r (λ b. condition_value range_end (model_of bytes).tables x (state_of (model_of bytes).variables state) ≡ value b)
 
 -- ---- 52 22 21 v 28 t 31 u 30 k 20 c: a number variable and a table's entry together are at most a number
 
@@ -46,6 +42,6 @@ module _ (bytes : List ℕ) (at : ℕ) where
     pub variable_fits : mag (variable_in state) < range_end
     pub entry_fits : mag (entry_in words state) < range_end
 
--- the code: a sum out of range is trouble, of which nothing is said
-unfoldable pub decided : (z c : ℤ) → ℕ
-decided z c = cond (ltb (mag z) range_end) (cond (le_z z c) 1 0) 2
+-- a sum out of range is trouble, of which nothing is said
+unfoldable pub decided : (z c : ℤ) → Option Bool
+decided z c = cond (ltb (mag z) range_end) (Some (le_z z c)) None

@@ -5,25 +5,21 @@ ghost use Rattle.std.specs.Int.Signed.{mag};
 ghost use Rattle.model.specs.Numbers.{range_end};
 ghost use Rattle.quick.specs.Entries.{EntryForm, entry_at};
 
-use crate::places::stands;
 use crate::sets::{begins_element, object};
 use laws::byte_at;
 use outline::layout::{PREPARED_WORDS, STATE_WORDS, TABLES};
 use outline::word_at;
+use prepare::tests::stands;
 use words::tables::entry;
 
 // Whether 28 t and two elements stand at a place.
 pub fn is_entry(model: &[u8], at: usize) -> bool
     ensures { result ≡ true → EntryForm model.now at }
 {
-    if stands(model, at, 6) {
-        if model[at] == 0x28 {
-            if begins_element(model[at + 2]) {
-                return begins_element(model[at + 4]);
-            }
-        }
-    }
-    false
+    stands(model, at, 6)
+        && model[at] == 0x28
+        && begins_element(model[at + 2])
+        && begins_element(model[at + 4])
 }
 
 // The table's entry at the row and the column that the elements are.

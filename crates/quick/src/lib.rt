@@ -6,44 +6,32 @@
 ghost use Rattle.std.specs.Prelude.{◌≡◌, true, ◌+◌, ◌≤◌, length};
 ghost use Rattle.quick.specs.Quick.{QuickSays, SumForm, SumIs, decided as decided_by};
 
-use crate::places::stands;
 use eval_sets::bytes::after;
 use laws::{byte_at, wide};
 use outline::layout::{PREPARED_WORDS, STATE_WORDS, TABLES};
 use outline::word_at;
+use prepare::tests::stands;
 use words::arithmetic::{in_range, signed_word, sum};
 use words::literals::integer;
 use words::sizes::MOST_OBJECTS;
 use words::tables::entry;
 
 pub mod entries;
-pub mod places;
 pub mod sets;
 pub mod sums;
-
-// The code that says nothing.
-pub const SILENT: u8 = 2;
 
 // Whether 52 22 21 v 28 t 31 u 30 k 20 and a number stand at a place.
 fn is_sum(model: &[u8], at: usize) -> bool
     ensures { result ≡ true → SumForm model.now at }
 {
-    if stands(model, at, 15) {
-        if model[at] == 0x52 {
-            if model[at + 1] == 0x22 {
-                if model[at + 2] == 0x21 {
-                    if model[at + 4] == 0x28 {
-                        if model[at + 6] == 0x31 {
-                            if model[at + 8] == 0x30 {
-                                return model[at + 10] == 0x20;
-                            }
-                        }
-                    }
-                }
-            }
-        }
-    }
-    false
+    stands(model, at, 15)
+        && model[at] == 0x52
+        && model[at + 1] == 0x22
+        && model[at + 2] == 0x21
+        && model[at + 4] == 0x28
+        && model[at + 6] == 0x31
+        && model[at + 8] == 0x30
+        && model[at + 10] == 0x20
 }
 
 // The number variable and the table's entry together.
@@ -65,25 +53,20 @@ fn summed(
 }
 
 // Whether z is at most c, where z is in range.
-fn decided(z: i64, c: i64) -> u8
+#[tactic(auto, unfolding(crate::specs::Quick::decided))]
+fn decided(z: i64, c: i64) -> Option<bool>
     ensures { result ≡ decided_by z c }
 {
-    if in_range(z) {
-        if z <= c {
-            return 1;
-        }
-        return 0;
-    }
-    SILENT
+    if in_range(z) { Some(z <= c) } else { None }
 }
 
-// Whether the condition at a place holds, 1 or 0; SILENT where this does not decide it.
+// Whether the condition at a place holds, where this decides it.
 pub fn condition(
     model: &[u8],
     at: usize,
     outline: &[u64; PREPARED_WORDS],
     state: &[u64; STATE_WORDS],
-) -> u8
+) -> Option<bool>
     ensures { QuickSays model.now at outline.now state.now result }
 {
     if is_sum(model, at) {
@@ -91,5 +74,5 @@ pub fn condition(
         let c = integer(after(model, at + 11));
         return decided(z, c);
     }
-    SILENT
+    None
 }

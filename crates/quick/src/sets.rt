@@ -5,25 +5,24 @@ ghost use Rattle.model.specs.Numbers.{most_objects};
 ghost use Rattle.prepare.specs.Forms.{MemberForm};
 ghost use Rattle.quick.specs.Sets.{begins_element, object_in, changes_set, ChangedForm, changed_in, JoinedForm, joined_in, member_in};
 
-use crate::places::stands;
 use laws::{byte_at, wide};
 use outline::layout::STATE_WORDS;
 use outline::word_at;
+use prepare::tests::stands;
 use words::literals::long;
 use words::sets::{difference, is_member, single, union};
 use words::sizes::MOST_OBJECTS;
 
 // Whether an element begins with this byte: 30 or 31.
+#[tactic(auto, unfolding(crate::specs::Sets::begins_element))]
 pub fn begins_element(b: u8) -> bool
     ensures { result ≡ begins_element b }
 {
-    if b == 0x30 {
-        return true;
-    }
-    b == 0x31
+    b == 0x30 || b == 0x31
 }
 
 // The object of the element 30 k, or of the element variable 31 k.
+#[tactic(auto, unfolding(crate::specs::Sets::object_in))]
 pub fn object(b: u8, k: u8, state: &[u64; STATE_WORDS]) -> u64
     ensures { (result ≡ object_in b k state.now) × (result < most_objects) }
 {
@@ -34,30 +33,25 @@ pub fn object(b: u8, k: u8, state: &[u64; STATE_WORDS]) -> u64
 }
 
 // Whether this byte adds an element or takes it out: 42 or 43.
+#[tactic(auto, unfolding(crate::specs::Sets::changes_set))]
 fn changes_set(b: u8) -> bool
     ensures { result ≡ changes_set b }
 {
-    if b == 0x42 {
-        return true;
-    }
-    b == 0x43
+    b == 0x42 || b == 0x43
 }
 
 // Whether 42 or 43, an element and 41 u stand at a place.
 pub fn is_changed(model: &[u8], at: usize) -> bool
     ensures { result ≡ true → ChangedForm model.now at }
 {
-    if stands(model, at, 5) {
-        if changes_set(model[at]) {
-            if begins_element(model[at + 1]) {
-                return model[at + 3] == 0x41;
-            }
-        }
-    }
-    false
+    stands(model, at, 5)
+        && changes_set(model[at])
+        && begins_element(model[at + 1])
+        && model[at + 3] == 0x41
 }
 
 // The set variable's members with the element, or without it.
+#[tactic(auto, unfolding(crate::specs::Sets::changed_by))]
 pub fn changed(model: &[u8], at: usize, state: &[u64; STATE_WORDS]) -> u64
     requires { ChangedForm model.now at }
     ensures { result ≡ changed_in model.now at state.now }
@@ -74,14 +68,7 @@ pub fn changed(model: &[u8], at: usize, state: &[u64; STATE_WORDS]) -> u64
 pub fn is_joined(model: &[u8], at: usize) -> bool
     ensures { result ≡ true → JoinedForm model.now at }
 {
-    if stands(model, at, 13) {
-        if model[at] == 0x44 {
-            if model[at + 1] == 0x41 {
-                return model[at + 3] == 0x40;
-            }
-        }
-    }
-    false
+    stands(model, at, 13) && model[at] == 0x44 && model[at + 1] == 0x41 && model[at + 3] == 0x40
 }
 
 // The members of the set variable and those that the eight bytes are.

@@ -4,12 +4,12 @@ ghost use Rattle.std.specs.Prelude.{◌≡◌, true, ◌+◌, ◌<◌};
 ghost use Rattle.model.specs.Numbers.{most_objects};
 ghost use Rattle.quick.specs.Sums.{VariableTotal, ChangedTotal, TotalForm, summed_set, summed_column, total_in, EndForm, end_in, ClosingForm, closing_in, bound_place, Remembers, Forgotten, Remembering, BoundTold, InnerTold};
 
-use crate::places::stands;
 use crate::sets::{changed, is_changed, object};
 use eval_sets::bytes::after;
 use laws::{byte_at, wide};
 use outline::layout::{BOUNDS, PREPARED_WORDS, STATE_WORDS, TABLES};
 use outline::word_at;
+use prepare::tests::stands;
 use words::arithmetic::{biased, in_range, signed_word};
 use words::literals::integer;
 use words::sizes::{MOST_OBJECTS, RANGE_END};
@@ -39,41 +39,25 @@ pub fn forget(sums: &mut [u64; SUM_WORDS])
 pub fn is_variable_total(model: &[u8], at: usize) -> bool
     ensures { result ≡ true → VariableTotal model.now at }
 {
-    if stands(model, at, 6) {
-        if model[at] == 0x2a {
-            if model[at + 2] == 0x41 {
-                return model[at + 4] == 0x30;
-            }
-        }
-    }
-    false
+    stands(model, at, 6) && model[at] == 0x2a && model[at + 2] == 0x41 && model[at + 4] == 0x30
 }
 
 // Whether 2A t, a set variable with an element added or taken out, and 30 j stand at a place.
 fn is_changed_total(model: &[u8], at: usize) -> bool
     ensures { result ≡ true → ChangedTotal model.now at }
 {
-    if stands(model, at, 9) {
-        if model[at] == 0x2a {
-            if is_changed(model, at + 2) {
-                return model[at + 7] == 0x30;
-            }
-        }
-    }
-    false
+    stands(model, at, 9) && model[at] == 0x2a && is_changed(model, at + 2) && model[at + 7] == 0x30
 }
 
 // Whether one of these totals stands at a place.
 fn is_total(model: &[u8], at: usize) -> bool
     ensures { result ≡ true → TotalForm model.now at }
 {
-    if is_variable_total(model, at) {
-        return true;
-    }
-    is_changed_total(model, at)
+    is_variable_total(model, at) || is_changed_total(model, at)
 }
 
 // The set that a total sums over.
+#[tactic(auto, unfolding(crate::specs::Sums::summed_set))]
 fn summed_set(model: &[u8], at: usize, state: &[u64; STATE_WORDS]) -> u64
     requires { TotalForm model.now at }
     ensures { result ≡ summed_set model.now at state.now }
@@ -85,6 +69,7 @@ fn summed_set(model: &[u8], at: usize, state: &[u64; STATE_WORDS]) -> u64
 }
 
 // The column that a total sums.
+#[tactic(auto, unfolding(crate::specs::Sums::summed_column))]
 fn summed_column(model: &[u8], at: usize) -> u64
     requires { TotalForm model.now at }
     ensures { (result ≡ summed_column model.now at) × (result < most_objects) }
@@ -124,17 +109,14 @@ pub fn last_total(
 {
     let key = wide(byte_at(model, at + 1)) + 256 * wide(byte_at(model, at + 5));
     let s = word_at(state, byte_at(model, at + 3) as usize);
-    if sums[LAST] == key {
-        if sums[LAST + 1] == s {
-            return signed_word(sums[LAST + 2]);
-        }
+    if sums[LAST] == key && sums[LAST + 1] == s {
+        return signed_word(sums[LAST + 2]);
     }
     let z = total_at(model, at, outline, state);
     if in_range(z) {
         sums[LAST] = key;
         sums[LAST + 1] = s;
         sums[LAST + 2] = biased(z);
-        return z;
     }
     z
 }
@@ -165,7 +147,6 @@ fn remembered(
     if in_range(z) {
         sums[2 * k] = s;
         sums[2 * k + 1] = biased(z);
-        return z;
     }
     z
 }
@@ -174,49 +155,35 @@ fn remembered(
 fn is_end(model: &[u8], at: usize) -> bool
     ensures { result ≡ true → EndForm model.now at }
 {
-    if stands(model, at, 9) {
-        if model[at] == 0x58 {
-            if model[at + 1] == 0x55 {
-                if model[at + 2] == 0x41 {
-                    if model[at + 4] == 0x53 {
-                        if model[at + 5] == 0x31 {
-                            return model[at + 7] == 0x30;
-                        }
-                    }
-                }
-            }
-        }
-    }
-    false
+    stands(model, at, 9)
+        && model[at] == 0x58
+        && model[at + 1] == 0x55
+        && model[at + 2] == 0x41
+        && model[at + 4] == 0x53
+        && model[at + 5] == 0x31
+        && model[at + 7] == 0x30
 }
 
 // Whether the set variable has no member and the element variable is the object.
+#[tactic(auto, unfolding(crate::specs::Sums::end_in))]
 fn at_end(model: &[u8], at: usize, state: &[u64; STATE_WORDS]) -> bool
     requires { EndForm model.now at }
     ensures { result ≡ end_in model.now at state.now }
 {
-    if word_at(state, byte_at(model, at + 3) as usize) == 0 {
-        let i = object(0x31, byte_at(model, at + 6), state);
-        let j = object(0x30, byte_at(model, at + 8), state);
-        return i == j;
-    }
-    false
+    word_at(state, byte_at(model, at + 3) as usize) == 0
+        && object(0x31, byte_at(model, at + 6), state)
+            == object(0x30, byte_at(model, at + 8), state)
 }
 
 // Whether 2B, such a condition, 20 with a number and such a total stand at a place.
 fn is_closing(model: &[u8], at: usize) -> bool
     ensures { result ≡ true → ClosingForm model.now at }
 {
-    if stands(model, at, 15) {
-        if model[at] == 0x2b {
-            if model[at + 10] == 0x20 {
-                if is_end(model, at + 1) {
-                    return is_total(model, at + 15);
-                }
-            }
-        }
-    }
-    false
+    stands(model, at, 15)
+        && model[at] == 0x2b
+        && model[at + 10] == 0x20
+        && is_end(model, at + 1)
+        && is_total(model, at + 15)
 }
 
 // The number at the end, bound k's total before it.
@@ -273,12 +240,8 @@ pub fn inner_sum(
 {
     if k < MOST_BOUNDS {
         let at = word_at(outline, BOUNDS + k) as usize;
-        if stands(model, at, 20) {
-            if model[at] == 0x23 {
-                if is_variable_total(model, at + 14) {
-                    return remembered(model, at + 14, outline, state, sums, k);
-                }
-            }
+        if stands(model, at, 20) && model[at] == 0x23 && is_variable_total(model, at + 14) {
+            return remembered(model, at + 14, outline, state, sums, k);
         }
     }
     RANGE_END

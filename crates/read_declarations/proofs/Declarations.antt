@@ -9,7 +9,9 @@ use lib.ListN.{length, get_or, drop, take, set, length-set}
 use lib.Seq.{get_or-set_same, get_or-set_other, take-suc-set}
 use lib.Dec.{eqb}
 use borrow.Author.Tests.{eq-eqb, ne_eqb}
-use Rattle.laws.proofs.Lists.{inside}
+use Rattle.laws.proofs.Lists as lists
+use Rattle.laws.proofs.Lists.{byte_inside}
+use Rattle.std.specs.Prelude.{Result, Ok, Err}
 use Rattle.model.specs.Numbers.{ends_early, off_limits}
 use Rattle.model.specs.Readers.{Read, read, refused, give, one}
 use Rattle.model.specs.Syntax.{Variable, Table}
@@ -20,14 +22,16 @@ use Rattle.words.specs.Tables.{table_word, Tabled}
 use Rattle.words.proofs.Entries.{entries_length, entries_cell}
 use Rattle.outline.specs.Outline.{VariableAt}
 use Rattle.read_declarations.specs.Positions.{read_at, position_of, Each}
-use Rattle.read_declarations.specs.Declarations.{Declares, DeclaredAs, VariablesRead, TablesRead}
+use Rattle.read_declarations.specs.Declarations.{sides_of, Declares, DeclaredAs, VariablesRead, TablesRead}
 use Rattle.words.proofs.Literal.{suffix}
+use Rattle.model.proofs.Reading.{tables_fair}
+use Rattle.read_forms.specs.Refusals.{number_of, named}
+use Rattle.read_forms.specs.declared.refusals.Refusal.{Refusal}
 use Rattle.read_declarations.specs.declared.Declaration.{Declaration}
-use Rattle.read_declarations.specs.declared.Declared.{Declared}
-use Rattle.read_declarations.specs.declared.Position.TheVariants.{At, Refused}
+use Rattle.read_declarations.specs.declared.Sides.{Sides}
 use Rattle.read_declarations.proofs.Operands.{cells_bound}
-use Rattle.read_declarations.proofs.Entries.{Sided}
-use Rattle.read_declarations.proofs.Positions.{reads_at, refuses_at, at_reads, give_at, position_read, position_refused, then_read, then_refused, rest, turn, turn_full, turn_head_refused, turn_body_refused, turn_end, turn_early}
+use Rattle.read_declarations.proofs.Entries.{Sided, sides_told, sides_refused}
+use Rattle.read_declarations.proofs.Positions.{fair_number, reads_at, refuses_at, at_reads, give_at, position_read, position_refused, then_read, then_refused, rest, turn, turn_full, turn_head_refused, turn_body_refused, turn_end, turn_early}
 use Rattle.read_declarations.proofs.Lists.{each_none, each_more, length_more, map_more}
 
 -- ---- variables
@@ -89,9 +93,9 @@ variable_due bytes at p q r = ap (among 0x02 3) (sym p) ∙ (sym q ∙ r)
 
 pub variable_inside : (bytes : List ℕ) (at : ℕ) → among 0x02 3 (get_or bytes at 0) ≡ true → at < length bytes
 unfolding among
-variable_inside bytes at h = inside bytes at (λ z. let q : ◌≡◌ {A = ℕ} 0 1 = cc (ap (among 0x02 3) z) in omega arith)
+variable_inside bytes at h = lists.inside bytes at (λ z. let q : ◌≡◌ {A = ℕ} 0 1 = cc (ap (among 0x02 3) z) in omega arith)
 
-pub declared_here : (bytes : List ℕ) (at : ℕ) {b : ℕ} {r s : Declared} → b ≡ get_or bytes at 0 → r ≡ s → DeclaredAs (variable_of b (take (length bytes - (at + 1)) (drop (at + 1) bytes))) r
+pub declared_here : (bytes : List ℕ) (at : ℕ) {b : ℕ} {r s : Result Declaration Refusal} → b ≡ get_or bytes at 0 → r ≡ s → DeclaredAs (variable_of b (take (length bytes - (at + 1)) (drop (at + 1) bytes))) r
     → DeclaredAs (variable_of (get_or bytes at 0) (drop (at + 1) bytes)) s
 declared_here bytes at {s = s} p q h = rw (← p, ← q, ← suffix (at + 1) bytes) h
 
@@ -123,7 +127,13 @@ no_variables {words = words} h l = record {
 }
 
 module _ {bytes : List ℕ} {start : ℕ} {kinds words : List ℕ} {at n : ℕ} (s : VariablesSoFar bytes start kinds words at n) where
-  module _ (inside : at < length bytes) (due : among 0x02 3 (get_or bytes at 0) ≡ true) where
+  pub variables_so_far : {T : Type 0} → T → (length kinds ≡ 16) × (length words ≡ 80) × T
+  variables_so_far h = (s.kinds_length, s.words_length, h)
+
+  module _ (due : among 0x02 3 (get_or bytes at 0) ≡ true) where
+    inside : at < length bytes
+    inside = variable_inside bytes at due
+
     pub variable_more : {d : Declaration} → Declares (variable_of (get_or bytes at 0) (drop (at + 1) bytes)) d → n < 16
         → VariablesSoFar bytes start (set kinds n d.kind) (stored words n d) (at + 1 + d.used) (n + 1)
     variable_more {d} h less =
@@ -171,6 +181,13 @@ tables_rest bytes = rest (λ b. eqb b 0x05) (λ b done. sides) table_of bytes
 abbrev TabledIn : (bytes words : List ℕ) → ℕ → Table → Type 0
 TabledIn bytes words k t = Tabled bytes (get_or words k 0) t
 
+module _ (bytes : List ℕ) (at : ℕ) where
+  pub sided_here : {s : Sides} → Ok s ≡ sides_of (sides (take (length bytes - (at + 1)) (drop (at + 1) bytes))) → Sided (drop (at + 1) bytes) s.rows s.columns
+  sided_here {s} h = sides_told (drop (at + 1) bytes) s (rw (suffix (at + 1) bytes) at h)
+
+  pub refused_here : {r : Refusal} → Err r ≡ sides_of (sides (take (length bytes - (at + 1)) (drop (at + 1) bytes))) → Err r ≡ sides_of (sides (drop (at + 1) bytes))
+  refused_here h = rw (suffix (at + 1) bytes) at h
+
 pub record TablesSoFar (bytes : List ℕ) (start : ℕ) (rows columns words : List ℕ) (at n : ℕ) : Type 0 where
   pub few : n ≤ 32
   pub rows_length : length rows ≡ 32
@@ -202,27 +219,43 @@ tabled_before : (bytes words : List ℕ) (n w k : ℕ) (t : Table) → k < n →
 tabled_before bytes words n w k t less h = rw (get_or-set_other words n k w 0 (λ q. omega arith)) h
 
 module _ {bytes : List ℕ} {start : ℕ} {rows columns words : List ℕ} {at n : ℕ} (s : TablesSoFar bytes start rows columns words at n) where
-  module _ (inside : at < length bytes) (due : get_or bytes at 0 ≡ 5) where
+  pub tables_so_far : {T : Type 0} → T → (length rows ≡ 32) × (length columns ≡ 32) × (length words ≡ 32) × T
+  tables_so_far h = (s.rows_length, s.columns_length, s.words_length, h)
+
+  module _ (due : get_or bytes at 0 ≡ 5) where
+    pub table_inside : at < length bytes
+    table_inside = byte_inside bytes at 5 (omega arith) due
+
     due_table : eqb (get_or bytes at 0) 5 ≡ true
     due_table = eq-eqb (get_or bytes at 0) 5 due
 
-    pub table_head_refused : {t : ℕ} → sides (drop (at + 1) bytes) ≡ refused t → read_at tables start bytes ≡ refused t
-    table_head_refused h = sym s.going_on ∙ turn_head_refused (λ b. eqb b 0x05) (λ b done. sides) table_of bytes 32 n s.items at inside due_table (refuses_at sides (at + 1) bytes h)
+    -- the refusal that is named is the tables' own
+    its_own : {r : Refusal} {t : ℕ} → read_at tables start bytes ≡ refused t → r ≡ named t → read_at tables start bytes ≡ refused (number_of r)
+    its_own h q = h ∙ ap refused (sym (ap number_of q ∙ fair_number tables start bytes tables_fair h))
+
+    head_refused : {t : ℕ} → sides (drop (at + 1) bytes) ≡ refused t → read_at tables start bytes ≡ refused t
+    head_refused h = sym s.going_on ∙ turn_head_refused (λ b. eqb b 0x05) (λ b done. sides) table_of bytes 32 n s.items at table_inside due_table (refuses_at sides (at + 1) bytes h)
+
+    pub table_head_refused : {r : Refusal} → Err r ≡ sides_of (sides (drop (at + 1) bytes)) → read_at tables start bytes ≡ refused (number_of r)
+    table_head_refused q =
+        let h = sides_refused (drop (at + 1) bytes) q in
+        its_own (head_refused h.1) h.2
 
     module _ {r c : ℕ} (g : Sided (drop (at + 1) bytes) r c) where
       head_reads : read_at sides (at + 1) bytes ≡ read (r, c) (at + 3)
       head_reads = let p : at + 1 + 2 ≡ at + 3 = omega arith in reads_at sides (at + 1) bytes g.reads ∙ ap (read (r, c)) p
 
       pub table_too_many : n ≡ 32 → read_at tables start bytes ≡ refused off_limits
-      table_too_many full = sym s.going_on ∙ turn_full (λ b. eqb b 0x05) (λ b done. sides) table_of bytes 32 n s.items at full inside due_table head_reads
+      table_too_many full = sym s.going_on ∙ turn_full (λ b. eqb b 0x05) (λ b done. sides) table_of bytes 32 n s.items at full table_inside due_table head_reads
 
-      pub table_body_refused : n < 32 → {t : ℕ} → Refused t ≡ position_of (read_at (entries (r * c)) (at + 3) bytes) → read_at tables start bytes ≡ refused t
+      pub table_body_refused : n < 32 → {x : Refusal} → Err x ≡ position_of (read_at (entries (r * c)) (at + 3) bytes) → read_at tables start bytes ≡ refused (number_of x)
       unfolding table_of one
       table_body_refused less q =
-          sym s.going_on ∙ turn_body_refused (λ b. eqb b 0x05) (λ b done. sides) table_of bytes 32 n s.items at less inside due_table head_reads
-          (then_refused (entries (r * c)) (at + 3) bytes _ (position_refused (read_at (entries (r * c)) (at + 3) bytes) q))
+          let h = position_refused (read_at (entries (r * c)) (at + 3) bytes) q in
+          its_own (sym s.going_on ∙ turn_body_refused (λ b. eqb b 0x05) (λ b done. sides) table_of bytes 32 n s.items at less table_inside due_table head_reads
+          (then_refused (entries (r * c)) (at + 3) bytes _ h.1)) h.2
 
-      pub table_more : n < 32 → length bytes ≤ 65536 → {end w : ℕ} → At end ≡ position_of (read_at (entries (r * c)) (at + 3) bytes) → w ≡ table_word (at + 3) c (r * c)
+      pub table_more : n < 32 → length bytes ≤ 65536 → {end w : ℕ} → Ok end ≡ position_of (read_at (entries (r * c)) (at + 3) bytes) → w ≡ table_word (at + 3) c (r * c)
           → TablesSoFar bytes start (set rows n r) (set columns n c) (set words n w) end (n + 1)
       unfolding table_of one
       table_more less near {end} {w} q e =
@@ -239,7 +272,7 @@ module _ {bytes : List ℕ} {start : ℕ} {rows columns words : List ℕ} {at n 
           let tabled : Tabled bytes w x = record {
             at = at + 3;
             packed = e ∙ ap (table_word (at + 3) c) (sym size);
-            near = omega arith;
+            near = omega (arith, table_inside);
             narrow = omega (arith, g.low_columns);
             few = omega (arith, size);
             cells = λ k h. entries_cell (r * c) bytes (at + 3) l here.0 here.1 k (omega (arith, size));
@@ -255,7 +288,7 @@ module _ {bytes : List ℕ} {start : ℕ} {rows columns words : List ℕ} {at n 
             column_bytes = rw (add-one n, take-suc-set columns n c in_columns, s.column_bytes, map_more (λ (t : Table). t.columns) s.items x);
             outlined = each_more (TabledIn bytes words) (TabledIn bytes (set words n w)) s.items x s.outlined
                 (λ k t h v. tabled_before bytes words n w k t (omega (arith, s.count)) v) (rw (s.count, get_or-set_same words n w 0 in_words) tabled);
-            going_on = sym (turn (λ b. eqb b 0x05) (λ b done. sides) table_of bytes 32 n s.items at less inside due_table head_reads body) ∙ s.going_on;
+            going_on = sym (turn (λ b. eqb b 0x05) (λ b done. sides) table_of bytes 32 n s.items at less table_inside due_table head_reads body) ∙ s.going_on;
           }
 
   pub tables_end : at < length bytes → (get_or bytes at 0 ≡ 5 → ⊥) → TablesRead bytes (read_at tables start bytes) rows columns words at n

@@ -1,6 +1,6 @@
 -- Laws of reading at positions: one reader behind the other, and the turns of a loop of commands.
 use Prim.Native.Nat.{ℕ, suc, ◌+◌, ◌-◌, ◌<◌, ◌≤◌}
-use mathlib.Core.Path.{◌≡◌, refl, sym, ap, ◌∙◌}
+use mathlib.Core.Path.{◌≡◌, refl, sym, ap, subst, ◌∙◌}
 use mathlib.Core.Bool.{Bool, true, false}
 use mathlib.Core.List.{List, [], ◌∷◌, ◌++◌, reverse, reverse-append, reverse-reverse}
 use native.Mathlib.Omega.{arith}
@@ -8,13 +8,18 @@ use native.Mathlib.Nat.{add-zero}
 use native.Mathlib.Numerals.{add-one}
 use lib.ListN.{length, drop, get_or, length-drop}
 use lib.Seq.{drop-cons, drop-drop}
-use borrow.Author.Tests.{eq-eqb, ne_eqb}
+use lib.Dec.{ltb, eqb}
+use borrow.Author.Tests.{eq-eqb, ne_eqb, eqb-true, eqb_apart, ltb-true, ltb-false}
+use Rattle.std.specs.Prelude.{Result, Ok, Err, IsErrAnd}
 use Rattle.model.specs.Numbers.{ends_early, not_due, off_limits}
 use Rattle.model.specs.Readers.{Read, read, refused, Reader, after, continue, ◌>>=◌, ◌>>◌, give, require, byte, command, many}
 use Rattle.model.proofs.Chains.{after_read}
+use Rattle.model.proofs.Fair.{Fair, ReadBy, refused_by}
 use Rattle.model.proofs.Loops.{after_after, many_more, many_end, many_full, many_early, many_head_refused, many_body_refused}
+use Rattle.read_forms.specs.Refusals.{number_of, named}
+use Rattle.read_forms.specs.declared.refusals.Refusal.{Refusal}
+use Rattle.read_forms.proofs.Numbered.{number_named}
 use Rattle.read_declarations.specs.Positions.{read_at, position_of}
-use Rattle.read_declarations.specs.declared.Position.TheVariants.{At, Refused}
 
 -- ---- the bytes at a position
 
@@ -28,16 +33,22 @@ nothing bytes at h = go (drop at bytes) (omega (arith, length-drop at bytes))
     go [] q = refl
     go (b ∷ e) q = let z : ⊥ = omega arith in absurd z
 
+-- ---- a refusal that is passed on
+
+pub passed_on : {A : Type 0} (x : Result A Refusal) {r : Refusal} → IsErrAnd x (λ q. q ≡ r) → x ≡ Err r
+passed_on (Ok a) h = absurd h
+passed_on (Err q) h = ap Err h
+
 -- ---- what was read, by its position
 
 module _ {A : Type 0} where
-  pub position_read : (x : Read A) {n : ℕ} → At n ≡ position_of x → (a : A) × (x ≡ read a n)
+  pub position_read : (x : Read A) {n : ℕ} → Ok n ≡ position_of x → (a : A) × (x ≡ read a n)
   position_read (read a k) {n} q = let h : k ≡ n = cc in (a, ap (read a) h)
   position_read (refused t) q = let z : ◌≡◌ {A = ℕ} 0 1 = cc in absurd (omega arith)
 
-  pub position_refused : (x : Read A) {t : ℕ} → Refused t ≡ position_of x → x ≡ refused t
+  pub position_refused : (x : Read A) {r : Refusal} → Err r ≡ position_of x → (t : ℕ) × (x ≡ refused t) × (r ≡ named t)
   position_refused (read a k) q = let z : ◌≡◌ {A = ℕ} 0 1 = cc in absurd (omega arith)
-  position_refused (refused u) {t} q = let h : u ≡ t = cc in ap refused h
+  position_refused (refused t) {r} q = let h : r ≡ named t = cc in (t, refl, h)
 
   after_refused : (at : ℕ) (x : Read A) {t : ℕ} → after at x ≡ refused t → x ≡ refused t
   unfolding after
@@ -60,6 +71,13 @@ module _ {A : Type 0} where
     pub at_refuses : {t : ℕ} → read_at r at bytes ≡ refused t → r (drop at bytes) ≡ refused t
     unfolding read_at
     at_refuses e = after_refused at (r (drop at bytes)) e
+
+    -- a reader of the format refuses by the number of the refusal that is named
+    pub fair_number : Fair r → {t : ℕ} → read_at r at bytes ≡ refused t → number_of (named t) ≡ t
+    fair_number fair {t} e = let h = refused_by (subst (ReadBy ◌≤◌ (drop at bytes)) (at_refuses e) (fair (drop at bytes))) in number_named t h.0 h.1
+
+    pub fair_refusal : Fair r → {x : Refusal} → Err x ≡ position_of (read_at r at bytes) → read_at r at bytes ≡ refused (number_of x)
+    fair_refusal fair q = let h = position_refused (read_at r at bytes) q in h.1 ∙ ap refused (sym (ap number_of h.2 ∙ fair_number fair h.1))
 
   pub give_at : (a : A) (at : ℕ) (bytes : List ℕ) → read_at (give a) at bytes ≡ read a at
   unfolding read_at after give
@@ -94,11 +112,19 @@ module _ {A B : Type 0} (r : Reader A) (at : ℕ) (bytes : List ℕ) where
   given_at make = go (r (drop at bytes))
     where
       go : (x : Read A) → position_of (after at (continue x (λ a. give (make a)) (drop at bytes))) ≡ position_of (after at x)
-      go (read a n) = ap At (ap (λ (k : ℕ). at + k) (add-zero n))
+      go (read a n) = ap Ok (ap (λ (k : ℕ). at + k) (add-zero n))
       go (refused t) = refl
 
 -- what two readers, one behind the other, read
 module _ {A B : Type 0} (r : Reader A) (next : Reader B) (at : ℕ) (bytes : List ℕ) where
+  pub next_goes_on : {m : ℕ} → Ok m ≡ position_of (read_at r at bytes) → read_at (r >> next) at bytes ≡ read_at next m bytes
+  next_goes_on q = next_read r at bytes next (position_read (read_at r at bytes) q).1
+
+  pub next_stops : {x : Refusal} → Err x ≡ position_of (read_at r at bytes) → Err x ≡ position_of (read_at (r >> next) at bytes)
+  next_stops q =
+      let h = position_refused (read_at r at bytes) q in
+      q ∙ (ap position_of h.1 ∙ sym (ap position_of (next_refused r at bytes next h.1)))
+
   pub next_split : {b : B} {n : ℕ} → read_at (r >> next) at bytes ≡ read b n → (a : A) × (m : ℕ) × (read_at r at bytes ≡ read a m) × (read_at next m bytes ≡ read b n)
   next_split {b} {n} e = go (read_at r at bytes) refl
     where
@@ -120,6 +146,25 @@ module _ (c at : ℕ) (bytes : List ℕ) where
   pub command_early : length bytes ≤ at → read_at (command c) at bytes ≡ refused ends_early
   unfolding command ◌>>=◌ continue byte
   command_early h = refuses_at (command c) at bytes (rw (nothing bytes at h))
+
+  -- the byte that is read stands at the position
+  pub record There (m : ℕ) : Type 0 where
+    pub inside : at < length bytes
+    pub is : get_or bytes at 0 ≡ c
+    pub behind : m ≡ at + 1
+
+  pub command_read : {m : ℕ} → Ok m ≡ position_of (read_at (command c) at bytes) → There m
+  command_read {m} q = go (ltb at (length bytes)) refl (eqb (get_or bytes at 0) c) refl
+    where
+      go : (t : Bool) → ltb at (length bytes) ≡ t → (u : Bool) → eqb (get_or bytes at 0) c ≡ u → There m
+      go true h true e =
+          let i : at < length bytes = ltb-true at (length bytes) h in
+          let k : get_or bytes at 0 ≡ c = eqb-true (get_or bytes at 0) c e in
+          let g : Ok m ≡ Ok (at + 1) = q ∙ ap position_of (command_there i k) in
+          let l : m ≡ at + 1 = cc in
+          record { inside = i; is = k; behind = l }
+      go true h false e = let k = q ∙ ap position_of (command_other (ltb-true at (length bytes) h) (eqb_apart (get_or bytes at 0) c e)) in let z : ◌≡◌ {A = ℕ} 0 1 = cc in absurd (omega arith)
+      go false h u e = let k = q ∙ ap position_of (command_early (ltb-false at (length bytes) h)) in let z : ◌≡◌ {A = ℕ} 0 1 = cc in absurd (omega arith)
 
 -- ---- a loop of commands, at a position, with the items read before it in their order
 

@@ -1,5 +1,5 @@
 -- What the readers of variables and tables answer, and what they put into bytes and words.
-use Rattle.std.specs.Prelude.{ℕ, ◌≤◌, ◌≡◌, List, map, length, get_or, take, ℤ}
+use Rattle.std.specs.Prelude.{Result, Ok, Err, ℕ, ◌≤◌, ◌≡◌, List, map, length, get_or, take, ℤ}
 use Rattle.model.specs.Numbers.{most_model_bytes, most_variables, most_tables}
 use Rattle.model.specs.Readers.{Read, read, refused, Reader, ◌>>◌, integer, command}
 use Rattle.model.specs.Syntax.{Variable, Table}
@@ -8,13 +8,11 @@ use Rattle.words.specs.States.{value_of}
 use Rattle.words.specs.Signature.{kind_byte, WellFormed}
 use Rattle.words.specs.Tables.{Tabled}
 use Rattle.outline.specs.Outline.{preference_number, VariableAt}
+use Rattle.read_forms.specs.Refusals.{number_of, named}
+use Rattle.read_forms.specs.declared.refusals.Refusal.{Refusal}
 use Rattle.read_declarations.specs.declared.Declaration.{Declaration}
-use Rattle.read_declarations.specs.declared.Declared.{Declared}
-use Rattle.read_declarations.specs.declared.Declared.TheVariants as D
 use Rattle.read_declarations.specs.declared.Listed.{Listed}
-use Rattle.read_declarations.specs.declared.Listed.TheVariants as L
 use Rattle.read_declarations.specs.declared.Sides.{Sides}
-use Rattle.read_declarations.specs.declared.Sides.TheVariants as S
 use Rattle.read_declarations.specs.Positions.{read_at, Each}
 
 -- ---- 02, 03, 04
@@ -28,9 +26,9 @@ pub record Declares (x : Read Variable) (d : Declaration) : Type 0 where
   pub start : value_of variable.kind d.start ≡ variable.start
   pub well_formed : WellFormed variable
 
-abbrev pub DeclaredAs : Read Variable → Declared → Type 0
-DeclaredAs x (D.Variable d) = Declares x d
-DeclaredAs x (D.Refused t) = x ≡ refused t
+abbrev pub DeclaredAs : Read Variable → Result Declaration Refusal → Type 0
+DeclaredAs x (Ok d) = Declares x d
+DeclaredAs x (Err r) = x ≡ refused (number_of r)
 
 -- the variables that are read, a byte and three words for each
 pub record VariablesRead (x : Read (List Variable)) (kinds words : List ℕ) (end n : ℕ) : Type 0 where
@@ -41,19 +39,19 @@ pub record VariablesRead (x : Read (List Variable)) (kinds words : List ℕ) (en
   pub kind_bytes : take n kinds ≡ map kind_byte variables
   pub outlined : Each (VariableAt words) variables
 
-abbrev pub VariablesTold : Read (List Variable) → (kinds words : List ℕ) → Listed → Type 0
-VariablesTold x kinds words (L.Items end n) = VariablesRead x kinds words end n
-VariablesTold x kinds words (L.Refused t) = x ≡ refused t
+abbrev pub VariablesTold : Read (List Variable) → (kinds words : List ℕ) → Result Listed Refusal → Type 0
+VariablesTold x kinds words (Ok l) = VariablesRead x kinds words l.end l.count
+VariablesTold x kinds words (Err r) = x ≡ refused (number_of r)
 
 -- with as many bytes and words as there were
-abbrev pub VariablesAs : (bytes : List ℕ) (start : ℕ) (kinds words : List ℕ) → Listed → Type 0
+abbrev pub VariablesAs : (bytes : List ℕ) (start : ℕ) (kinds words : List ℕ) → Result Listed Refusal → Type 0
 VariablesAs bytes start kinds words r = (length kinds ≡ 16) × (length words ≡ 80) × VariablesTold (read_at variables start bytes) kinds words r
 
 -- ---- 05, 06
 
-abbrev pub sides_of : Read (ℕ × ℕ) → Sides
-sides_of (read p n) = S.Good p.0 p.1
-sides_of (refused t) = S.Refused t
+abbrev pub sides_of : Read (ℕ × ℕ) → Result Sides Refusal
+sides_of (read p n) = Ok (record { rows = p.0; columns = p.1 })
+sides_of (refused t) = Err (named t)
 
 -- 06 and an integer
 abbrev pub one_entry : Reader ℤ
@@ -69,9 +67,9 @@ pub record TablesRead (bytes : List ℕ) (x : Read (List Table)) (rows columns w
   pub column_bytes : take n columns ≡ map (λ t. t.columns) tables
   pub outlined : Each (λ k t. Tabled bytes (get_or words k 0) t) tables
 
-abbrev pub TablesTold : List ℕ → Read (List Table) → (rows columns words : List ℕ) → Listed → Type 0
-TablesTold bytes x rows columns words (L.Items end n) = TablesRead bytes x rows columns words end n
-TablesTold bytes x rows columns words (L.Refused t) = x ≡ refused t
+abbrev pub TablesTold : List ℕ → Read (List Table) → (rows columns words : List ℕ) → Result Listed Refusal → Type 0
+TablesTold bytes x rows columns words (Ok l) = TablesRead bytes x rows columns words l.end l.count
+TablesTold bytes x rows columns words (Err r) = x ≡ refused (number_of r)
 
 -- what the reader of tables needs: a model that is not too long, and room for the sides and the word of each table
 pub record TablesRoom (bytes rows columns words : List ℕ) : Type 0 where
@@ -80,5 +78,5 @@ pub record TablesRoom (bytes rows columns words : List ℕ) : Type 0 where
   pub columns_long : length columns ≡ most_tables
   pub words_long : length words ≡ most_tables
 
-abbrev pub TablesAs : (bytes : List ℕ) (start : ℕ) (rows columns words : List ℕ) → Listed → Type 0
+abbrev pub TablesAs : (bytes : List ℕ) (start : ℕ) (rows columns words : List ℕ) → Result Listed Refusal → Type 0
 TablesAs bytes start rows columns words r = (length rows ≡ 32) × (length columns ≡ 32) × (length words ≡ 32) × TablesTold bytes (read_at tables start bytes) rows columns words r

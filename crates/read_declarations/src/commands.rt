@@ -1,45 +1,37 @@
-// What stands at a position of the model's bytes.
+// What stands at a position of the model's bytes: the position behind it.
 
 ghost use Rattle.std.specs.Prelude.{◌≡◌};
 ghost use Rattle.model.specs.Readers.{command};
 ghost use Rattle.model.specs.Commands.{cost_rule};
 ghost use Rattle.read_declarations.specs.Positions.{read_at, position_of};
 
-use crate::Position;
-use read_forms::{ENDS_EARLY, NOT_DUE, OFF_LIMITS};
+use read_forms::refusals::Refusal;
 
 // The command byte c.
-pub fn command_at(model: &[u8], at: usize, c: u8) -> Position
+pub fn command_at(model: &[u8], at: usize, c: u8) -> Result<usize, Refusal>
     ensures { result ≡ position_of (read_at (command c) at model.now) }
 {
-    if at < model.len() {
-        if model[at] == c {
-            Position::At(at + 1)
-        } else {
-            Position::Refused(NOT_DUE)
-        }
+    if model.len() <= at {
+        return Err(Refusal::EndsEarly);
+    }
+    if model[at] == c {
+        Ok(at + 1)
     } else {
-        Position::Refused(ENDS_EARLY)
+        Err(Refusal::NotDue)
     }
 }
 
 // 01 and the cost rule.
-pub fn cost_rule(model: &[u8]) -> Position
+pub fn cost_rule(model: &[u8]) -> Result<usize, Refusal>
     ensures { result ≡ position_of (read_at cost_rule 0 model.now) }
 {
-    if model.len() == 0 {
-        return Position::Refused(ENDS_EARLY);
+    let at = command_at(model, 0, 0x01)?;
+    if model.len() <= at {
+        return Err(Refusal::EndsEarly);
     }
-    if model[0] == 0x01 {
-        if model.len() == 1 {
-            return Position::Refused(ENDS_EARLY);
-        }
-        if model[1] < 2 {
-            Position::At(2)
-        } else {
-            Position::Refused(OFF_LIMITS)
-        }
+    if model[at] < 2 {
+        Ok(at + 1)
     } else {
-        Position::Refused(NOT_DUE)
+        Err(Refusal::OffLimits)
     }
 }

@@ -11,18 +11,11 @@ pub const MOST_VARIABLES: usize = 16;
 
 const MOST_TABLES: usize = 32;
 
-// The position behind what was read; or the number of a refusal.
+// A group of commands: the position behind it, and how many they are.
 #[derive(Clone, Copy)]
-pub enum Position {
-    At(usize),
-    Refused(u8),
-}
-
-// The position behind a group of commands and how many they are; or the number of a refusal.
-#[derive(Clone, Copy)]
-pub enum Listed {
-    Items(usize, usize),
-    Refused(u8),
+pub struct Listed {
+    pub end: usize,
+    pub count: usize,
 }
 
 // A variable: the bytes of its operands, its kind and objects as a byte, its preference, the word of its start.
@@ -34,15 +27,9 @@ pub struct Declaration {
     pub start: u64,
 }
 
+// A table's rows and columns.
 #[derive(Clone, Copy)]
-pub enum Declared {
-    Variable(Declaration),
-    Refused(u8),
-}
-
-// A table's rows and columns; or the number of a refusal.
-#[derive(Clone, Copy)]
-pub enum Sides {
-    Good(u8, u8),
-    Refused(u8),
+pub struct Sides {
+    pub rows: u8,
+    pub columns: u8,
 }

@@ -6,65 +6,49 @@ ghost use Rattle.words.specs.Tables.{table_word};
 ghost use Rattle.read_declarations.specs.Positions.{read_at, position_of};
 ghost use Rattle.read_declarations.specs.Declarations.{sides_of, one_entry, TablesRoom, TablesAs};
 
+use crate::commands::command_at;
 use crate::variables::is_count;
-use crate::{Listed, MOST_TABLES, Position, Sides};
+use crate::{Listed, MOST_TABLES, Sides};
 use laws::{byte_at, wide};
-use read_forms::{ENDS_EARLY, NOT_DUE, OFF_LIMITS};
+use read_forms::refusals::Refusal;
 
 // A table's rows and columns.
-fn sides(e: &[u8]) -> Sides
+fn sides(e: &[u8]) -> Result<Sides, Refusal>
     ensures { result ≡ sides_of (commands.sides e.now) }
 {
-    if 2 <= e.len() {
-        let rows = e[0];
-        let columns = e[1];
-        if is_count(rows) {
-            if is_count(columns) {
-                return Sides::Good(rows, columns);
-            }
-            return Sides::Refused(OFF_LIMITS);
-        }
-        Sides::Refused(OFF_LIMITS)
+    if e.len() < 2 {
+        return Err(Refusal::EndsEarly);
+    }
+    let rows = e[0];
+    let columns = e[1];
+    if is_count(rows) && is_count(columns) {
+        Ok(Sides { rows, columns })
     } else {
-        Sides::Refused(ENDS_EARLY)
+        Err(Refusal::OffLimits)
     }
 }
 
-// 06 and an entry.
-fn entry(model: &[u8], at: usize) -> Position
+// 06 and an entry: the position behind it.
+fn entry(model: &[u8], at: usize) -> Result<usize, Refusal>
     ensures { result ≡ position_of (read_at one_entry at model.now) }
 {
-    if at < model.len() {
-        if model[at] == 0x06 {
-            if 5 <= model.len() - at {
-                Position::At(at + 5)
-            } else {
-                Position::Refused(ENDS_EARLY)
-            }
-        } else {
-            Position::Refused(NOT_DUE)
-        }
+    let behind = command_at(model, at, 0x06)?;
+    if 4 <= model.len() - behind {
+        Ok(behind + 4)
     } else {
-        Position::Refused(ENDS_EARLY)
+        Err(Refusal::EndsEarly)
     }
 }
 
-// So many entries.
-fn entries(model: &[u8], start: usize, count: usize) -> Position
+// So many entries: the position behind them.
+fn entries(model: &[u8], start: usize, count: usize) -> Result<usize, Refusal>
     ensures { result ≡ position_of (read_at (commands.entries count) start model.now) }
 {
     let mut at = start;
-    let mut left = count;
-    while 0 < left {
-        match entry(model, at) {
-            Position::At(p) => {
-                at = p;
-                left = left - 1;
-            }
-            Position::Refused(t) => return Position::Refused(t),
-        }
+    for _ in 0..count {
+        at = entry(model, at)?;
     }
-    Position::At(at)
+    Ok(at)
 }
 
 // The word of a table whose entries begin at a position.
@@ -82,37 +66,28 @@ pub fn tables(
     rows: &mut [u8],
     columns: &mut [u8],
     words: &mut [u64],
-) -> Listed
+) -> Result<Listed, Refusal>
     requires { TablesRoom model.now rows.old columns.old words.old }
     ensures { TablesAs model.now start rows.new columns.new words.new result }
 {
     let mut at = start;
     let mut n: usize = 0;
     while byte_at(model, at) == 0x05 {
-        let behind = at + 1;
-        match sides(&model[behind..]) {
-            Sides::Good(r, c) => {
-                if n == MOST_TABLES {
-                    return Listed::Refused(OFF_LIMITS);
-                }
-                let first = at + 3;
-                match entries(model, first, (wide(r) * wide(c)) as usize) {
-                    Position::At(end) => {
-                        rows[n] = r;
-                        columns[n] = c;
-                        words[n] = packed(first, r, c);
-                        at = end;
-                        n = n + 1;
-                    }
-                    Position::Refused(t) => return Listed::Refused(t),
-                }
-            }
-            Sides::Refused(t) => return Listed::Refused(t),
+        let sides = sides(&model[at + 1..])?;
+        if n == MOST_TABLES {
+            return Err(Refusal::OffLimits);
         }
+        let first = at + 3;
+        let cells = (wide(sides.rows) * wide(sides.columns)) as usize;
+        at = entries(model, first, cells)?;
+        rows[n] = sides.rows;
+        columns[n] = sides.columns;
+        words[n] = packed(first, sides.rows, sides.columns);
+        n += 1;
     }
     if at < model.len() {
-        Listed::Items(at, n)
+        Ok(Listed { end: at, count: n })
     } else {
-        Listed::Refused(ENDS_EARLY)
+        Err(Refusal::EndsEarly)
     }
 }

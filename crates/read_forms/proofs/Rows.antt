@@ -13,7 +13,8 @@ use Rattle.read_forms.specs.Layouts.{Row, ◌begins◌, refusal_of, layout_in, l
 use Rattle.read_forms.specs.declared.Due.{Due}
 use Rattle.read_forms.specs.declared.Due.TheVariants as D
 use Rattle.read_forms.specs.declared.Layout.{Layout}
-use Rattle.read_forms.specs.declared.Layout.TheVariants.{Integer, Unknown}
+use Rattle.read_forms.specs.declared.Layout.TheVariants.{Integer}
+use Rattle.std.specs.Prelude.{Ok, Err}
 
 abbrev layout_of_row : Row → Layout
 layout_of_row (b begins l) = l
@@ -29,25 +30,25 @@ of_kind x b = among (rows_of x).first (rows_of x).count b
 abbrev not_of_kind : Due → ℕ → Bool
 not_of_kind x b = cond (of_kind x b) false true
 
-pub row_at : (x : Due) (b : ℕ) → b < 256 → of_kind x b ≡ true → get_or all_layouts ((rows_of x).at + (b - (rows_of x).first)) Integer ≡ layout_of x b
+pub row_at : (x : Due) (b : ℕ) → b < 256 → of_kind x b ≡ true → Ok (get_or all_layouts ((rows_of x).at + (b - (rows_of x).first)) Integer) ≡ layout_of x b
 unfolding all_layouts layouts layout_in among
-row_at D.Number = agree (of_kind D.Number) (λ b. get_or all_layouts (0 + (b - 0x20)) Integer) (layout_of D.Number) refl
-row_at D.Element = agree (of_kind D.Element) (λ b. get_or all_layouts (12 + (b - 0x30)) Integer) (layout_of D.Element) refl
-row_at D.Set = agree (of_kind D.Set) (λ b. get_or all_layouts (14 + (b - 0x40)) Integer) (layout_of D.Set) refl
-row_at D.Condition = agree (of_kind D.Condition) (λ b. get_or all_layouts (22 + (b - 0x50)) Integer) (layout_of D.Condition) refl
+row_at D.Number = agree (of_kind D.Number) (λ b. Ok (get_or all_layouts (0 + (b - 0x20)) Integer)) (layout_of D.Number) refl
+row_at D.Element = agree (of_kind D.Element) (λ b. Ok (get_or all_layouts (12 + (b - 0x30)) Integer)) (layout_of D.Element) refl
+row_at D.Set = agree (of_kind D.Set) (λ b. Ok (get_or all_layouts (14 + (b - 0x40)) Integer)) (layout_of D.Set) refl
+row_at D.Condition = agree (of_kind D.Condition) (λ b. Ok (get_or all_layouts (22 + (b - 0x50)) Integer)) (layout_of D.Condition) refl
 
-pub in_no_row : (x : Due) (b : ℕ) → b < 256 → of_kind x b ≡ false → Unknown (refusal_of b) ≡ layout_of x b
+pub in_no_row : (x : Due) (b : ℕ) → b < 256 → of_kind x b ≡ false → Err (refusal_of b) ≡ layout_of x b
 in_no_row x b h q = go x (rw q)
   where
-    go : (x : Due) → not_of_kind x b ≡ true → Unknown (refusal_of b) ≡ layout_of x b
-    go D.Number = unfold layouts layout_in among in agree (not_of_kind D.Number) (λ b. Unknown (refusal_of b)) (layout_of D.Number) refl b h
-    go D.Element = unfold layouts layout_in among in agree (not_of_kind D.Element) (λ b. Unknown (refusal_of b)) (layout_of D.Element) refl b h
-    go D.Set = unfold layouts layout_in among in agree (not_of_kind D.Set) (λ b. Unknown (refusal_of b)) (layout_of D.Set) refl b h
-    go D.Condition = unfold layouts layout_in among in agree (not_of_kind D.Condition) (λ b. Unknown (refusal_of b)) (layout_of D.Condition) refl b h
+    go : (x : Due) → not_of_kind x b ≡ true → Err (refusal_of b) ≡ layout_of x b
+    go D.Number = unfold layouts layout_in among in agree (not_of_kind D.Number) (λ b. Err (refusal_of b)) (layout_of D.Number) refl b h
+    go D.Element = unfold layouts layout_in among in agree (not_of_kind D.Element) (λ b. Err (refusal_of b)) (layout_of D.Element) refl b h
+    go D.Set = unfold layouts layout_in among in agree (not_of_kind D.Set) (λ b. Err (refusal_of b)) (layout_of D.Set) refl b h
+    go D.Condition = unfold layouts layout_in among in agree (not_of_kind D.Condition) (λ b. Err (refusal_of b)) (layout_of D.Condition) refl b h
 
 -- ---- the row's number
 
-among_bounds : (a n b : ℕ) → among a n b ≡ true → (a ≤ b) × (b < a + n)
+pub among_bounds : (a n b : ℕ) → among a n b ≡ true → (a ≤ b) × (b < a + n)
 unfolding among
 among_bounds a n b q = go (leb a b) refl q
   where

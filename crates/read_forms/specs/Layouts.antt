@@ -1,25 +1,26 @@
 -- What stands behind the first byte of an expression: the table of the format, a row for each byte.
-use Rattle.std.specs.Prelude.{ℕ, cond, List, [], ◌∷◌, eqb}
-use Rattle.model.specs.Numbers.{not_due, mismatch}
+use Rattle.std.specs.Prelude.{ℕ, cond, List, [], ◌∷◌, eqb, Result, Ok, Err}
 use Rattle.model.specs.Expressions.{begins_expression}
 use Rattle.read_forms.specs.declared.Due.{Due}
 use Rattle.read_forms.specs.declared.Due.TheVariants as D
 use Rattle.read_forms.specs.declared.layouts.Rows.{Rows}
 use Rattle.read_forms.specs.declared.Fit.TheVariants.{Any, AtMost, Equal}
 use Rattle.read_forms.specs.declared.Layout.{Layout}
-use Rattle.read_forms.specs.declared.Layout.TheVariants.{Integer, Object, ObjectsAndMembers, Variable, One, Two, InTable, Choice, Unknown}
+use Rattle.read_forms.specs.declared.Layout.TheVariants.{Integer, Object, ObjectsAndMembers, Variable, One, Two, InTable, Choice}
+use Rattle.read_forms.specs.declared.refusals.Refusal.{Refusal}
+use Rattle.read_forms.specs.declared.refusals.Refusal.TheVariants.{NotDue, Mismatch}
 
 infix 70 ◌begins◌
 pub data Row : Type 0 where
   ◌begins◌ : ℕ → Layout → Row
 
 -- a byte that begins another expression is a mismatch, any other is not due
-unfoldable pub refusal_of : ℕ → ℕ
-refusal_of b = cond (begins_expression b) mismatch not_due
+unfoldable pub refusal_of : ℕ → Refusal
+refusal_of b = cond (begins_expression b) Mismatch NotDue
 
-unfoldable pub layout_in : List Row → ℕ → Layout
-layout_in [] b = Unknown (refusal_of b)
-layout_in ((a begins l) ∷ rows) b = cond (eqb b a) l (layout_in rows b)
+unfoldable pub layout_in : List Row → ℕ → Result Layout Refusal
+layout_in [] b = Err (refusal_of b)
+layout_in ((a begins l) ∷ rows) b = cond (eqb b a) (Ok l) (layout_in rows b)
 
 unfoldable pub layouts : Due → List Row
 layouts D.Number =
@@ -64,7 +65,7 @@ layouts D.Condition =
     ∷ []
 
 -- the layout behind byte b where this kind is due
-abbrev pub layout_of : Due → ℕ → Layout
+abbrev pub layout_of : Due → ℕ → Result Layout Refusal
 layout_of due b = layout_in (layouts due) b
 
 -- the bytes that begin an expression of this kind, and where their rows begin among all rows

@@ -4,33 +4,27 @@ ghost use Rattle.std.specs.Prelude.{◌≡◌, ◌+◌, ◌<◌};
 ghost use Rattle.model.specs.Expressions.{among};
 ghost use Rattle.read_forms.specs.Layouts.{refusal_of, rows_of, layout_of};
 
-use crate::{Due, Fit, Layout, MISMATCH, NOT_DUE};
+use crate::refusals::Refusal;
+use crate::{Due, Fit, Layout};
 
 // Whether b is one of the n bytes from a on.
+#[tactic(auto, unfolding(model::specs::Expressions::among))]
 fn is_among(a: u8, n: u8, b: u8) -> bool
     requires { a + n < 256 }
     ensures { result ≡ among a n b }
 {
-    if a <= b { b < a + n } else { false }
+    a <= b && b < a + n
 }
 
-// The refusal of a byte that begins no expression of the kind that is due: 6 if it begins another, else 5.
-fn refusal(b: u8) -> u8
+// The refusal of a byte that begins no expression of the kind that is due: a mismatch if it begins another.
+#[tactic(auto, unfolding(crate::specs::Layouts::refusal_of, model::specs::Expressions::begins_expression, model::specs::Expressions::among))]
+fn refusal(b: u8) -> Refusal
     ensures { result ≡ refusal_of b }
 {
-    if is_among(0x20, 12, b) {
-        return MISMATCH;
+    match b {
+        0x20..=0x2b | 0x30..=0x31 | 0x40..=0x47 | 0x50..=0x59 => Refusal::Mismatch,
+        _ => Refusal::NotDue,
     }
-    if is_among(0x30, 2, b) {
-        return MISMATCH;
-    }
-    if is_among(0x40, 8, b) {
-        return MISMATCH;
-    }
-    if is_among(0x50, 10, b) {
-        return MISMATCH;
-    }
-    NOT_DUE
 }
 
 // What stands behind each byte that begins an expression, in the order of the bytes.
@@ -105,14 +99,14 @@ fn rows_of(due: Due) -> Rows
 }
 
 // What stands behind byte b where an expression of this kind is due, or the byte's refusal.
-pub fn layout(due: Due, b: u8) -> Layout
+pub fn layout(due: Due, b: u8) -> Result<Layout, Refusal>
     ensures { result ≡ layout_of due b }
 {
     let rows = rows_of(due);
     if is_among(rows.first, rows.count, b) {
         let k = rows.at + (b - rows.first);
-        LAYOUTS[k as usize]
+        Ok(LAYOUTS[k as usize])
     } else {
-        Layout::Unknown(refusal(b))
+        Err(refusal(b))
     }
 }

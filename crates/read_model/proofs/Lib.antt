@@ -4,3 +4,4 @@ pub mod Outlining
 pub mod Alike
 pub mod Stages
 pub mod Whole
+pub mod Refusals

@@ -1,22 +1,26 @@
 -- Laws of the groups: the words that one group writes, its code, and the end of the model.
-use Prim.Native.Nat.{ℕ, ◌+◌, ◌-◌, ◌<◌, ◌≤◌}
+use Prim.Native.Nat.{ℕ, ◌+◌, ◌<◌, ◌≤◌}
 use mathlib.Core.Path.{◌≡◌, sym, ap, ◌∙◌}
 use mathlib.Core.Logic.{⊎_elim}
-use mathlib.Core.List.{List}
+use mathlib.Core.List.{List, [], ◌∷◌}
 use native.Mathlib.Omega.{arith}
 use lib.ListN.{length, get_or, take, drop, set, length-take, length-drop, length-set}
 use lib.Seq.{get_or-set_same, get_or-set_other}
-use Rattle.model.specs.Numbers.{ends_early, not_due, bytes_after_end}
+use Rattle.std.specs.Prelude.{Ok, Err}
+use Rattle.model.specs.Numbers.{most_nesting, bytes_after_end}
 use Rattle.model.specs.Readers.{read, refused, command, up_to}
 use Rattle.model.specs.Syntax.{Variable, Table}
 use Rattle.model.specs.Commands.{nothing_more}
+use Rattle.model.proofs.Fair.{Fair, reads, refuses, next_fair, command_fair}
+use Rattle.model.proofs.Reading.{number_fair, condition_fair, conditions_fair, transition_fair}
 use Rattle.outline.specs.Outline.{outline_words}
 use Rattle.read_declarations.specs.Positions.{read_at, position_of}
 use Rattle.read_model.specs.Groups.{code_of, most_of, count_at, offsets_from, item_of, ItemsRead, GroupRead, the_end}
 use Rattle.read_model.specs.declared.Group.{Group}
 use Rattle.read_model.specs.declared.Group.TheVariants as G
-use Rattle.read_declarations.specs.declared.Position.TheVariants.{At, Refused}
-use Rattle.read_declarations.proofs.Positions.{nothing, front, reads_at, refuses_at, next_read, next_refused, command_there, command_other, command_early}
+use Rattle.read_forms.specs.declared.refusals.Refusal.{Refusal}
+use Rattle.read_forms.specs.declared.refusals.Refusal.TheVariants.{BytesAfterEnd}
+use Rattle.read_declarations.proofs.Positions.{nothing, front, reads_at, refuses_at, command_read, next_goes_on, next_stops}
 use Rattle.laws.proofs.Lists.{found_below}
 use Rattle.read_declarations.proofs.Lists.{with_part, part_in, part_before, part_behind, part_length}
 
@@ -70,31 +74,46 @@ module _ (vs : List Variable) (ts : List Table) (g : Group) (bytes : List ℕ) (
             ∙ ⊎_elim (λ l. part_before (offsets_from g) (most_of g) before part fits whole i l) (λ l. part_behind (offsets_from g) (most_of g) before part fits whole i l) o.1;
       }
 
+-- ---- readers that are fair
+
+pub item_fair : (vs : List Variable) (ts : List Table) (g : Group) → Fair (item_of vs ts g)
+unfolding item_of
+item_fair vs ts G.Transitions = transition_fair vs ts
+item_fair vs ts G.BaseCases = conditions_fair vs ts
+item_fair vs ts G.Constraints = condition_fair vs ts most_nesting
+item_fair vs ts G.Bounds = number_fair vs ts most_nesting
+
+nothing_more_fair : Fair nothing_more
+unfolding nothing_more
+nothing_more_fair [] = reads {n = 0} (omega arith)
+nothing_more_fair (b ∷ bytes) = refuses {t = bytes_after_end} (omega arith)
+
+pub the_end_fair : Fair the_end
+the_end_fair = next_fair (command_fair 0x0e) nothing_more_fair
+
 -- ---- the end
 
 module _ (bytes : List ℕ) (at : ℕ) where
-  nothing_behind : length bytes - at ≡ 1 → nothing_more (drop (at + 1) bytes) ≡ read tt 0
+  nothing_behind : (m : ℕ) → length bytes ≤ m → nothing_more (drop m bytes) ≡ read tt 0
   unfolding nothing_more
-  nothing_behind h = rw (nothing bytes (at + 1) (omega arith))
+  nothing_behind m h = rw (nothing bytes m h)
 
-  something_behind : at < length bytes → (length bytes - at ≡ 1 → ⊥) → nothing_more (drop (at + 1) bytes) ≡ refused bytes_after_end
+  something_behind : (m : ℕ) → m < length bytes → nothing_more (drop m bytes) ≡ refused bytes_after_end
   unfolding nothing_more
-  something_behind h q = rw (front bytes (at + 1) (omega arith))
+  something_behind m h = rw (front bytes m h)
 
-  pub end_good : at < length bytes → get_or bytes at 0 ≡ 14 → length bytes - at ≡ 1 → At (at + 1) ≡ position_of (read_at the_end at bytes)
-  end_good h q l =
-      let p : at + 1 ≡ at + 1 + 0 = omega arith in
-      ap At p ∙ sym (ap position_of (next_read (command 0x0e) at bytes nothing_more (command_there 14 at bytes h q) ∙ reads_at nothing_more (at + 1) bytes (nothing_behind l)))
+  pub end_good : {m : ℕ} → Ok m ≡ position_of (read_at (command 0x0e) at bytes) → m ≡ length bytes → Ok m ≡ position_of (read_at the_end at bytes)
+  end_good {m} q l =
+      let p : m ≡ m + 0 = omega arith in
+      ap Ok p ∙ sym (ap position_of (next_goes_on (command 0x0e) nothing_more at bytes q ∙ reads_at nothing_more m bytes (nothing_behind m (omega (arith, l)))))
 
-  pub end_more : at < length bytes → get_or bytes at 0 ≡ 14 → (length bytes - at ≡ 1 → ⊥) → Refused bytes_after_end ≡ position_of (read_at the_end at bytes)
-  end_more h q l =
-      sym (ap position_of (next_read (command 0x0e) at bytes nothing_more (command_there 14 at bytes h q) ∙ refuses_at nothing_more (at + 1) bytes (something_behind h l)))
+  pub end_more : {m : ℕ} → Ok m ≡ position_of (read_at (command 0x0e) at bytes) → (m ≡ length bytes → ⊥) → Err BytesAfterEnd ≡ position_of (read_at the_end at bytes)
+  end_more {m} q l =
+      let there = command_read 14 at bytes q in
+      sym (ap position_of (next_goes_on (command 0x0e) nothing_more at bytes q ∙ refuses_at nothing_more m bytes (something_behind m (omega (arith, there.inside, there.behind)))))
 
-  pub end_other : at < length bytes → (get_or bytes at 0 ≡ 14 → ⊥) → Refused not_due ≡ position_of (read_at the_end at bytes)
-  end_other h q = sym (ap position_of (next_refused (command 0x0e) at bytes nothing_more (command_other 14 at bytes h q)))
-
-  pub end_early : length bytes ≤ at → Refused ends_early ≡ position_of (read_at the_end at bytes)
-  end_early h = sym (ap position_of (next_refused (command 0x0e) at bytes nothing_more (command_early 14 at bytes h)))
+  pub end_refused : {r : Refusal} → Err r ≡ position_of (read_at (command 0x0e) at bytes) → Err r ≡ position_of (read_at the_end at bytes)
+  end_refused q = next_stops (command 0x0e) nothing_more at bytes q
 
 -- the words as the loan of the offsets and the store of the count leave them
 module _ (vs : List Variable) (ts : List Table) (g : Group) (bytes : List ℕ) (start : ℕ) (before part : List ℕ) (a k : ℕ)

@@ -5,6 +5,7 @@ use mathlib.Core.Logic.{◌⊎◌, inl, inr, ⊎_elim}
 use mathlib.Core.List.{List}
 use native.Mathlib.Omega.{arith}
 use lib.ListN.{get_or}
+use Rattle.std.specs.Prelude.{Result, Err}
 use Rattle.model.specs.Numbers.{most_nesting}
 use Rattle.model.specs.Readers.{Read, read, refused, Reader, ◌>>=◌, ◌>>◌, give, command, up_to}
 use Rattle.model.specs.Syntax.{Rule, Variable, Table, Model}
@@ -15,11 +16,10 @@ use Rattle.read_declarations.specs.Positions.{read_at, position_of}
 use Rattle.read_model.specs.Groups.{Item, code_of, most_of, count_at, offsets_from, item_of, Outside, GroupAt, GroupRead, GroupTold, the_end, behind_bounds, behind_constraints, behind_base_cases, behind_transitions, behind_tables, VariablesDeclared, TablesDeclared, GroupsAt, GroupsRead, GroupsKeep, GroupsTold, GroupsAs}
 use Rattle.read_model.specs.declared.Group.{Group}
 use Rattle.read_model.specs.declared.Group.TheVariants as G
-use Rattle.read_declarations.specs.declared.Position.{Position}
-use Rattle.read_declarations.specs.declared.Position.TheVariants as P
-use Rattle.read_declarations.proofs.Positions.{give_at, then_read, then_refused, next_read, next_refused, next_split}
+use Rattle.read_forms.specs.declared.refusals.Refusal.{Refusal}
+use Rattle.read_declarations.proofs.Positions.{fair_number, give_at, then_read, then_refused, next_read, next_refused, next_split}
 use Rattle.laws.proofs.Lists.{found_below}
-use Rattle.read_model.proofs.Outlining.{room}
+use Rattle.read_model.proofs.Outlining.{room, the_end_fair}
 use Rattle.read_model.proofs.Alike.{items_alike}
 
 -- ---- a group's words, after another group has written its own
@@ -51,9 +51,6 @@ declarations_outside : (g : Group) (i : ℕ) → Declarations i → Outside g i
 declarations_outside g i w = let a = room g in (λ q. ⊎_elim (λ e. omega arith) (λ e. omega arith) w, inl (⊎_elim (λ e. omega arith) (λ e. omega arith) w))
 
 -- ---- one group behind the other
-
-pub read_to : (vs : List Variable) (ts : List Table) (g : Group) (bytes : List ℕ) (start : ℕ) (before words : List ℕ) {p : ℕ} {x : Position} → x ≡ P.At p → GroupTold vs ts g bytes start before words x → GroupRead vs ts g bytes start before words p
-read_to vs ts g bytes start before words e h = subst (GroupTold vs ts g bytes start before words) e h
 
 module _ (kinds rows columns : List ℕ) where
   abbrev vs₀ : List Variable
@@ -87,12 +84,12 @@ module _ (kinds rows columns : List ℕ) where
       further h rule vs ts dv dt = r rule vs ts dv dt ∙ then_read (up_to (most_of g) (code_of g) (item_of vs ts g)) at bytes (next rule vs ts) (group_reads vs ts dv dt g h)
 
       -- a refusal stops it
-      stops : (w0 : List ℕ) {x : Position} {t : ℕ} → x ≡ P.Refused t → GroupTold vs₀ ts₀ g bytes at words later x → GroupsAs kinds rows columns bytes start w0 later x
-      stops w0 e h = subst (GroupsAs kinds rows columns bytes start w0 later) (sym e) (λ rule vs ts dv dt.
+      stops : (w0 : List ℕ) {x : Result ℕ Refusal} {y : Refusal} → x ≡ Err y → GroupTold vs₀ ts₀ g bytes at words later x → GroupsAs kinds rows columns bytes start w0 later (Err y)
+      stops w0 e h rule vs ts dv dt =
           r rule vs ts dv dt ∙ then_refused (up_to (most_of g) (code_of g) (item_of vs ts g)) at bytes (next rule vs ts)
-          (group_refuses vs ts dv dt g bytes at (subst (GroupTold vs₀ ts₀ g bytes at words later) e h)))
+          (group_refuses vs ts dv dt g bytes at (subst (GroupTold vs₀ ts₀ g bytes at words later) e h))
 
-    pub stop_first : (w0 w1 : List ℕ) {x : Position} {t : ℕ} → x ≡ P.Refused t → GroupTold vs₀ ts₀ G.Transitions bytes start w0 w1 x → GroupsAs kinds rows columns bytes start w0 w1 x
+    pub stop_first : (w0 w1 : List ℕ) {x : Result ℕ Refusal} {y : Refusal} → x ≡ Err y → GroupTold vs₀ ts₀ G.Transitions bytes start w0 w1 x → GroupsAs kinds rows columns bytes start w0 w1 (Err y)
     unfolding behind_tables item_of
     stop_first w0 w1 = stops G.Transitions behind_transitions start (λ rule vs ts dv dt. refl) w0 w1 w0
 
@@ -101,7 +98,7 @@ module _ (kinds rows columns : List ℕ) where
     unfolding behind_tables item_of
     to_base_cases = further bytes start G.Transitions behind_transitions start (λ rule vs ts dv dt. refl) w0 w1 h₁
 
-    pub stop_second : (w2 : List ℕ) {x : Position} {t : ℕ} → x ≡ P.Refused t → GroupTold vs₀ ts₀ G.BaseCases bytes p w1 w2 x → GroupsAs kinds rows columns bytes start w0 w2 x
+    pub stop_second : (w2 : List ℕ) {x : Result ℕ Refusal} {y : Refusal} → x ≡ Err y → GroupTold vs₀ ts₀ G.BaseCases bytes p w1 w2 x → GroupsAs kinds rows columns bytes start w0 w2 (Err y)
     unfolding item_of
     stop_second w2 = stops bytes start G.BaseCases (λ rule vs ts. behind_base_cases rule vs ts h₁.items) p to_base_cases w1 w2 w0
 
@@ -110,7 +107,7 @@ module _ (kinds rows columns : List ℕ) where
       unfolding item_of
       to_constraints = further bytes start G.BaseCases (λ rule vs ts. behind_base_cases rule vs ts h₁.items) p to_base_cases w1 w2 h₂
 
-      pub stop_third : (w3 : List ℕ) {x : Position} {t : ℕ} → x ≡ P.Refused t → GroupTold vs₀ ts₀ G.Constraints bytes q w2 w3 x → GroupsAs kinds rows columns bytes start w0 w3 x
+      pub stop_third : (w3 : List ℕ) {x : Result ℕ Refusal} {y : Refusal} → x ≡ Err y → GroupTold vs₀ ts₀ G.Constraints bytes q w2 w3 x → GroupsAs kinds rows columns bytes start w0 w3 (Err y)
       unfolding item_of
       stop_third w3 = stops bytes start G.Constraints (λ rule vs ts. behind_constraints rule vs ts h₁.items h₂.items) q to_constraints w2 w3 w0
 
@@ -119,7 +116,7 @@ module _ (kinds rows columns : List ℕ) where
         unfolding item_of
         to_bounds = further bytes start G.Constraints (λ rule vs ts. behind_constraints rule vs ts h₁.items h₂.items) q to_constraints w2 w3 h₃
 
-        pub stop_fourth : (w4 : List ℕ) {x : Position} {t : ℕ} → x ≡ P.Refused t → GroupTold vs₀ ts₀ G.Bounds bytes r w3 w4 x → GroupsAs kinds rows columns bytes start w0 w4 x
+        pub stop_fourth : (w4 : List ℕ) {x : Result ℕ Refusal} {y : Refusal} → x ≡ Err y → GroupTold vs₀ ts₀ G.Bounds bytes r w3 w4 x → GroupsAs kinds rows columns bytes start w0 w4 (Err y)
         unfolding item_of
         stop_fourth w4 = stops bytes start G.Bounds (λ rule vs ts. behind_bounds rule vs ts h₁.items h₂.items h₃.items) r to_bounds w3 w4 w0
 
@@ -169,9 +166,9 @@ module _ (kinds rows columns : List ℕ) where
             finished : {u : Unit {0}} {end : ℕ} → read_at the_end s bytes ≡ read u end → GroupsRead (read_at (behind_tables rule vs ts) start bytes) rule vs ts bytes w4 end
             finished e = record { model = whole; reads = end_reads e; rule_is = refl; variables_are = refl; tables_are = refl; groups = all_outlined }
 
-          pub stop_last : {x : Position} → x ≡ position_of (read_at the_end s bytes) → GroupsAs kinds rows columns bytes start w0 w4 x
+          pub stop_last : {x : Result ℕ Refusal} → x ≡ position_of (read_at the_end s bytes) → GroupsAs kinds rows columns bytes start w0 w4 x
           stop_last {x} e rule vs ts dv dt = go (read_at the_end s bytes) refl
             where
               go : (y : Read (Unit {0})) → read_at the_end s bytes ≡ y → GroupsTold (read_at (behind_tables rule vs ts) start bytes) rule vs ts bytes w0 w4 x
               go (read u end) q = subst (GroupsTold (read_at (behind_tables rule vs ts) start bytes) rule vs ts bytes w0 w4) (sym (e ∙ ap position_of q)) (finished rule vs ts dv dt q, keeps)
-              go (refused t) q = subst (GroupsTold (read_at (behind_tables rule vs ts) start bytes) rule vs ts bytes w0 w4) (sym (e ∙ ap position_of q)) (end_refuses rule vs ts dv dt q)
+              go (refused t) q = subst (GroupsTold (read_at (behind_tables rule vs ts) start bytes) rule vs ts bytes w0 w4) (sym (e ∙ ap position_of q)) (end_refuses rule vs ts dv dt q ∙ ap refused (sym (fair_number the_end s bytes the_end_fair q)))

@@ -10,6 +10,7 @@ use lib.ListN.{length, get_or, take, set, length-set}
 use lib.Seq.{get_or-set_same, get_or-set_other}
 use lib.Dec.{eqb, ltb}
 use borrow.Author.Tests.{eqb-true, eqb-false, ltb-true, ltb-false}
+use Rattle.std.specs.Prelude.{Result, Ok, Err}
 use Rattle.model.specs.Readers.{read, refused, Reader}
 use Rattle.model.specs.Syntax.{Rule, Variable, table_at}
 use Rattle.model.specs.Commands.{rule_of, cost_rule, variables, tables, model}
@@ -22,9 +23,9 @@ use Rattle.read_declarations.specs.Positions.{read_at, position_of, Each}
 use Rattle.read_declarations.specs.Declarations.{VariablesRead, VariablesTold, TablesRead, TablesTold}
 use Rattle.read_model.specs.Groups.{behind_tables, behind_variables, behind_rule, VariablesDeclared, GroupsTold, GroupsAs, PartsTold, PartsAs, ModelRead, ModelTold, ModelAs}
 use Rattle.read_declarations.specs.declared.Listed.{Listed}
-use Rattle.read_declarations.specs.declared.Listed.TheVariants as L
-use Rattle.read_declarations.specs.declared.Position.{Position}
-use Rattle.read_declarations.specs.declared.Position.TheVariants as P
+use Rattle.read_forms.specs.Refusals.{number_of}
+use Rattle.read_forms.specs.declared.refusals.Refusal.{Refusal}
+use Rattle.read_forms.proofs.Numbered.{number_named}
 use Rattle.read_declarations.proofs.Operands.{rule_good, rule_beyond, rule_cut, rule_other, rule_none, rule_number_lem}
 use Rattle.read_declarations.proofs.Positions.{at_reads, position_read, position_refused, then_read, then_refused}
 use Rattle.read_declarations.proofs.Lists.{each_map, each_all, inside_some, with_part, part_in, part_before, part_length}
@@ -44,26 +45,20 @@ module _ (kinds bytes : List ℕ) (start : ℕ) (before rows columns part : List
   tabled_other : (n i : ℕ) → (i ≡ 2 → ⊥) → get_or (tabled n) i 0 ≡ get_or (with_part 80 32 before part) i 0
   tabled_other n i h = get_or-set_other (with_part 80 32 before part) 2 i n 0 h
 
-  pub tables_stop : {x : Listed} {t : ℕ} → x ≡ L.Refused t → TablesTold bytes (read_at tables start bytes) rows columns part x → (words : List ℕ) → PartsAs kinds bytes start before words (P.Refused t)
+  pub tables_stop : {x : Result Listed Refusal} {r : Refusal} → x ≡ Err r → TablesTold bytes (read_at tables start bytes) rows columns part x → (words : List ℕ) → PartsAs kinds bytes start before words (Err r)
   unfolding behind_variables
   tables_stop e h words rule vs dv = then_refused tables start bytes (behind_tables rule vs) (subst (TablesTold bytes (read_at tables start bytes) rows columns part) e h)
 
-  module _ {x : Listed} {end n : ℕ} (e : x ≡ L.Items end n) (h : TablesTold bytes (read_at tables start bytes) rows columns part x) where
-    t : TablesRead bytes (read_at tables start bytes) rows columns part end n
-    t = subst (TablesTold bytes (read_at tables start bytes) rows columns part) e h
-
-    pub few_tables : n ≤ 32
-    few_tables = t.few
-
+  module _ {end n : ℕ} (t : TablesRead bytes (read_at tables start bytes) rows columns part end n) where
     module _ (words : List ℕ) (rule : Rule) (vs : List Variable) (dv : VariablesDeclared kinds vs) where
       going_on : read_at (behind_variables rule vs) start bytes ≡ read_at (behind_tables rule vs t.tables) end bytes
       unfolding behind_variables
       going_on = then_read tables start bytes (behind_tables rule vs) t.reads
 
-      parts : (y : Position) → GroupsTold (read_at (behind_tables rule vs t.tables) end bytes) rule vs t.tables bytes (tabled n) words y → PartsTold (read_at (behind_variables rule vs) start bytes) rule vs bytes before words y
+      parts : (y : Result ℕ Refusal) → GroupsTold (read_at (behind_tables rule vs t.tables) end bytes) rule vs t.tables bytes (tabled n) words y → PartsTold (read_at (behind_variables rule vs) start bytes) rule vs bytes before words y
       unfolding table_at
-      parts (P.Refused u) g = going_on ∙ g
-      parts (P.At last) g =
+      parts (Err u) g = going_on ∙ g
+      parts (Ok last) g =
           let inside : 2 < length (with_part 80 32 before part) = omega (arith, part_length 80 32 before part (omega arith) whole) in
           let count : get_or words 2 0 ≡ length t.tables = g.1 2 (inl (omega arith)) ∙ (get_or-set_same (with_part 80 32 before part) 2 n 0 inside ∙ sym t.count) in
           let of : g.0.model.tables ≡ t.tables = g.0.tables_are in
@@ -85,7 +80,7 @@ module _ (kinds bytes : List ℕ) (start : ℕ) (before rows columns part : List
                 (λ l. g.1 i (inr (omega arith, omega arith)) ∙ (tabled_other n i (λ q. omega arith) ∙ part_before 80 32 before part (omega arith) whole i (omega arith))) w,
           )
 
-    pub tables_go_on : (words : List ℕ) (y : Position) → GroupsAs kinds (take n rows) (take n columns) bytes end (tabled n) words y → PartsAs kinds bytes start before words y
+    pub tables_go_on : (words : List ℕ) (y : Result ℕ Refusal) → GroupsAs kinds (take n rows) (take n columns) bytes end (tabled n) words y → PartsAs kinds bytes start before words y
     tables_go_on words y g rule vs dv = parts words rule vs dv y (g rule vs t.tables dv (sym t.row_bytes, sym t.column_bytes))
 
 -- ---- the variables, and what follows them
@@ -105,17 +100,11 @@ module _ (bytes : List ℕ) (start : ℕ) (before kinds part : List ℕ) (long :
       get_or-set_other (with_part 0 80 before part) 1 i n 0 h
       ∙ (ap (λ (k : ℕ). get_or (with_part 0 80 before part) k 0) (sym (zero-add i)) ∙ part_in 0 80 before part (omega arith) whole i l)
 
-  pub variables_stop : {x : Listed} {t : ℕ} → x ≡ L.Refused t → VariablesTold (read_at variables start bytes) kinds part x → (words : List ℕ) → ModelAs bytes start words (P.Refused t)
+  pub variables_stop : {x : Result Listed Refusal} {r : Refusal} → x ≡ Err r → VariablesTold (read_at variables start bytes) kinds part x → (words : List ℕ) → ModelAs bytes start words (Err r)
   unfolding behind_rule
   variables_stop e h words rule = then_refused variables start bytes (behind_variables rule) (subst (VariablesTold (read_at variables start bytes) kinds part) e h)
 
-  module _ {x : Listed} {end n : ℕ} (e : x ≡ L.Items end n) (h : VariablesTold (read_at variables start bytes) kinds part x) where
-    v : VariablesRead (read_at variables start bytes) kinds part end n
-    v = subst (VariablesTold (read_at variables start bytes) kinds part) e h
-
-    pub few_variables : n ≤ 16
-    few_variables = v.few
-
+  module _ {end n : ℕ} (v : VariablesRead (read_at variables start bytes) kinds part end n) where
     declared : VariablesDeclared (take n kinds) v.variables
     declared = (each_all WellFormed v.variables (λ k x e. (v.outlined k x e).well_formed), sym v.kind_bytes)
 
@@ -124,9 +113,9 @@ module _ (bytes : List ℕ) (start : ℕ) (before kinds part : List ℕ) (long :
       unfolding behind_rule
       rule_goes_on = then_read variables start bytes (behind_variables rule) v.reads
 
-      all : (y : Position) → PartsTold (read_at (behind_variables rule v.variables) end bytes) rule v.variables bytes (varied n) words y → ModelTold (read_at (behind_rule rule) start bytes) rule bytes words y
-      all (P.Refused u) g = rule_goes_on ∙ g
-      all (P.At last) g =
+      all : (y : Result ℕ Refusal) → PartsTold (read_at (behind_variables rule v.variables) end bytes) rule v.variables bytes (varied n) words y → ModelTold (read_at (behind_rule rule) start bytes) rule bytes words y
+      all (Err u) g = rule_goes_on ∙ g
+      all (Ok last) g =
           let inside : 1 < length (with_part 0 80 before part) = omega (arith, part_length 0 80 before part (omega arith) whole) in
           let count : get_or words 1 0 ≡ length v.variables = g.1 1 (inl (omega arith)) ∙ (get_or-set_same (with_part 0 80 before part) 1 n 0 inside ∙ sym v.count) in
           let of : g.0.model.variables ≡ v.variables = g.0.variables_are in
@@ -148,7 +137,7 @@ module _ (bytes : List ℕ) (start : ℕ) (before kinds part : List ℕ) (long :
             groups = g.0.groups;
           }
 
-    pub variables_go_on : (words : List ℕ) (y : Position) → PartsAs (take n kinds) bytes end (varied n) words y → ModelAs bytes start words y
+    pub variables_go_on : (words : List ℕ) (y : Result ℕ Refusal) → PartsAs (take n kinds) bytes end (varied n) words y → ModelAs bytes start words y
     variables_go_on words y g rule = all words rule y (g rule v.variables declared)
 
 -- ---- the rule, and the outline at the end
@@ -179,23 +168,27 @@ module _ (bytes : List ℕ) where
   unfolding model behind_rule behind_variables behind_tables
   behind_the_rule h = sym from_the_front ∙ then_read cost_rule 0 bytes behind_rule h
 
-  refusal : {t : ℕ} → model bytes ≡ refused t → (t ≡ refusal_of (model bytes)) × (4 ≤ t)
+  refusal : {t : ℕ} → model bytes ≡ refused t → t ≡ refusal_of (model bytes)
   unfolding refusal_of
-  refusal h = (rw h, (model_refusal bytes h).0)
+  refusal h = rw h
 
-  pub model_rule_refused : {t : ℕ} → P.Refused t ≡ position_of (read_at cost_rule 0 bytes) → (t ≡ refusal_of (model bytes)) × (4 ≤ t)
+  pub model_rule_refused : {r : Refusal} → Err r ≡ position_of (read_at cost_rule 0 bytes) → number_of r ≡ refusal_of (model bytes)
   unfolding model behind_rule behind_variables behind_tables
-  model_rule_refused q = refusal (sym from_the_front ∙ then_refused cost_rule 0 bytes behind_rule (position_refused (read_at cost_rule 0 bytes) q))
+  model_rule_refused q =
+      let h = position_refused (read_at cost_rule 0 bytes) q in
+      let m : model bytes ≡ refused h.0 = sym from_the_front ∙ then_refused cost_rule 0 bytes behind_rule h.1 in
+      let range = model_refusal bytes m in
+      ap number_of h.2 ∙ (number_named h.0 range.0 range.1 ∙ refusal m)
 
-  module _ {p : ℕ} (q : P.At p ≡ position_of (read_at cost_rule 0 bytes)) (words : List ℕ) where
-    pub model_refused : {x : Position} {t : ℕ} → x ≡ P.Refused t → ModelAs bytes p words x → (t ≡ refusal_of (model bytes)) × (4 ≤ t)
+  module _ {p : ℕ} (q : Ok p ≡ position_of (read_at cost_rule 0 bytes)) (words : List ℕ) where
+    pub model_refused : {x : Result ℕ Refusal} {r : Refusal} → x ≡ Err r → ModelAs bytes p words x → number_of r ≡ refusal_of (model bytes)
     model_refused e h =
         let r = position_read (read_at cost_rule 0 bytes) q in
         refusal (behind_the_rule r.1 ∙ subst (ModelAs bytes p words) e h r.0)
 
-    module _ {x : Position} {end : ℕ} (e : x ≡ P.At end) (h : ModelAs bytes p words x) where
+    module _ {end : ℕ} (h : ModelAs bytes p words (Ok end)) where
       told : ModelRead (read_at (behind_rule (position_read (read_at cost_rule 0 bytes) q).0) p bytes) (position_read (read_at cost_rule 0 bytes) q).0 bytes words end
-      told = subst (ModelAs bytes p words) e h (position_read (read_at cost_rule 0 bytes) q).0
+      told = h (position_read (read_at cost_rule 0 bytes) q).0
 
       reads_as : model bytes ≡ read told.model end
       reads_as = behind_the_rule (position_read (read_at cost_rule 0 bytes) q).1 ∙ told.reads

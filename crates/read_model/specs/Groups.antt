@@ -1,5 +1,5 @@
 -- The four groups behind the tables, transitions, base cases, constraints and bounds, and what the outline says of them.
-use Rattle.std.specs.Prelude.{ℕ, ◌+◌, ◌≤◌, ◌<◌, ◌≡◌, ◌⊎◌, List, map, length, get_or, drop}
+use Rattle.std.specs.Prelude.{Result, Ok, Err, ℕ, ◌+◌, ◌≤◌, ◌<◌, ◌≡◌, ◌⊎◌, List, map, length, get_or, drop}
 use Rattle.laws.specs.Lists.{All}
 use Rattle.model.specs.Numbers.{most_variables, most_tables, most_transitions, most_base_cases, most_constraints, most_bounds, most_nesting}
 use Rattle.model.specs.Readers.{Read, read, refused, Reader, ◌>>=◌, ◌>>◌, give, command, up_to}
@@ -12,9 +12,8 @@ use Rattle.outline.specs.Outline.{variable_count_at, table_count_at, transition_
 use Rattle.read_model.specs.declared.Group.{Group}
 use Rattle.read_model.specs.declared.Group.TheVariants as G
 use Rattle.read_declarations.specs.declared.Listed.{Listed}
-use Rattle.read_declarations.specs.declared.Listed.TheVariants as L
-use Rattle.read_declarations.specs.declared.Position.{Position}
-use Rattle.read_declarations.specs.declared.Position.TheVariants as P
+use Rattle.read_forms.specs.Refusals.{number_of}
+use Rattle.read_forms.specs.declared.refusals.Refusal.{Refusal}
 use Rattle.read_declarations.specs.Positions.{read_at, Each}
 
 -- ---- the groups
@@ -73,9 +72,9 @@ module _ {A : Type 0} (r : Reader A) (bytes offsets : List ℕ) where
     pub few : n ≤ length offsets
     pub placed : Each ItemIn items
 
-  abbrev pub ItemsTold : Read (List A) → Listed → Type 0
-  ItemsTold x (L.Items end n) = ItemsRead x end n
-  ItemsTold x (L.Refused t) = x ≡ refused t
+  abbrev pub ItemsTold : Read (List A) → Result Listed Refusal → Type 0
+  ItemsTold x (Ok l) = ItemsRead x l.end l.count
+  ItemsTold x (Err r) = x ≡ refused (number_of r)
 
 -- word i belongs to another group
 abbrev pub Outside : Group → (i : ℕ) → Type 0
@@ -93,11 +92,11 @@ pub record GroupRead (vs : List Variable) (ts : List Table) (g : Group) (bytes :
   pub outlined : GroupAt (item_of vs ts g) g bytes words items
   pub kept : (i : ℕ) → Outside g i → get_or words i 0 ≡ get_or before i 0
 
-abbrev pub GroupTold : List Variable → List Table → Group → (bytes : List ℕ) (start : ℕ) (before words : List ℕ) → Position → Type 0
-GroupTold vs ts g bytes start before words (P.At end) = GroupRead vs ts g bytes start before words end
-GroupTold vs ts g bytes start before words (P.Refused t) = read_at (up_to (most_of g) (code_of g) (item_of vs ts g)) start bytes ≡ refused t
+abbrev pub GroupTold : List Variable → List Table → Group → (bytes : List ℕ) (start : ℕ) (before words : List ℕ) → Result ℕ Refusal → Type 0
+GroupTold vs ts g bytes start before words (Ok end) = GroupRead vs ts g bytes start before words end
+GroupTold vs ts g bytes start before words (Err r) = read_at (up_to (most_of g) (code_of g) (item_of vs ts g)) start bytes ≡ refused (number_of r)
 
-abbrev pub GroupAs : List Variable → List Table → Group → (bytes : List ℕ) (start : ℕ) (before words : List ℕ) → Position → Type 0
+abbrev pub GroupAs : List Variable → List Table → Group → (bytes : List ℕ) (start : ℕ) (before words : List ℕ) → Result ℕ Refusal → Type 0
 GroupAs vs ts g bytes start before words r = (length words ≡ length before) × GroupTold vs ts g bytes start before words r
 
 -- ---- the model's reading, from its groups on
@@ -162,12 +161,12 @@ pub record GroupsRead (x : Read Model) (rule : Rule) (vs : List Variable) (ts : 
 abbrev pub GroupsKeep : (before words : List ℕ) → Type 0
 GroupsKeep before words = (i : ℕ) → (i < transition_count_at) ⊎ ((16 ≤ i) × (i < transitions_from)) → get_or words i 0 ≡ get_or before i 0
 
-abbrev pub GroupsTold : Read Model → Rule → List Variable → List Table → (bytes before words : List ℕ) → Position → Type 0
-GroupsTold x rule vs ts bytes before words (P.At end) = GroupsRead x rule vs ts bytes words end × GroupsKeep before words
-GroupsTold x rule vs ts bytes before words (P.Refused t) = x ≡ refused t
+abbrev pub GroupsTold : Read Model → Rule → List Variable → List Table → (bytes before words : List ℕ) → Result ℕ Refusal → Type 0
+GroupsTold x rule vs ts bytes before words (Ok end) = GroupsRead x rule vs ts bytes words end × GroupsKeep before words
+GroupsTold x rule vs ts bytes before words (Err r) = x ≡ refused (number_of r)
 
 -- whatever the rule is, and whichever variables and tables the bytes declare
-abbrev pub GroupsAs : (kinds rows columns bytes : List ℕ) (start : ℕ) (before words : List ℕ) → Position → Type 0
+abbrev pub GroupsAs : (kinds rows columns bytes : List ℕ) (start : ℕ) (before words : List ℕ) → Result ℕ Refusal → Type 0
 GroupsAs kinds rows columns bytes start before words r =
     (rule : Rule) (vs : List Variable) (ts : List Table) → VariablesDeclared kinds vs → TablesDeclared rows columns ts → GroupsTold (read_at (behind_tables rule vs ts) start bytes) rule vs ts bytes before words r
 
@@ -183,11 +182,11 @@ pub record PartsRead (x : Read Model) (rule : Rule) (vs : List Variable) (bytes 
 abbrev pub PartsKeep : (before words : List ℕ) → Type 0
 PartsKeep before words = (i : ℕ) → (i < table_count_at) ⊎ ((16 ≤ i) × (i < tables_from)) → get_or words i 0 ≡ get_or before i 0
 
-abbrev pub PartsTold : Read Model → Rule → List Variable → (bytes before words : List ℕ) → Position → Type 0
-PartsTold x rule vs bytes before words (P.At end) = PartsRead x rule vs bytes words end × PartsKeep before words
-PartsTold x rule vs bytes before words (P.Refused t) = x ≡ refused t
+abbrev pub PartsTold : Read Model → Rule → List Variable → (bytes before words : List ℕ) → Result ℕ Refusal → Type 0
+PartsTold x rule vs bytes before words (Ok end) = PartsRead x rule vs bytes words end × PartsKeep before words
+PartsTold x rule vs bytes before words (Err r) = x ≡ refused (number_of r)
 
-abbrev pub PartsAs : (kinds bytes : List ℕ) (start : ℕ) (before words : List ℕ) → Position → Type 0
+abbrev pub PartsAs : (kinds bytes : List ℕ) (start : ℕ) (before words : List ℕ) → Result ℕ Refusal → Type 0
 PartsAs kinds bytes start before words r =
     (rule : Rule) (vs : List Variable) → VariablesDeclared kinds vs → PartsTold (read_at (behind_variables rule vs) start bytes) rule vs bytes before words r
 
@@ -206,9 +205,9 @@ pub record ModelRead (x : Read Model) (rule : Rule) (bytes words : List ℕ) (en
   pub tables : TablesAt bytes words model
   pub groups : GroupsAt bytes words model
 
-abbrev pub ModelTold : Read Model → Rule → (bytes words : List ℕ) → Position → Type 0
-ModelTold x rule bytes words (P.At end) = ModelRead x rule bytes words end
-ModelTold x rule bytes words (P.Refused t) = x ≡ refused t
+abbrev pub ModelTold : Read Model → Rule → (bytes words : List ℕ) → Result ℕ Refusal → Type 0
+ModelTold x rule bytes words (Ok end) = ModelRead x rule bytes words end
+ModelTold x rule bytes words (Err r) = x ≡ refused (number_of r)
 
-abbrev pub ModelAs : (bytes : List ℕ) (start : ℕ) (words : List ℕ) → Position → Type 0
+abbrev pub ModelAs : (bytes : List ℕ) (start : ℕ) (words : List ℕ) → Result ℕ Refusal → Type 0
 ModelAs bytes start words r = (rule : Rule) → ModelTold (read_at (behind_rule rule) start bytes) rule bytes words r

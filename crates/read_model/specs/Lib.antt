@@ -1,2 +1,3 @@
 -- What the groups of commands put into words.
 pub mod Groups
+pub mod Refusals

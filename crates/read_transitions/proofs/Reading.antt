@@ -19,116 +19,111 @@ use Rattle.model.specs.Syntax.{Number, Condition, element_count, set_count, Kind
 use Rattle.model.specs.Expressions as X
 use Rattle.model.specs.Expressions.{declared, element, number, condition}
 use Rattle.model.specs.Commands.{conditions, effect_target, expression_for, effect_on, costs, transition}
-use Rattle.words.specs.Signature.{variable_of, variables_of, tables_of}
-use Rattle.read_forms.specs.Parts.{no_count, part_of, part_at}
-use Rattle.read_forms.specs.Forms.{TakesAtMost}
+use Rattle.words.specs.Signature.{variable_of, variables_of}
+use Rattle.std.specs.Prelude.{Result, Ok, Err}
+use Rattle.model.proofs.Fair.{Fair, then_fair, require_give_fair, one_fair}
+use Rattle.model.proofs.Reading.{element_fair, set_fair, number_fair}
+use Rattle.read_forms.specs.Refusals.{number_of}
+use Rattle.read_forms.specs.Parts.{Answer, no_count, variables_in, tables_in, part_of, part_at}
+use Rattle.read_forms.specs.Forms.{due_for}
 use Rattle.read_forms.specs.declared.Due.{Due}
 use Rattle.read_forms.specs.declared.Due.TheVariants as D
+use Rattle.read_forms.specs.declared.Names.{Names}
 use Rattle.read_forms.specs.declared.Part.{Part}
-use Rattle.read_forms.specs.declared.Part.TheVariants as R
+use Rattle.read_forms.specs.declared.refusals.Refusal.{Refusal}
+use Rattle.read_forms.specs.declared.refusals.Refusal.TheVariants.{Mismatch}
+use Rattle.read_forms.proofs.Numbered.{named_number}
 use Rattle.read_declarations.specs.Positions.{read_at, position_of}
-use Rattle.read_transitions.specs.Transitions.{place_of_part, moved_by, due_for, count_fits, part_from, effects_behind, Marked, Changed}
-use Rattle.read_declarations.specs.declared.Position.TheVariants.{At, Refused}
+use Rattle.read_transitions.specs.Transitions.{placed_of, moved_by, end_of, count_fits, part_from, effects_behind, Marked, Changed}
+use Rattle.read_transitions.specs.declared.Placed.{Placed}
 use Rattle.words.proofs.Literal.{word_one}
-use Rattle.read_expressions.proofs.Forms.{part_takes}
-use Rattle.read_declarations.proofs.Positions.{front, nothing, reads_at, refuses_at, give_at, given_at, position_read, position_refused, then_read, then_refused, next_read, next_refused, reverse_more, turn, turn_full, turn_head_refused, turn_body_refused, turn_end, turn_early}
+use Rattle.read_expressions.proofs.Forms.{used}
+use Rattle.read_declarations.proofs.Positions.{front, nothing, reads_at, refuses_at, give_at, given_at, position_read, position_refused, fair_refusal, then_read, then_refused, next_read, next_refused, reverse_more, turn, turn_full, turn_head_refused, turn_body_refused, turn_end, turn_early}
 
 -- ---- an expression at a position
 
 module _ {A : Type 0} (count : A → ℕ) where
-  part_moved : (at : ℕ) (x : Read A) → moved_by at (part_of count x) ≡ part_of count (after at x)
+  placed_moved : (at : ℕ) (x : Read A) → moved_by at (part_of count x) ≡ placed_of count (after at x)
   unfolding after
-  part_moved at (read a n) = refl
-  part_moved at (refused t) = refl
+  placed_moved at (read a n) = refl
+  placed_moved at (refused t) = refl
 
-  part_place : (x : Read A) → place_of_part (part_of count x) ≡ position_of x
-  part_place (read a n) = refl
-  part_place (refused t) = refl
+  placed_end : (x : Read A) → end_of (placed_of count x) ≡ position_of x
+  placed_end (read a n) = refl
+  placed_end (refused t) = refl
 
 -- what was read of the bytes from a position on
-module _ (kinds rows columns : List ℕ) (at : ℕ) (bytes : List ℕ) (due : Due) {e : List ℕ} {p : Part} (e-is : e ≡ drop at bytes) (p-is : p ≡ part_at due (variables_of kinds) (tables_of rows columns) most_nesting e) where
-  pub moved_fits : length bytes ≤ 2 ^ 63 → at < 2 ^ 64 → TakesAtMost (2 ^ 64 - 1 - at) p
-  moved_fits h l = rw p-is (part_takes (record { kinds = kinds; rows = rows; columns = columns; depth = most_nesting; bytes = e }) due (rw e-is (omega (arith, length-drop at bytes))))
+module _ (names : Names) (at : ℕ) (bytes : List ℕ) (due : Due) {e : List ℕ} (e_is : e ≡ drop at bytes) where
+  pub placed_fits : {p : Part} → Ok p ≡ part_at due (variables_in names) (tables_in names) most_nesting e → length bytes ≤ 2 ^ 63 → at < 2 ^ 64 → at + p.used < 2 ^ 64
+  placed_fits {p} q h l = omega (arith, rw e_is at (used (record { names = names; depth = most_nesting; bytes = e }) due q), length-drop at bytes)
 
-  pub part_from_lem : moved_by at p ≡ part_from (variables_of kinds) (tables_of rows columns) due at bytes
-  part_from_lem = rw (p-is, e-is) (go due)
+  pub part_from_lem : {r : Answer} → r ≡ part_at due (variables_in names) (tables_in names) most_nesting e → moved_by at r ≡ part_from (variables_in names) (tables_in names) due at bytes
+  part_from_lem q = rw (q, e_is) (go due)
     where
-      go : (due : Due) → moved_by at (part_at due (variables_of kinds) (tables_of rows columns) most_nesting (drop at bytes)) ≡ part_from (variables_of kinds) (tables_of rows columns) due at bytes
-      go D.Number = unfold part_at part_from read_at in part_moved no_count at _
-      go D.Condition = unfold part_at part_from read_at in part_moved no_count at _
-      go D.Element = unfold part_at part_from read_at in part_moved element_count at _
-      go D.Set = unfold part_at part_from read_at in part_moved set_count at _
+      go : (due : Due) → moved_by at (part_at due (variables_in names) (tables_in names) most_nesting (drop at bytes)) ≡ part_from (variables_in names) (tables_in names) due at bytes
+      go D.Number = unfold part_at part_from read_at in placed_moved no_count at _
+      go D.Condition = unfold part_at part_from read_at in placed_moved no_count at _
+      go D.Element = unfold part_at part_from read_at in placed_moved element_count at _
+      go D.Set = unfold part_at part_from read_at in placed_moved set_count at _
 
 module _ (vs : List Variable) (ts : List Table) (at : ℕ) (bytes : List ℕ) where
-  pub number_place : {p : Part} → p ≡ part_from vs ts D.Number at bytes → place_of_part p ≡ position_of (read_at (number vs ts most_nesting) at bytes)
+  pub number_place : {r : Result Placed Refusal} → r ≡ part_from vs ts D.Number at bytes → end_of r ≡ position_of (read_at (number vs ts most_nesting) at bytes)
   unfolding part_from
-  number_place q = ap place_of_part q ∙ part_place no_count (read_at (number vs ts most_nesting) at bytes)
+  number_place q = ap end_of q ∙ placed_end no_count (read_at (number vs ts most_nesting) at bytes)
 
-  pub condition_place : {p : Part} → p ≡ part_from vs ts D.Condition at bytes → place_of_part p ≡ position_of (read_at (condition vs ts most_nesting) at bytes)
+  pub condition_place : {r : Result Placed Refusal} → r ≡ part_from vs ts D.Condition at bytes → end_of r ≡ position_of (read_at (condition vs ts most_nesting) at bytes)
   unfolding part_from
-  condition_place q = ap place_of_part q ∙ part_place no_count (read_at (condition vs ts most_nesting) at bytes)
+  condition_place q = ap end_of q ∙ placed_end no_count (read_at (condition vs ts most_nesting) at bytes)
 
   -- ---- the result of an effect
 
-  pub result_refused : (k : Kind) (n : ℕ) {t : ℕ} → R.Refused t ≡ part_from vs ts (due_for k) at bytes → Refused t ≡ position_of (read_at (expression_for vs ts k n) at bytes)
+  pub result_refused : (k : Kind) (n : ℕ) {t : Refusal} → Err t ≡ part_from vs ts (due_for k) at bytes → Err t ≡ position_of (read_at (expression_for vs ts k n) at bytes)
   unfolding part_from expression_for one
   result_refused k n {t} q = go k q
     where
-      stop : {A B : Type 0} (r : Reader A) (count : A → ℕ) (next : A → Reader B) → R.Refused t ≡ part_of count (read_at r at bytes) → Refused t ≡ position_of (read_at (r >>= next) at bytes)
+      stop : {A B : Type 0} (r : Reader A) (count : A → ℕ) (next : A → Reader B) → Err t ≡ placed_of count (read_at r at bytes) → Err t ≡ position_of (read_at (r >>= next) at bytes)
       stop r count next q =
-          let e : read_at r at bytes ≡ refused t = position_refused (read_at r at bytes) (ap place_of_part q ∙ part_place count (read_at r at bytes)) in
-          sym (ap position_of (then_refused r at bytes next e))
+          let h = position_refused (read_at r at bytes) (ap end_of q ∙ placed_end count (read_at r at bytes)) in
+          ap Err h.2 ∙ sym (ap position_of (then_refused r at bytes next h.1))
 
-      go : (k : Kind) → R.Refused t ≡ part_from vs ts (due_for k) at bytes → Refused t ≡ position_of (read_at (expression_for vs ts k n) at bytes)
+      go : (k : Kind) → Err t ≡ part_from vs ts (due_for k) at bytes → Err t ≡ position_of (read_at (expression_for vs ts k n) at bytes)
       go a_set q = stop (X.set vs ts most_nesting) set_count _ q
       go an_element q = stop (element vs ts most_nesting) element_count _ q
       go a_number q = stop (number vs ts most_nesting) no_count _ q
 
-  part_read : {A : Type 0} (count : A → ℕ) (x : Read A) {n c : ℕ} → R.Good n c ≡ part_of count x → (a : A) × (x ≡ read a n) × (count a ≡ c)
-  part_read count (read a k) {n} {c} q = let h : k ≡ n = cc in let g : count a ≡ c = cc in (a, ap (read a) h, g)
+  part_read : {A : Type 0} (count : A → ℕ) (x : Read A) {p : Placed} → Ok p ≡ placed_of count x → (a : A) × (x ≡ read a p.end) × (count a ≡ p.count)
+  part_read count (read a k) {p} q =
+      let e : p ≡ record { end = k; count = count a } = cc in
+      (a, ap (read a) (sym (ap (λ (r : Placed). r.end) e)), sym (ap (λ (r : Placed). r.count) e))
   part_read count (refused t) q = let z : ◌≡◌ {A = ℕ} 0 1 = cc in absurd (omega arith)
 
   -- the test of the counts, once the expression is read
-  tested : {A : Type 0} (t : Bool) (a : A) (p : ℕ) → position_of (read_at (require t mismatch >> give a) p bytes) ≡ cond t (At p) (Refused mismatch)
+  tested : {A : Type 0} (t : Bool) (a : A) (p : ℕ) → position_of (read_at (require t mismatch >> give a) p bytes) ≡ cond t (Ok p) (Err Mismatch)
   tested true a p = ap position_of (next_read (require true mismatch) p bytes (give a) {n = p} (unfold read_at require after in ap (read tt) (omega arith)) ∙ give_at a p bytes)
-  tested false a p = ap position_of (next_refused (require false mismatch) p bytes (give a) (unfold read_at require after in refl))
+  tested false a p = ap position_of (next_refused (require false mismatch) p bytes (give a) {t = mismatch} (unfold read_at require after in refl))
 
-  pub result_read : (k : Kind) (n : ℕ) {p c : ℕ} → R.Good p c ≡ part_from vs ts (due_for k) at bytes → cond (count_fits k n c) (At p) (Refused mismatch) ≡ position_of (read_at (expression_for vs ts k n) at bytes)
+  pub result_read : (k : Kind) (n : ℕ) {p : Placed} → Ok p ≡ part_from vs ts (due_for k) at bytes → cond (count_fits k n p.count) (Ok p.end) (Err Mismatch) ≡ position_of (read_at (expression_for vs ts k n) at bytes)
   unfolding part_from expression_for one
-  result_read a_set n {p} {c} q =
+  result_read a_set n {p} q =
       let s = part_read set_count (read_at (X.set vs ts most_nesting) at bytes) q in
       sym (ap position_of (then_read (X.set vs ts most_nesting) at bytes (λ s. require (eqb (set_count s) n) mismatch >> give (of_set s)) s.1)
-      ∙ (tested (eqb (set_count s.0) n) (of_set s.0) p ∙ ap (λ (m : ℕ). cond (eqb m n) (At p) (Refused mismatch)) s.2))
-  result_read an_element n {p} {c} q =
+      ∙ (tested (eqb (set_count s.0) n) (of_set s.0) p.end ∙ ap (λ (m : ℕ). cond (eqb m n) (Ok p.end) (Err Mismatch)) s.2))
+  result_read an_element n {p} q =
       let s = part_read element_count (read_at (element vs ts most_nesting) at bytes) q in
       sym (ap position_of (then_read (element vs ts most_nesting) at bytes (λ e. require (leb (element_count e) n) mismatch >> give (of_element e)) s.1)
-      ∙ (tested (leb (element_count s.0) n) (of_element s.0) p ∙ ap (λ (m : ℕ). cond (leb m n) (At p) (Refused mismatch)) s.2))
-  result_read a_number n {p} {c} q =
+      ∙ (tested (leb (element_count s.0) n) (of_element s.0) p.end ∙ ap (λ (m : ℕ). cond (leb m n) (Ok p.end) (Err Mismatch)) s.2))
+  result_read a_number n {p} q =
       let s = part_read no_count (read_at (number vs ts most_nesting) at bytes) q in
-      sym (ap position_of (then_read (number vs ts most_nesting) at bytes _ s.1 ∙ give_at _ p bytes))
+      sym (ap position_of (then_read (number vs ts most_nesting) at bytes _ s.1 ∙ give_at _ p.end bytes))
+
+module _ (vs : List Variable) (ts : List Table) where
+  expression_for_fair : (k : Kind) (n : ℕ) → Fair (expression_for vs ts k n)
+  unfolding expression_for
+  expression_for_fair a_set n = then_fair (set_fair vs ts most_nesting) (λ s. require_give_fair _ mismatch _ (omega arith))
+  expression_for_fair an_element n = then_fair (element_fair vs ts most_nesting) (λ e. require_give_fair _ mismatch _ (omega arith))
+  expression_for_fair a_number n = one_fair _ (number_fair vs ts most_nesting)
 
 -- ---- the kind of a declared variable
-
-pub kind_number_lem : (k : ℕ) → k ≡ 0 → (variable_of k).kind ≡ a_number
-unfolding variable_of
-kind_number_lem k h = rw (eq-eqb k 0 h)
-
-module _ (k : ℕ) (h : k ≡ 0 → ⊥) where
-  pub kind_element : leb k 64 ≡ true → (variable_of k).kind ≡ an_element
-  unfolding variable_of
-  kind_element l = rw (ne_eqb k 0 h, l)
-
-  pub kind_set : leb k 64 ≡ false → (variable_of k).kind ≡ a_set
-  unfolding variable_of
-  kind_set l = rw (ne_eqb k 0 h, l)
-
-pub objects_element : (k : ℕ) → leb k 64 ≡ true → (variable_of k).objects ≡ k
-unfolding variable_of
-objects_element k l = rw l
-
-pub objects_set : (k : ℕ) → leb k 64 ≡ false → (variable_of k).objects ≡ k - 64
-unfolding variable_of
-objects_set k l = rw l
 
 variable_declared : (kinds : List ℕ) (v : ℕ) → v < length kinds → get_elem? (variables_of kinds) v ≡ O.some (variable_of (get_or kinds v 0))
 variable_declared [] v h = let z : ⊥ = omega arith in absurd z
@@ -166,12 +161,15 @@ module _ (vs : List Variable) (ts : List Table) (b : ℕ) (done : List Effect) (
 
 -- ---- effects
 
-module _ (kinds rows columns bytes : List ℕ) (at n : ℕ) (marks : List ℕ) (due : get_or bytes at 0 ≡ 0x0a) where
+module _ (names : Names) (bytes : List ℕ) (at n : ℕ) (marks : List Bool) (due : get_or bytes at 0 ≡ 0x0a) where
+  abbrev kinds : List ℕ
+  kinds = names.kinds.now
+
   abbrev vs : List Variable
-  vs = variables_of kinds
+  vs = variables_in names
 
   abbrev ts : List Table
-  ts = tables_of rows columns
+  ts = tables_in names
 
   here : at < length bytes
   here = byte_inside bytes at 0x0a (omega arith) due
@@ -193,13 +191,13 @@ module _ (kinds rows columns bytes : List ℕ) (at n : ℕ) (marks : List ℕ) (
     starts : drop (at + 1) bytes ≡ get_or bytes (at + 1) 0 ∷ drop (at + 1 + 1) bytes
     starts = front bytes (at + 1) inside
 
-    pub effect_again : {m : ℕ} → m ≡ get_or marks (get_or bytes (at + 1) 0) 0 → m ≡ 1 → (items : List Effect) → Marked vs ts marks items → read_at (effects_behind vs ts (most_variables - n) items) at bytes ≡ refused off_limits
-    effect_again p q items marked =
-        head_stops items (target_again vs ts _ (reverse items) (drop (at + 1) bytes) (get_or bytes (at + 1) 0) _ starts (sym (marked (get_or bytes (at + 1) 0)) ∙ eq-eqb _ 1 (sym p ∙ q)))
+    pub effect_again : true ≡ get_or marks (get_or bytes (at + 1) 0) false → (items : List Effect) → Marked vs ts marks items → read_at (effects_behind vs ts (most_variables - n) items) at bytes ≡ refused off_limits
+    effect_again p items marked =
+        head_stops items (target_again vs ts _ (reverse items) (drop (at + 1) bytes) (get_or bytes (at + 1) 0) _ starts (sym (marked (get_or bytes (at + 1) 0)) ∙ sym p))
 
-    module _ {m : ℕ} (is-mark : m ≡ get_or marks (get_or bytes (at + 1) 0) 0) (unmarked : m ≡ 1 → ⊥) where
+    module _ (unmarked : false ≡ get_or marks (get_or bytes (at + 1) 0) false) where
       not_set : (items : List Effect) → Marked vs ts marks items → any (λ g. eqb g.target (get_or bytes (at + 1) 0)) (reverse items) ≡ false
-      not_set items marked = sym (marked (get_or bytes (at + 1) 0)) ∙ ne_eqb _ 1 (λ q. unmarked (is-mark ∙ q))
+      not_set items marked = sym (marked (get_or bytes (at + 1) 0)) ∙ sym unmarked
 
       pub effect_undeclared : length kinds ≤ get_or bytes (at + 1) 0 → (items : List Effect) → Marked vs ts marks items → read_at (effects_behind vs ts (most_variables - n) items) at bytes ≡ refused mismatch
       effect_undeclared h items marked =
@@ -218,14 +216,14 @@ module _ (kinds rows columns bytes : List ℕ) (at n : ℕ) (marks : List ℕ) (
         pub effect_too_many : n ≡ 16 → (items : List Effect) → Marked vs ts marks items → read_at (effects_behind vs ts (most_variables - n) items) at bytes ≡ refused off_limits
         effect_too_many full items marked = turn_full (λ b. eqb b 0x0a) (effect_target vs ts) (effect_on vs ts) bytes most_variables n items at full here is_due (target_reads items marked)
 
-        pub effect_refused : n < 16 → {t : ℕ} → Refused t ≡ position_of (read_at (expression_for vs ts x.kind x.objects) (at + 2) bytes)
-            → (items : List Effect) → Marked vs ts marks items → read_at (effects_behind vs ts (most_variables - n) items) at bytes ≡ refused t
+        pub effect_refused : n < 16 → {t : Refusal} → Err t ≡ position_of (read_at (expression_for vs ts x.kind x.objects) (at + 2) bytes)
+            → (items : List Effect) → Marked vs ts marks items → read_at (effects_behind vs ts (most_variables - n) items) at bytes ≡ refused (number_of t)
         unfolding effect_on one
         effect_refused less q items marked =
             turn_body_refused (λ b. eqb b 0x0a) (effect_target vs ts) (effect_on vs ts) bytes most_variables n items at less here is_due (target_reads items marked)
-            (then_refused (expression_for vs ts x.kind x.objects) (at + 2) bytes _ (position_refused (read_at (expression_for vs ts x.kind x.objects) (at + 2) bytes) q))
+            (then_refused (expression_for vs ts x.kind x.objects) (at + 2) bytes _ (fair_refusal (expression_for vs ts x.kind x.objects) (at + 2) bytes (expression_for_fair vs ts x.kind x.objects) q))
 
-        pub effect_more : n < 16 → length kinds ≤ 16 → {end : ℕ} → At end ≡ position_of (read_at (expression_for vs ts x.kind x.objects) (at + 2) bytes)
+        pub effect_more : n < 16 → length kinds ≤ 16 → {end : ℕ} → Ok end ≡ position_of (read_at (expression_for vs ts x.kind x.objects) (at + 2) bytes)
             → (items : List Effect) → Marked vs ts marks items → Changed vs ts bytes at n items (get_or bytes (at + 1) 0) end
         unfolding effect_on one
         effect_more less few {end} q items marked =
@@ -243,36 +241,36 @@ module _ (kinds rows columns bytes : List ℕ) (at n : ℕ) (marks : List ℕ) (
 -- ---- marks
 
 module _ (vs : List Variable) (ts : List Table) where
-  no_mark : (n v : ℕ) → ◌≡◌ {A = ℕ} (get_or (replicate n 0) v 0) 0
+  no_mark : (n v : ℕ) → get_or (replicate n false) v false ≡ false
   no_mark zero v = refl
   no_mark (suc n) zero = refl
   no_mark (suc n) (suc v) = no_mark n v
 
-  pub none_marked : Marked vs ts (replicate 16 0) []
+  pub none_marked : Marked vs ts (replicate 16 false) []
   unfolding any
   none_marked v = rw (no_mark 16 v)
 
-  pub marked_more : (marks : List ℕ) (items : List Effect) (f : Effect) (u : ℕ) → f.target ≡ u → u < length marks → Marked vs ts marks items → Marked vs ts (set marks u 1) (items ++ (f ∷ []))
+  pub marked_more : (marks : List Bool) (items : List Effect) (f : Effect) (u : ℕ) → f.target ≡ u → u < length marks → Marked vs ts marks items → Marked vs ts (set marks u true) (items ++ (f ∷ []))
   unfolding any
   marked_more marks items f u t h m v = rw (reverse_more items f, t) (go (eqb u v) refl)
     where
-      go : (b : Bool) → eqb u v ≡ b → eqb (get_or (set marks u 1) v 0) 1 ≡ (b || any (λ g. eqb g.target v) (reverse items))
-      go true q = eq-eqb (get_or (set marks u 1) v 0) 1 (ap (λ (k : ℕ). get_or (set marks u 1) k 0) (sym (eqb-true u v q)) ∙ get_or-set_same marks u 1 0 h)
-      go false q = ap (λ (k : ℕ). eqb k 1) (get_or-set_other marks u v 1 0 (λ r. eqb-false u v q (sym r))) ∙ m v
+      go : (b : Bool) → eqb u v ≡ b → get_or (set marks u true) v false ≡ (b || any (λ g. eqb g.target v) (reverse items))
+      go true q = ap (λ (k : ℕ). get_or (set marks u true) k false) (sym (eqb-true u v q)) ∙ get_or-set_same marks u true false h
+      go false q = get_or-set_other marks u v true false (λ r. eqb-false u v q (sym r)) ∙ m v
 
   -- so many effects are read, and the loop goes on at a position
-  pub record EffectsSoFar (bytes : List ℕ) (start at n : ℕ) (marks : List ℕ) : Type 0 where
+  pub record EffectsSoFar (bytes : List ℕ) (start at n : ℕ) (marks : List Bool) : Type 0 where
     pub few : n ≤ 16
     pub marks_length : length marks ≡ 16
     pub items : List Effect
     pub marked : Marked vs ts marks items
     pub going_on : read_at (effects_behind vs ts (most_variables - n) items) at bytes ≡ read_at (effects_behind vs ts most_variables []) start bytes
 
-pub no_effects : {vs : List Variable} {ts : List Table} {bytes : List ℕ} {start : ℕ} → EffectsSoFar vs ts bytes start start 0 (replicate 16 0)
+pub no_effects : {vs : List Variable} {ts : List Table} {bytes : List ℕ} {start : ℕ} → EffectsSoFar vs ts bytes start start 0 (replicate 16 false)
 no_effects {vs} {ts} = record { few = omega arith; marks_length = refl; items = []; marked = none_marked vs ts; going_on = refl }
 
-module _ {vs : List Variable} {ts : List Table} {bytes : List ℕ} {start at n : ℕ} {marks : List ℕ} (s : EffectsSoFar vs ts bytes start at n marks) where
-  pub effects_more : {v end : ℕ} → ((items : List Effect) → Marked vs ts marks items → Changed vs ts bytes at n items v end) → EffectsSoFar vs ts bytes start end (n + 1) (set marks v 1)
+module _ {vs : List Variable} {ts : List Table} {bytes : List ℕ} {start at n : ℕ} {marks : List Bool} (s : EffectsSoFar vs ts bytes start at n marks) where
+  pub effects_more : {v end : ℕ} → ((items : List Effect) → Marked vs ts marks items → Changed vs ts bytes at n items v end) → EffectsSoFar vs ts bytes start end (n + 1) (set marks v true)
   effects_more {v} {end} h =
       let c = h s.items s.marked in
       record {
@@ -282,6 +280,10 @@ module _ {vs : List Variable} {ts : List Table} {bytes : List ℕ} {start at n :
         marked = marked_more vs ts marks s.items c.effect v c.target (omega (arith, c.declared, s.marks_length)) s.marked;
         going_on = sym c.going_on ∙ s.going_on;
       }
+
+  pub effects_refused : {t : Refusal} → ((items : List Effect) → Marked vs ts marks items → read_at (effects_behind vs ts (most_variables - n) items) at bytes ≡ refused (number_of t))
+      → Err t ≡ position_of (read_at (effects_behind vs ts most_variables []) start bytes)
+  effects_refused {t} h = ap Err (sym (named_number t)) ∙ sym (ap position_of (sym s.going_on ∙ h s.items s.marked))
 
   pub effects_end : at < length bytes → (get_or bytes at 0 ≡ 0x0a → ⊥) → read_at (effects_behind vs ts most_variables []) start bytes ≡ read s.items at
   effects_end inside other =
@@ -327,19 +329,23 @@ module _ (vs : List Variable) (ts : List Table) where
     abbrev behind_number : Number → Reader StepCosts
     behind_number c = optional 0x10 (number vs ts most_nesting) >>= λ h. give (record { cost = c; high = h })
 
-    pub costs_refused : {t : ℕ} → Refused t ≡ position_of (read_at (command 0x09) at bytes) → Refused t ≡ position_of (read_at (costs vs ts) at bytes)
+    pub costs_refused : {t : Refusal} → Err t ≡ position_of (read_at (command 0x09) at bytes) → Err t ≡ position_of (read_at (costs vs ts) at bytes)
     unfolding costs
-    costs_refused q = sym (ap position_of (next_refused (command 0x09) at bytes (number vs ts most_nesting >>= behind_number) (position_refused (read_at (command 0x09) at bytes) q)))
+    costs_refused q =
+        let h = position_refused (read_at (command 0x09) at bytes) q in
+        ap Err h.2 ∙ sym (ap position_of (next_refused (command 0x09) at bytes (number vs ts most_nesting >>= behind_number) h.1))
 
-    module _ {p : ℕ} (first : At p ≡ position_of (read_at (command 0x09) at bytes)) where
+    module _ {p : ℕ} (first : Ok p ≡ position_of (read_at (command 0x09) at bytes)) where
       after_command : read_at (costs vs ts) at bytes ≡ read_at (number vs ts most_nesting >>= behind_number) p bytes
       unfolding costs
       after_command = next_read (command 0x09) at bytes (number vs ts most_nesting >>= behind_number) (position_read (read_at (command 0x09) at bytes) first).1
 
-      pub costs_number_refused : {t : ℕ} → Refused t ≡ position_of (read_at (number vs ts most_nesting) p bytes) → Refused t ≡ position_of (read_at (costs vs ts) at bytes)
-      costs_number_refused q = sym (ap position_of (after_command ∙ then_refused (number vs ts most_nesting) p bytes behind_number (position_refused (read_at (number vs ts most_nesting) p bytes) q)))
+      pub costs_number_refused : {t : Refusal} → Err t ≡ position_of (read_at (number vs ts most_nesting) p bytes) → Err t ≡ position_of (read_at (costs vs ts) at bytes)
+      costs_number_refused q =
+          let h = position_refused (read_at (number vs ts most_nesting) p bytes) q in
+          ap Err h.2 ∙ sym (ap position_of (after_command ∙ then_refused (number vs ts most_nesting) p bytes behind_number h.1))
 
-      pub costs_read : {q : ℕ} → At q ≡ position_of (read_at (number vs ts most_nesting) p bytes) → position_of (read_at (optional 0x10 (number vs ts most_nesting)) q bytes) ≡ position_of (read_at (costs vs ts) at bytes)
+      pub costs_read : {q : ℕ} → Ok q ≡ position_of (read_at (number vs ts most_nesting) p bytes) → position_of (read_at (optional 0x10 (number vs ts most_nesting)) q bytes) ≡ position_of (read_at (costs vs ts) at bytes)
       costs_read {q} second =
           let n = position_read (read_at (number vs ts most_nesting) p bytes) second in
           sym (ap position_of (after_command ∙ then_read (number vs ts most_nesting) p bytes behind_number n.1) ∙ given_at (optional 0x10 (number vs ts most_nesting)) q bytes _)
@@ -350,19 +356,23 @@ module _ (vs : List Variable) (ts : List Table) where
     abbrev behind_conditions : List Condition → Reader Transition
     behind_conditions cs = costs vs ts >>= λ k. behind_costs cs k
 
-    pub transition_conditions_refused : {t : ℕ} → Refused t ≡ position_of (read_at (conditions vs ts) at bytes) → Refused t ≡ position_of (read_at (transition vs ts) at bytes)
+    pub transition_conditions_refused : {t : Refusal} → Err t ≡ position_of (read_at (conditions vs ts) at bytes) → Err t ≡ position_of (read_at (transition vs ts) at bytes)
     unfolding transition
-    transition_conditions_refused q = sym (ap position_of (then_refused (conditions vs ts) at bytes behind_conditions (position_refused (read_at (conditions vs ts) at bytes) q)))
+    transition_conditions_refused q =
+        let h = position_refused (read_at (conditions vs ts) at bytes) q in
+        ap Err h.2 ∙ sym (ap position_of (then_refused (conditions vs ts) at bytes behind_conditions h.1))
 
-    module _ {p : ℕ} (first : At p ≡ position_of (read_at (conditions vs ts) at bytes)) where
+    module _ {p : ℕ} (first : Ok p ≡ position_of (read_at (conditions vs ts) at bytes)) where
       after_conditions : (cs : List Condition) × (read_at (transition vs ts) at bytes ≡ read_at (behind_conditions cs) p bytes)
       unfolding transition
       after_conditions = let c = position_read (read_at (conditions vs ts) at bytes) first in (c.0, then_read (conditions vs ts) at bytes behind_conditions c.1)
 
-      pub transition_costs_refused : {t : ℕ} → Refused t ≡ position_of (read_at (costs vs ts) p bytes) → Refused t ≡ position_of (read_at (transition vs ts) at bytes)
-      transition_costs_refused q = sym (ap position_of (after_conditions.1 ∙ then_refused (costs vs ts) p bytes (behind_costs after_conditions.0) (position_refused (read_at (costs vs ts) p bytes) q)))
+      pub transition_costs_refused : {t : Refusal} → Err t ≡ position_of (read_at (costs vs ts) p bytes) → Err t ≡ position_of (read_at (transition vs ts) at bytes)
+      transition_costs_refused q =
+          let h = position_refused (read_at (costs vs ts) p bytes) q in
+          ap Err h.2 ∙ sym (ap position_of (after_conditions.1 ∙ then_refused (costs vs ts) p bytes (behind_costs after_conditions.0) h.1))
 
-      pub transition_effects : {q : ℕ} → At q ≡ position_of (read_at (costs vs ts) p bytes) → position_of (read_at (effects_behind vs ts most_variables []) q bytes) ≡ position_of (read_at (transition vs ts) at bytes)
+      pub transition_effects : {q : ℕ} → Ok q ≡ position_of (read_at (costs vs ts) p bytes) → position_of (read_at (effects_behind vs ts most_variables []) q bytes) ≡ position_of (read_at (transition vs ts) at bytes)
       transition_effects {q} second =
           let n = position_read (read_at (costs vs ts) p bytes) second in
           sym (ap position_of (after_conditions.1 ∙ then_read (costs vs ts) p bytes (behind_costs after_conditions.0) n.1) ∙ given_at (effects_behind vs ts most_variables []) q bytes _)

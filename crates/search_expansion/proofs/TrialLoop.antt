@@ -1,6 +1,8 @@
 -- The transitions of a node, one after the other: what is left of the expansion behind those that are tried or blocked.
 use Prim.Native.Nat.{ℕ, zero, suc, ◌+◌, ◌-◌, ◌*◌, ◌/◌, ◌%◌, ◌^◌, ◌≤◌, ◌<◌}
-use mathlib.Core.Path.{◌≡◌, refl, sym, ap, subst, ◌∙◌}
+use mathlib.Core.Path.{◌≡◌, refl, sym, ap, ◌∙◌}
+use Rattle.std.specs.Prelude as P
+use Rattle.std.specs.Prelude.{Ok, Err, is_err}
 use mathlib.Core.Bool.{Bool, true, false, cond, ◌||◌, or_assoc}
 use mathlib.Core.List.{List, [], ◌∷◌, map}
 use native.Mathlib.Nat.{add-zero}
@@ -23,9 +25,9 @@ use Rattle.steps.proofs.Moving.{guard_blocks}
 use Rattle.beam.specs.Layers.{nodes_of, Indexed, round_with}
 use Rattle.beam.proofs.Mapped.{round_same}
 use Rattle.search_expansion.specs.declared.trials.Parent.{Parent}
-use Rattle.search_expansion.specs.declared.trials.Trial.TheVariants as T
+use Rattle.search_expansion.specs.declared.trials.Halt.{Halt}
 use Rattle.search_expansion.specs.declared.trials.Expanded.{Expanded}
-use Rattle.search_expansion.specs.Expansion.{BestIs, Numbered, trial_result, parent_of, Grows}
+use Rattle.search_expansion.specs.Expansion.{BestIs, trial_result, parent_of, Grows}
 use Rattle.search_expansion.proofs.TrialSteps.{tried_by}
 
 -- a round with other nodes twice, and marked if one of the two was cut
@@ -174,7 +176,7 @@ module _ (bytes outline : List ℕ) (n : ℕ) (p : Parent) (state layer : List �
     one_waits first left so_far h s = rw (waits_lowest bytes outline p state first left h s) at so_far
 
     -- none waits, and none is left
-    pub expanded_all : {end : ℕ} → Expanding layer' count cut [] end → (system_in bytes).transitions ≤ end → Grows bytes outline n p state layer layer' (record { count = count; cut = cut; trial = T.On }) expand_by
+    pub expanded_all : {end : ℕ} → Expanding layer' count cut [] end → (system_in bytes).transitions ≤ end → Grows bytes outline n p state layer layer' (record { count = count; cut = cut; trial = Ok tt }) expand_by
     unfolding trial_result definition.expand tried_all and_then
     expanded_all {end} so_far h = record {
       held = so_far.held;
@@ -226,20 +228,24 @@ module _ (bytes outline : List ℕ) (n : ℕ) (p : Parent) (state layer : List �
         unfolding tried_all
         next path h₀ f₀ r k b = rw (tried path h₀ f₀ r b) at (so_far.left path h₀ f₀ r k b)
 
-        pub expanding_more : length layer'' ≡ length layer' → x.trial ≡ T.On → Expanding layer'' x.count marked ts end
+        pub expanding_more : length layer'' ≡ length layer' → is_err x.trial ≡ false → Expanding layer'' x.count marked ts end
         unfolding trial_result and_then
-        expanding_more l e = record {
-          long = l ∙ so_far.long;
-          within = so_far.within;
-          held = grown.held;
-          allowed = so_far.allowed.1;
-          left = λ path h₀ f₀ r k b. rw e at (next path h₀ f₀ r k b);
-        }
+        expanding_more l holds = by_trial x.trial refl holds
+          where
+            by_trial : (q : P.Result (Unit {0}) Halt) → x.trial ≡ q → is_err q ≡ false → Expanding layer'' x.count marked ts end
+            by_trial (Ok _) e _ = record {
+              long = l ∙ so_far.long;
+              within = so_far.within;
+              held = grown.held;
+              allowed = so_far.allowed.1;
+              left = λ path h₀ f₀ r k b. rw e at (next path h₀ f₀ r k b);
+            }
+            by_trial (Err h) e f = absurd (cc)
 
-        pub expanded_before : {e : ℕ} → x.trial ≡ T.Before e → Grows bytes outline n p state layer layer'' (record { count = x.count; cut = marked; trial = T.Before e }) expand_by
+        pub expanded_over : is_err x.trial ≡ true → Grows bytes outline n p state layer layer'' (record { count = x.count; cut = marked; trial = x.trial }) expand_by
         unfolding trial_result and_then
-        expanded_before e = record { held = grown.held; numbered = tt; same = λ path h₀ f₀ r k b. rw e at (next path h₀ f₀ r k b) }
-
-        pub expanded_at : {e u : ℕ} {c : Cost} → x.trial ≡ T.At e c u → Grows bytes outline n p state layer layer'' (record { count = x.count; cut = marked; trial = T.At e c u }) expand_by
-        unfolding trial_result and_then
-        expanded_at e = record { held = grown.held; numbered = subst Numbered e grown.numbered; same = λ path h₀ f₀ r k b. rw e at (next path h₀ f₀ r k b) }
+        expanded_over failed = by_trial x.trial refl failed
+          where
+            by_trial : (q : P.Result (Unit {0}) Halt) → x.trial ≡ q → is_err q ≡ true → Grows bytes outline n p state layer layer'' (record { count = x.count; cut = marked; trial = x.trial }) expand_by
+            by_trial (Ok _) e f = absurd (cc)
+            by_trial (Err h) e _ = record { held = grown.held; numbered = grown.numbered; same = λ path h₀ f₀ r k b. rw e (rw e at (next path h₀ f₀ r k b)) }

@@ -1,43 +1,50 @@
 -- A transition tried in a node, or all of them: the answer's meaning, and how the layer in the making goes on by rules 4 and 5.
-use Rattle.std.specs.Prelude.{ℕ, ◌+◌, ◌^◌, ◌≤◌, ◌<◌, ◌≡◌, Bool, true, false, cond, not, List, ◌∷◌}
+use Rattle.std.specs.Prelude.{ℕ, ◌+◌, ◌^◌, ◌≤◌, ◌<◌, ◌≡◌, Bool, true, not, List, ◌∷◌, Some, None, Ok, Err, IfErr}
+use Rattle.std.specs.Prelude as P
 use Rattle.std.proofs.Math.Option.{Option, none, some}
 use Rattle.model.specs.Numbers.{range_end}
 use Rattle.model.specs.Meaning.{State}
 use Rattle.model.specs.declared.Cost.{Cost}
 use Rattle.model.specs.Costs.{at_most, CostBelow}
-use Rattle.search.specs.Search.{Node, Route, Round, refused, Result, on, over, offer, bounded, tried, expand}
+use Rattle.search.specs.Search.{Node, Route, Round, Ending, refused, Result, on, over, offer, bounded, tried, expand}
 use Rattle.steps.specs.InBytes.{Outlined, state_in, system_in}
 use Rattle.steps.specs.Follow.{costs_in}
 use Rattle.beam.specs.Nodes.{node_of}
 use Rattle.beam.specs.Layers.{nodes_of, Indexed, round_with}
 use Rattle.beam.specs.declared.layer.Inserted.{Inserted}
-use Rattle.search_expansion.specs.declared.trials.Best.{Best}
+use Rattle.search_expansion.specs.declared.trials.Found.{Found}
 use Rattle.search_expansion.specs.declared.trials.Parent.{Parent}
 use Rattle.search_expansion.specs.declared.trials.Arrival.{Arrival}
-use Rattle.search_expansion.specs.declared.trials.Trial.{Trial}
-use Rattle.search_expansion.specs.declared.trials.Trial.TheVariants as T
+use Rattle.search_expansion.specs.declared.trials.Halt.{Halt}
+use Rattle.search_expansion.specs.declared.trials.Halt.TheVariants as H
 use Rattle.search_expansion.specs.declared.trials.Expanded.{Expanded}
 
--- the best plan: whether there is one, and its cost
-abbrev pub BestIs : Best → Option (Route Cost) → Type 0
-BestIs x none = x.found ≡ false
-BestIs x (some b) = (x.found ≡ true) × (b.cost ≡ x.cost)
+-- the best plan of both: there is none, or one of the same cost
+abbrev pub BestIs : P.Option Found → Option (Route Cost) → Type 0
+BestIs None none = Unit {0}
+BestIs (Some x) (some b) = b.cost ≡ x.cost
+BestIs None (some b) = ⊥
+BestIs (Some x) none = ⊥
 
 -- f is below the best cost; without a plan the best is above every cost
-unfoldable pub below_cost : Best → (f : Cost) → Bool
-below_cost x f = cond x.found (not (at_most x.cost f)) true
+unfoldable pub below_cost : P.Option Found → (f : Cost) → Bool
+below_cost None f = true
+below_cost (Some x) f = not (at_most x.cost f)
 
--- the round goes on, or the run is over, refused at the node or at its child by transition t, whose path costs c
-unfoldable pub trial_result : Trial → Node State Cost → Round State Cost → Result (Round State Cost) Cost
-trial_result T.On n r = on r
-trial_result (T.Before e) n r = over (record { ending = refused e (record { cost = n.g; path = n.path }); progress = r.progress })
-trial_result (T.At e c t) n r = over (record { ending = refused e (record { cost = c; path = t ∷ n.path }); progress = r.progress })
+-- the run is refused at the node, or at its child by transition t, whose path costs c
+unfoldable pub halted : Halt → Node State Cost → Ending Cost
+halted (H.Before e) n = refused e (record { cost = n.g; path = n.path })
+halted (H.At e c t) n = refused e (record { cost = c; path = t ∷ n.path })
+
+-- the round goes on, or the run is over
+unfoldable pub trial_result : P.Result (Unit {0}) Halt → Node State Cost → Round State Cost → Result (Round State Cost) Cost
+trial_result (Ok _) n r = on r
+trial_result (Err h) n r = over (record { ending = halted h n; progress = r.progress })
 
 -- a transition's number fits a byte
-abbrev pub Numbered : Trial → Type 0
-Numbered T.On = Unit {0}
-Numbered (T.Before e) = Unit {0}
-Numbered (T.At e c t) = t < 256
+abbrev pub Numbered : Halt → Type 0
+Numbered (H.Before e) = Unit {0}
+Numbered (H.At e c t) = t < 256
 
 -- a block of transitions, at most 64 of them, from a number on to its end; it has one if one is left
 pub record Block (first all end : ℕ) : Type 0 where
@@ -83,7 +90,7 @@ parent_of bytes path state p h f = record { state = state_in bytes state; g = p.
 -- those of the layer after
 pub record Grows (bytes outline : List ℕ) (n : ℕ) (p : Parent) (state layer layer' : List ℕ) (x : Expanded) (rule : Node State Cost → Round State Cost → Result (Round State Cost) Cost) : Type 0 where
   pub held : Indexed outline p.width x.count layer'
-  pub numbered : Numbered x.trial
+  pub numbered : IfErr x.trial Numbered
   pub same : (path : ℕ → List ℕ) (h f : Cost) (r : Round State Cost) → r.kept ≡ nodes_of p.width layer bytes path n → BestIs p.best r.progress.best
       → rule (parent_of bytes path state p h f) r
       ≡ trial_result x.trial (parent_of bytes path state p h f) (round_with (nodes_of p.width layer' bytes path x.count) x.cut r)

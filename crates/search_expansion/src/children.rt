@@ -1,6 +1,6 @@
 // Rule 4: a node's children, by conditions, cost, effects, constraints and h, offered to the layer in the making.
 
-ghost use Rattle.std.specs.Prelude.{◌≡◌, ◌++◌, ◌≤◌, ◌||◌, length};
+ghost use Rattle.std.specs.Prelude.{◌≡◌, ◌++◌, ◌≤◌, length};
 ghost use Rattle.model.specs.Numbers.{most_transitions};
 ghost use Rattle.quick.specs.Sums.{Remembers};
 ghost use Rattle.beam_order.specs.Slots.{header_words};
@@ -9,26 +9,26 @@ ghost use Rattle.steps.specs.Allowed.{Allowed};
 ghost use Rattle.beam.specs.Layers.{Indexed};
 ghost use Rattle.search_expansion.specs.Expansion.{below_cost, Block, Arrives, bounded_in, tried_in, expand_in, Offered, Expandable, Grows, GrowsOfAny};
 
-use crate::trials::{Arrival, Best, Expanded, Parent, Trial, Turn};
+use crate::trials::{Arrival, Expanded, Found, Halt, Parent, Turn};
 use beam::layer::{Inserted, insert};
 use beam_order::slots::{HEADER_WORDS, f_in};
 use costs::{hours, less};
 use model::Cost;
 use outline::layout::{PREPARED_WORDS, STATE_WORDS};
 use quick::sums::{SUM_WORDS, forget};
-use steps::answers::{BoundAnswer, MoveAnswer};
+use steps::answers::MoveAnswer;
 use steps::bounds::child_bound;
 use steps::check::combine;
 use steps::moves::{allowed, allowed_step, transitions};
 
 // Whether f is below the best cost.
-pub fn below_best(best: Best, f: Cost) -> bool
+pub fn below_best(best: Option<Found>, f: Cost) -> bool
     ensures { result ≡ below_cost best f }
 {
-    if best.found {
-        return less(f, best.cost);
+    match best {
+        Some(found) => less(f, found.cost),
+        None => true,
     }
-    true
 }
 
 // Rule 4: offers a child to the layer in the making, if its f is below the best.
@@ -44,14 +44,14 @@ fn offer(
     requires { Indexed outline.now parent.width n layer.old × (Outlined model.now outline.now × (length header.now ≡ header_words)) }
     ensures { Offered model.now outline.now n parent (header.now ++ state.now) layer.old layer.new result }
 {
-    let best = parent.best;
     let f = f_in(header, 0);
-    if below_best(best, f) {
-        return insert(layer, model, outline, parent.width, n, header, state);
-    }
-    Inserted {
-        count: n,
-        cut: false,
+    if below_best(parent.best, f) {
+        insert(layer, model, outline, parent.width, n, header, state)
+    } else {
+        Inserted {
+            count: n,
+            cut: false,
+        }
     }
 }
 
@@ -72,7 +72,7 @@ fn bounded(
     let t = arrival.transition;
     let g = combine(model, outline, parent.g, arrival.cost);
     match child_bound(model, outline, state, sums) {
-        BoundAnswer::Value(h) => {
+        Ok(h) => {
             let f = combine(model, outline, g, hours(h));
             let back = (parent.slot * 256 + t) as u64;
             let header = [g.high, g.low, g.moves, h, f.high, f.moves, back];
@@ -80,13 +80,13 @@ fn bounded(
             Expanded {
                 count: x.count,
                 cut: x.cut,
-                trial: Trial::On,
+                trial: Ok(()),
             }
         }
-        BoundAnswer::Trouble(e) => Expanded {
+        Err(e) => Expanded {
             count: n,
             cut: false,
-            trial: Trial::At(e, g, t),
+            trial: Err(Halt::At(e.number(), g, t)),
         },
     }
 }
@@ -111,7 +111,7 @@ fn try_transition(
         MoveAnswer::Blocked => Expanded {
             count: n,
             cut: false,
-            trial: Trial::On,
+            trial: Ok(()),
         },
         MoveAnswer::Moved(c) => {
             let arrival = Arrival {
@@ -123,21 +123,14 @@ fn try_transition(
         MoveAnswer::Before(e) => Expanded {
             count: n,
             cut: false,
-            trial: Trial::Before(e),
+            trial: Err(Halt::Before(e.number())),
         },
         MoveAnswer::After(c, e) => Expanded {
             count: n,
             cut: false,
-            trial: Trial::At(e, combine(model, outline, parent.g, c), t),
+            trial: Err(Halt::At(e.number(), combine(model, outline, parent.g, c), t)),
         },
     }
-}
-
-// Whether one of two holds.
-pub fn either(a: bool, b: bool) -> bool
-    ensures { result ≡ (a || b) }
-{
-    if a { true } else { b }
 }
 
 // The end of the block of transitions from a number on: 64 of them, or those that are left.
@@ -173,13 +166,14 @@ pub fn expand(
     let mut first: usize = 0;
     let mut end: usize = 0;
     let mut left: u64 = 0;
+    // a block at a time, whose bits are the turns: an iterator would hold the state, the model and the outline
     loop {
         if left == 0 {
             if end == all {
                 return Expanded {
-                    count: count,
-                    cut: cut,
-                    trial: Trial::On,
+                    count,
+                    cut,
+                    trial: Ok(()),
                 };
             }
             first = end;
@@ -189,31 +183,16 @@ pub fn expand(
             let t = first + u64::trailing_zeros(left) as usize;
             left = left & (left - 1);
             let turn = Turn {
-                count: count,
+                count,
                 transition: t,
             };
             let x = try_transition(
                 layer, model, outline, turn, state, parent, &mut child, &mut sums,
             );
             count = x.count;
-            cut = either(cut, x.cut);
-            let trial = x.trial;
-            match trial {
-                Trial::On => {}
-                Trial::Before(e) => {
-                    return Expanded {
-                        count: count,
-                        cut: cut,
-                        trial: Trial::Before(e),
-                    };
-                }
-                Trial::At(e, c, u) => {
-                    return Expanded {
-                        count: count,
-                        cut: cut,
-                        trial: Trial::At(e, c, u),
-                    };
-                }
+            cut = cut || x.cut;
+            if x.trial.is_err() {
+                return Expanded { cut, ..x };
             }
         }
     }

@@ -6,7 +6,6 @@ ghost use Rattle.search_paths.specs.Routes.{Startable, Started, Takeable, NodeTa
 
 use beam::layer::empty;
 use beam_order::slots::{BACK_AT, BACKS_AT, NEXT_AT, NEXT_END, NEXT_ORDER_AT, SLOT_WORDS};
-use laws::copy_words;
 
 // Copies the words of the node in slot i.
 pub fn copy_node(words: &[u64], i: usize, node: &mut [u64])
@@ -14,7 +13,7 @@ pub fn copy_node(words: &[u64], i: usize, node: &mut [u64])
     ensures { node.new ≡ words_in words.now i }
 {
     let at = i * SLOT_WORDS;
-    copy_words(&words[at..at + SLOT_WORDS], node);
+    node.copy_from_slice(&words[at..at + SLOT_WORDS]);
 }
 
 // Rule 1: a round starts with the root alone.
@@ -22,7 +21,7 @@ pub fn start_round(words: &mut [u64], root: &[u64; SLOT_WORDS], w: usize)
     requires { Startable root.now words.old w }
     ensures { Started root.now words.new w }
 {
-    copy_words(root, &mut words[..SLOT_WORDS]);
+    words[..SLOT_WORDS].copy_from_slice(root);
     let a = NEXT_AT * w;
     let e = NEXT_END * w;
     empty(&mut words[a..e], w);
@@ -37,7 +36,7 @@ fn take_node(words: &mut [u64], w: usize, k: usize, i: usize)
     let s = words[NEXT_ORDER_AT * w + i] as usize;
     copy_node(words, w + s, &mut node);
     let at = i * SLOT_WORDS;
-    copy_words(&node, &mut words[at..at + SLOT_WORDS]);
+    words[at..at + SLOT_WORDS].copy_from_slice(&node);
     words[BACKS_AT * w + (k * w + i)] = node[BACK_AT];
 }
 
@@ -46,10 +45,8 @@ pub fn next_layer(words: &mut [u64], w: usize, k: usize, n: usize)
     requires { Takeable words.old w k n }
     ensures { Taken words.old words.new w k n }
 {
-    let mut i: usize = 0;
-    while i < n {
+    for i in 0..n {
         take_node(words, w, k + 1, i);
-        i += 1;
     }
     let a = NEXT_AT * w;
     let e = NEXT_END * w;

@@ -6,6 +6,7 @@ ghost use Rattle.search_paths.specs.Routes.{back_in, path_by, Traceable};
 use beam_order::slots::BACKS_AT;
 
 // The back pointer of slot i of layer k, or 0 where there is none.
+#[tactic(auto, unfolding(crate::specs::Routes::back_in))]
 fn back_at(words: &[u64], w: usize, k: usize, i: usize) -> u64
     requires { (0 < w) × ((w ≤ 4096) × (k ≤ 256)) }
     ensures { result ≡ back_in words.now w k i }
@@ -20,10 +21,8 @@ pub fn trace(words: &[u64], w: usize, k: usize, i: usize, plan: &mut [u8])
     ensures { plan.new ≡ reverse (path_by words.now w k i) ++ drop k plan.old }
 {
     let mut slot = i;
-    let mut left = k;
-    while 0 < left {
-        let back = back_at(words, w, left, slot);
-        left -= 1;
+    for left in (0..k).rev() {
+        let back = back_at(words, w, left + 1, slot);
         plan[left] = (back % 256) as u8;
         slot = (back / 256) as usize;
     }

@@ -12,9 +12,16 @@ use Rattle.search.specs.Demands.{Ends}
 use Rattle.search.specs.Run.{Settings, shown, fields}
 use Rattle.search.proofs.Numbered.{outcome_back}
 use Rattle.search.proofs.Mission.{plan_handed_back}
-use Rattle.search_report.specs.Answers.{outcome_of, AnswerIs, FieldsAre, LineOf, in_line, numbers_of, answer_in}
+use Rattle.search_report.specs.Answers.{refusal_of, outcome_of, AnswerIs, FieldsAre, LineOf, in_line, numbers_of, answer_in}
 use Rattle.search_report.specs.declared.answers.Answer.{Answer}
+use Rattle.search_report.specs.declared.answers.Refusal.{Refusal}
+use Rattle.search_report.specs.declared.answers.Refusal.TheVariants as R
 use Rattle.search_report.specs.declared.answers.Fields.{Fields}
+
+pub refusal_is : (r : Refusal) → is_refusal (refusal_of r) ≡ true
+unfolding is_refusal refusal_of
+refusal_is (R.ByState t) = refl
+refusal_is (R.ByInput t) = refl
 
 pub in_numbers : (d : A.Answer Cost) (a : Answer) → AnswerIs d a → FieldsAre d (numbers_of a)
 in_numbers d a is =

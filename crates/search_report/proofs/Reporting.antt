@@ -4,6 +4,7 @@ use mathlib.Core.Path.{◌≡◌, refl, sym, ap, ◌∙◌, subst}
 use mathlib.Core.Bool.{Bool, true, false}
 use mathlib.Core.List.{List, [], ◌∷◌, ◌++◌, reverse, reverse-cons, reverse-reverse}
 use native.Mathlib.Omega.{arith}
+use Rattle.std.specs.Prelude.{Some, None, Ok, Err}
 use lib.ListN.{length, take, drop, get_or, set, length-reverse}
 use lib.Seq.{drop-cons, set_at, length-take-le, append_snoc}
 use Rattle.model.specs.declared.Cost.{Cost}
@@ -16,14 +17,15 @@ use Rattle.steps.specs.Follow.{costs_in}
 use Rattle.search_paths.specs.Routes.{path_by}
 use Rattle.search_paths.proofs.Tracing.{path_length}
 use Rattle.search_visits.specs.Work.{verdict_of, best_of, progress_of, ending_of, EndsInside}
-use Rattle.search_report.specs.Answers.{outcome_of, AnswerIs, Reports}
+use Rattle.search_report.specs.Answers.{refusal_of, outcome_of, AnswerIs, Reports}
 use Rattle.search_report.specs.Reported.{BoundIs, decided_answer, Decides, Refuses}
 use Rattle.search_visits.specs.declared.work.Verdict.{Verdict}
 use Rattle.search_visits.specs.declared.work.Verdict.TheVariants as W
 use Rattle.search_visits.specs.declared.work.Progress.{Progress}
 use Rattle.search_visits.specs.declared.work.Ending.{Ending}
 use Rattle.search_visits.specs.declared.work.Ending.TheVariants as E
-use Rattle.search_report.specs.declared.answers.Outcome.TheVariants as O
+use Rattle.search_expansion.specs.declared.trials.Found.{Found}
+use Rattle.search_report.specs.declared.answers.Refusal.TheVariants as R
 use Rattle.search_report.specs.declared.answers.Answer.{Answer}
 use Rattle.search_runs.specs.declared.Stop.{Stop}
 
@@ -48,11 +50,11 @@ step_written plan path t k e h =
 -- ---- the bound
 
 module _ (v : Verdict) (p : Progress) where
-  pub bound_cost : v ≡ W.Cheapest → p.best.found ≡ true → BoundIs v p p.best.cost
+  pub bound_cost : {found : Found} → v ≡ W.Cheapest → p.best ≡ Some found → BoundIs v p found.cost
   unfolding verdict_of bound_at progress_of best_of best_cost
   bound_cost e f = record { same = λ bytes best. rw (e, f) }
 
-  pub bound_without : v ≡ W.Cheapest → p.best.found ≡ false → BoundIs v p free
+  pub bound_without : v ≡ W.Cheapest → p.best ≡ None → BoundIs v p free
   unfolding verdict_of bound_at progress_of best_of best_cost Rattle.model.specs.Costs.costs_of
   bound_without e f = record { same = λ bytes best. rw (e, f) }
 
@@ -62,9 +64,6 @@ pub answer_same : {a b : A.Answer Cost} (x : Answer) → a ≡ b → AnswerIs b 
 answer_same x e h = subst (λ (a : A.Answer Cost). AnswerIs a x) (sym e) h
 
 module _ (best plan plan' : List ℕ) (v : Verdict) (stop : Stop) (h : Cost) (b : BoundIs v stop.progress h) where
-  abbrev n : ℕ
-  n = stop.progress.best.length
-
   abbrev fields_with : (bytes : List ℕ) (flag : Bool) (cost : Cost) (steps : List ℕ) → A.Answer Cost
   fields_with bytes flag cost steps =
       record {
@@ -76,27 +75,27 @@ module _ (best plan plan' : List ℕ) (v : Verdict) (stop : Stop) (h : Cost) (b 
         tally = record { expansions = stop.progress.tally.expansions; rounds = stop.progress.tally.rounds; width = stop.progress.tally.width };
       }
 
-  with_plan : (bytes : List ℕ) → stop.progress.best.found ≡ true → decided_answer bytes best v stop ≡ fields_with bytes true stop.progress.best.cost (take n best)
+  with_plan : (bytes : List ℕ) {found : Found} → stop.progress.best ≡ Some found → decided_answer bytes best v stop ≡ fields_with bytes true found.cost (take found.length best)
   unfolding answer_of has_plan best_cost best_steps tally_of progress_of best_of
   with_plan bytes f = rw (f, reverse-reverse)
 
-  without_plan : (bytes : List ℕ) → stop.progress.best.found ≡ false → decided_answer bytes best v stop ≡ fields_with bytes false free []
+  without_plan : (bytes : List ℕ) → stop.progress.best ≡ None → decided_answer bytes best v stop ≡ fields_with bytes false free []
   unfolding answer_of has_plan best_cost best_steps tally_of progress_of best_of Rattle.model.specs.Costs.costs_of
   without_plan bytes f = rw f
 
-  pub decides_found : stop.progress.best.found ≡ true → n ≤ length best → plan' ≡ take n best ++ drop n plan
-      → Decides best plan plan' v stop (record { outcome = O.Verdict v; flag = true; cost = stop.progress.best.cost; bound = h; length = n; tally = stop.progress.tally })
+  pub decides_found : {found : Found} → stop.progress.best ≡ Some found → found.length ≤ length best → plan' ≡ take found.length best ++ drop found.length plan
+      → Decides best plan plan' v stop (record { outcome = Ok v; flag = true; cost = found.cost; bound = h; length = found.length; tally = stop.progress.tally })
   unfolding outcome_of buffer_after
-  decides_found f room e =
-      let whole : length (take n best) ≡ n = length-take-le n best room in
+  decides_found {found} f room e =
+      let whole : length (take found.length best) ≡ found.length = length-take-le found.length best room in
       record {
         answer = λ bytes. answer_same _ (with_plan bytes f)
             (record { outcome = refl; flag = refl; cost = refl; bound = b.same bytes best; length_is = sym whole; expansions = refl; rounds = refl; width = refl });
         plan_after = λ bytes. rw (with_plan bytes f, whole) e;
       }
 
-  pub decides_none : stop.progress.best.found ≡ false → plan' ≡ plan
-      → Decides best plan plan' v stop (record { outcome = O.Verdict v; flag = false; cost = free; bound = h; length = 0; tally = stop.progress.tally })
+  pub decides_none : stop.progress.best ≡ None → plan' ≡ plan
+      → Decides best plan plan' v stop (record { outcome = Ok v; flag = false; cost = free; bound = h; length = 0; tally = stop.progress.tally })
   unfolding outcome_of buffer_after
   decides_none f e =
       record {
@@ -106,8 +105,8 @@ module _ (best plan plan' : List ℕ) (v : Verdict) (stop : Stop) (h : Cost) (b 
       }
 
 pub refuses : (number : ℕ) (cost : Cost) (n : ℕ) (stop : Stop)
-    → Refuses number cost n stop (record { outcome = O.ByState number; flag = false; cost = cost; bound = stop.progress.low; length = n; tally = stop.progress.tally })
-unfolding answer_of outcome_of tally_of progress_of
+    → Refuses number cost n stop (record { outcome = Err (R.ByState number); flag = false; cost = cost; bound = stop.progress.low; length = n; tally = stop.progress.tally })
+unfolding answer_of outcome_of refusal_of tally_of progress_of
 refuses number cost n stop =
     record {
       answer = λ bytes best path e.

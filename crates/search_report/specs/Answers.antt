@@ -1,5 +1,6 @@
 -- The code's answer, by the definition's: every field, and the plan buffer.
-use Rattle.std.specs.Prelude.{ℕ, ◌≤◌, ◌<◌, ◌≡◌, cond, List, [], ◌∷◌, length, get_or, eqb}
+use Rattle.std.specs.Prelude.{ℕ, ◌≤◌, ◌<◌, ◌≡◌, cond, List, [], ◌∷◌, length, get_or, eqb, Ok, Err}
+use Rattle.std.specs.Prelude as P
 use Rattle.model.specs.declared.Cost.{Cost}
 use Rattle.model.specs.Numbers.{most_steps}
 use Rattle.model.specs.Costs.{hours}
@@ -10,17 +11,21 @@ use Rattle.search.specs.Run.{fields}
 use Rattle.steps.specs.InBytes.{system_in}
 use Rattle.steps.specs.Follow.{costs_in}
 use Rattle.search_paths.specs.Routes.{path_by}
-use Rattle.search_visits.specs.Work.{verdict_of, progress_of, ending_of, EndsInside}
-use Rattle.search_report.specs.declared.answers.Outcome.{Outcome}
-use Rattle.search_report.specs.declared.answers.Outcome.TheVariants as O
+use Rattle.search_visits.specs.Work.{verdict_of, progress_of, ending_of, BestFits, EndsInside}
+use Rattle.search_visits.specs.declared.work.Verdict.{Verdict}
+use Rattle.search_report.specs.declared.answers.Refusal.{Refusal}
+use Rattle.search_report.specs.declared.answers.Refusal.TheVariants as R
 use Rattle.search_report.specs.declared.answers.Answer.{Answer}
 use Rattle.search_report.specs.declared.answers.Fields.{Fields}
 use Rattle.search_runs.specs.declared.Stop.{Stop}
 
-unfoldable pub outcome_of : Outcome → A.Outcome
-outcome_of (O.Verdict v) = verdict (verdict_of v)
-outcome_of (O.ByState t) = by_state t
-outcome_of (O.ByInput t) = by_input t
+unfoldable pub refusal_of : Refusal → A.Outcome
+refusal_of (R.ByState t) = by_state t
+refusal_of (R.ByInput t) = by_input t
+
+unfoldable pub outcome_of : P.Result Verdict Refusal → A.Outcome
+outcome_of (Ok v) = verdict (verdict_of v)
+outcome_of (Err r) = refusal_of r
 
 -- the answer's every field is the definition's
 pub record AnswerIs (a : A.Answer Cost) (x : Answer) : Type 0 where
@@ -103,7 +108,7 @@ pub record Reportable (plan best : List ℕ) (limit : ℕ) (x : Stop) : Type 0 w
   pub few_steps : limit ≤ most_steps
   pub plan_room : limit ≤ length plan
   pub best_room : limit ≤ length best
-  pub best_fits : x.progress.best.length ≤ limit
+  pub best_fits : BestFits limit x.progress.best
   pub some_width : 0 < x.progress.tally.width
   pub narrow : x.progress.tally.width ≤ 4096
   pub inside : EndsInside x.progress.tally.width limit x.layer x.ending

@@ -4,10 +4,9 @@ use model::Cost;
 use search_tally::Tally;
 use search_visits::work::Verdict;
 
-// A verdict; or refused by the state, or by the input, with the refusal's number.
+// Refused by the state, or by the input, with the refusal's number.
 #[derive(Clone, Copy)]
-pub enum Outcome {
-    Verdict(Verdict),
+pub enum Refusal {
     ByState(u8),
     ByInput(u8),
 }
@@ -15,7 +14,7 @@ pub enum Outcome {
 // Document 01's fields; the plan's bytes are in the caller's buffer.
 #[derive(Clone, Copy)]
 pub struct Answer {
-    pub outcome: Outcome,
+    pub outcome: Result<Verdict, Refusal>,
     pub flag: bool,
     pub cost: Cost,
     pub bound: Cost,

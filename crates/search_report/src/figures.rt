@@ -3,9 +3,9 @@
 ghost use Rattle.std.specs.Prelude.{◌≡◌, cond};
 ghost use Rattle.search.specs.Answer.{verdict_number, outcome_number, is_refusal};
 ghost use Rattle.search_visits.specs.Work.{verdict_of};
-ghost use Rattle.search_report.specs.Answers.{outcome_of, LineOf, in_line, numbers_of};
+ghost use Rattle.search_report.specs.Answers.{refusal_of, outcome_of, LineOf, in_line, numbers_of};
 
-use crate::answers::{Answer, Fields, Outcome};
+use crate::answers::{Answer, Fields, Refusal};
 use search_visits::work::Verdict;
 
 // The number of a verdict.
@@ -22,25 +22,33 @@ pub fn verdict_number(verdict: Verdict) -> u32
     }
 }
 
+// The number of a refusal.
+pub fn refusal_number(refusal: Refusal) -> u8
+    ensures { result ≡ outcome_number (refusal_of refusal) }
+{
+    match refusal {
+        Refusal::ByState(t) => t,
+        Refusal::ByInput(t) => t,
+    }
+}
+
 // The number of a verdict or of a refusal.
-pub fn outcome_number(outcome: Outcome) -> u32
+pub fn outcome_number(outcome: Result<Verdict, Refusal>) -> u32
     ensures { result ≡ outcome_number (outcome_of outcome) }
 {
     match outcome {
-        Outcome::Verdict(v) => verdict_number(v),
-        Outcome::ByState(t) => t as u32,
-        Outcome::ByInput(t) => t as u32,
+        Ok(verdict) => verdict_number(verdict),
+        Err(refusal) => refusal_number(refusal) as u32,
     }
 }
 
 // 1 at a refusal, 0 at a verdict.
-fn refused_number(outcome: Outcome) -> u32
+fn refused_number(outcome: Result<Verdict, Refusal>) -> u32
     ensures { result ≡ cond (is_refusal (outcome_of outcome)) 1 0 }
 {
     match outcome {
-        Outcome::Verdict(_) => 0,
-        Outcome::ByState(_) => 1,
-        Outcome::ByInput(_) => 1,
+        Ok(_) => 0,
+        Err(_) => 1,
     }
 }
 
@@ -59,8 +67,7 @@ pub fn numbers(answer: Answer) -> [u64; NUMBERS]
     ensures order { result ≡ in_line answer }
     ensures line { LineOf answer result }
 {
-    let outcome = answer.outcome;
-    let verdict = outcome_number(outcome);
+    let verdict = outcome_number(answer.outcome);
     let flag = flag_number(answer.flag);
     [
         verdict as u64,
@@ -79,12 +86,11 @@ pub fn numbers(answer: Answer) -> [u64; NUMBERS]
 pub fn fields(answer: Answer) -> Fields
     ensures { result ≡ numbers_of answer }
 {
-    let outcome = answer.outcome;
-    let refused = refused_number(outcome);
+    let refused = refused_number(answer.outcome);
     let n = numbers(answer);
     Fields {
-        refused: refused,
-        verdict: outcome_number(outcome),
+        refused,
+        verdict: outcome_number(answer.outcome),
         flag: n[1],
         cost: n[2],
         bound: n[3],

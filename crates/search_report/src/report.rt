@@ -1,10 +1,11 @@
 // The answer of a run that is over, and its steps in the plan buffer.
 
 ghost use Rattle.std.specs.Prelude.{◌≡◌, ◌++◌, ◌≤◌, length, take, drop};
+ghost use Rattle.search_visits.specs.Work.{BestFits};
 ghost use Rattle.search_report.specs.Answers.{Reportable, Reports};
 ghost use Rattle.search_report.specs.Reported.{BoundIs, Decides, Refuses};
 
-use crate::answers::{Answer, Outcome};
+use crate::answers::{Answer, Refusal};
 use costs::hours;
 use model::Cost;
 use search_paths::trace::trace;
@@ -16,25 +17,20 @@ fn copy_bytes(from: &[u8], n: usize, to: &mut [u8])
     requires { (n ≤ length from.now) × (n ≤ length to.old) }
     ensures { to.new ≡ take n from.now ++ drop n to.old }
 {
-    let mut i: usize = 0;
-    while i < n {
-        to[i] = from[i];
-        i += 1;
-    }
+    to[..n].copy_from_slice(&from[..n]);
 }
 
 // The bound at a verdict: low; the best plan's cost where it is the cheapest; 0 where there is no plan.
 fn bound_at(verdict: Verdict, progress: Progress) -> Cost
     ensures { BoundIs verdict progress result }
 {
-    let best = progress.best;
     let low = progress.low;
     let nothing = hours(0);
     match verdict {
-        Verdict::Cheapest => {
-            let cost = best.cost;
-            if best.found { cost } else { nothing }
-        }
+        Verdict::Cheapest => match progress.best {
+            Some(found) => found.cost,
+            None => nothing,
+        },
         Verdict::NoPlan => nothing,
         Verdict::WidthStop => low,
         Verdict::LengthStop => low,
@@ -45,34 +41,31 @@ fn bound_at(verdict: Verdict, progress: Progress) -> Cost
 
 // The answer at a verdict; the best plan, if there is one, is written to the front of the plan buffer.
 fn decided(plan: &mut [u8], best: &[u8], verdict: Verdict, stop: Stop) -> Answer
-    requires { (stop.progress.best.length ≤ length best.now) × (stop.progress.best.length ≤ length plan.old) }
+    requires { BestFits (length best.now) stop.progress.best × BestFits (length plan.old) stop.progress.best }
     ensures { Decides best.now plan.old plan.new verdict stop result }
 {
-    let progress = stop.progress;
-    let found = progress.best;
-    let bound = bound_at(verdict, progress);
-    let tally = progress.tally;
-    if found.found {
-        let n = found.length;
-        let cost = found.cost;
-        copy_bytes(best, n, plan);
-        Answer {
-            outcome: Outcome::Verdict(verdict),
-            flag: true,
-            cost: cost,
-            bound: bound,
-            length: n,
-            tally: tally,
+    let bound = bound_at(verdict, stop.progress);
+    let tally = stop.progress.tally;
+    match stop.progress.best {
+        Some(found) => {
+            copy_bytes(best, found.length, plan);
+            Answer {
+                outcome: Ok(verdict),
+                flag: true,
+                cost: found.cost,
+                bound,
+                length: found.length,
+                tally,
+            }
         }
-    } else {
-        Answer {
-            outcome: Outcome::Verdict(verdict),
+        None => Answer {
+            outcome: Ok(verdict),
             flag: false,
             cost: hours(0),
-            bound: bound,
+            bound,
             length: 0,
-            tally: tally,
-        }
+            tally,
+        },
     }
 }
 
@@ -80,15 +73,14 @@ fn decided(plan: &mut [u8], best: &[u8], verdict: Verdict, stop: Stop) -> Answer
 fn refused(number: u8, cost: Cost, n: usize, stop: Stop) -> Answer
     ensures { Refuses number cost n stop result }
 {
-    let tally = stop.progress.tally;
     let low = stop.progress.low;
     Answer {
-        outcome: Outcome::ByState(number),
+        outcome: Err(Refusal::ByState(number)),
         flag: false,
-        cost: cost,
+        cost,
         bound: low,
         length: n,
-        tally: tally,
+        tally: stop.progress.tally,
     }
 }
 
@@ -97,10 +89,9 @@ pub fn report(plan: &mut [u8], words: &[u64], best: &[u8], limit: usize, stop: S
     requires { Reportable plan.old best.now limit stop }
     ensures { Reports words.now best.now plan.old plan.new stop result }
 {
-    let ending = stop.ending;
     let w = stop.progress.tally.width as usize;
     let k = stop.layer;
-    match ending {
+    match stop.ending {
         Ending::Decided(v) => decided(plan, best, v, stop),
         Ending::At(e, c, i) => {
             trace(words, w, k, i, plan);

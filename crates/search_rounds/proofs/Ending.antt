@@ -4,10 +4,11 @@ use mathlib.Core.Path.{◌≡◌, refl, sym, ap, subst, ◌∙◌}
 use mathlib.Core.Bool.{Bool, true, false, cond}
 use mathlib.Core.List.{List, []}
 use mathlib.Core.Option.{Option, some, none}
+use Rattle.std.specs.Prelude as P
+use Rattle.std.specs.Prelude.{Some, None}
 use native.Mathlib.Omega.{arith}
 use lib.ListN.{length, get_or, drop, length-take, length-drop}
 use Rattle.laws.specs.Lists.{filter}
-use Rattle.laws.proofs.Bools.{not_both}
 use Rattle.model.specs.Meaning.{State}
 use Rattle.model.specs.declared.Cost.{Cost}
 use Rattle.model.specs.Costs.{at_most}
@@ -20,7 +21,7 @@ use Rattle.beam.proofs.Ends.{filter_no_best}
 use Rattle.beam.proofs.Moves.{place_below}
 use Rattle.beam.proofs.Nodes.{nodes_none, raised_low_lem}
 use Rattle.search_expansion.specs.Expansion.{BestIs}
-use Rattle.search_expansion.specs.declared.trials.Best.{Best}
+use Rattle.search_expansion.specs.declared.trials.Found.{Found}
 use Rattle.search_paths.specs.Routes.{path_by, next_of}
 use Rattle.search_visits.specs.Work.{best_of, progress_of, round_of, round_in}
 use Rattle.search_visits.proofs.Visiting.{best_is}
@@ -31,19 +32,19 @@ use Rattle.search_visits.specs.declared.work.Round.{Round}
 -- ---- what remains
 
 module _ {layer : List ℕ} {w n : ℕ} where
-  pub remains_below : (best : Best) (count : ℕ) → best.found ≡ true → Below w n count best.cost layer → Remains layer w best n count
-  remains_below best count found b = record { fewer = b.fewer; still = b.layer; left = by_best }
+  pub remains_below : {best : P.Option Found} {found : Found} (count : ℕ) → best ≡ Some found → Below w n count found.cost layer → Remains layer w best n count
+  remains_below {found = found} count is_found b = rw is_found (record { fewer = b.fewer; still = b.layer; left = by_best })
     where
-      by_best : (bytes : List ℕ) (path : ℕ → List ℕ) (o : Option (Route Cost)) → BestIs best o → nodes_of w layer bytes path count ≡ filter (λ m. below_best (costs_in bytes) (system_in bytes) m.f o) (nodes_of w layer bytes path n)
-      by_best bytes path none is = absurd (not_both found is)
-      by_best bytes path (some r) is = b.left bytes path r is.1
+      by_best : (bytes : List ℕ) (path : ℕ → List ℕ) (o : Option (Route Cost)) → BestIs (Some found) o → nodes_of w layer bytes path count ≡ filter (λ m. below_best (costs_in bytes) (system_in bytes) m.f o) (nodes_of w layer bytes path n)
+      by_best bytes path none is = absurd is
+      by_best bytes path (some r) is = b.left bytes path r is
 
-  pub remains_all : (best : Best) → best.found ≡ false → Layer w n layer → Remains layer w best n n
-  remains_all best missing la = record { fewer = omega arith; still = la; left = by_best }
+  pub remains_all : {best : P.Option Found} → best ≡ None → Layer w n layer → Remains layer w best n n
+  remains_all missing la = rw missing (record { fewer = omega arith; still = la; left = by_best })
     where
-      by_best : (bytes : List ℕ) (path : ℕ → List ℕ) (o : Option (Route Cost)) → BestIs best o → nodes_of w layer bytes path n ≡ filter (λ m. below_best (costs_in bytes) (system_in bytes) m.f o) (nodes_of w layer bytes path n)
+      by_best : (bytes : List ℕ) (path : ℕ → List ℕ) (o : Option (Route Cost)) → BestIs None o → nodes_of w layer bytes path n ≡ filter (λ m. below_best (costs_in bytes) (system_in bytes) m.f o) (nodes_of w layer bytes path n)
       by_best bytes path none is = sym (filter_no_best bytes (nodes_of w layer bytes path n))
-      by_best bytes path (some r) is = absurd (not_both is.0 missing)
+      by_best bytes path (some r) is = absurd is
 
 -- ---- low
 

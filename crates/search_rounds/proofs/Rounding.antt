@@ -1,7 +1,8 @@
 -- A round: the root alone, then turn after turn; what is left of it is the same whole round.
-use Prim.Native.Nat.{ℕ, suc, ◌+◌, ◌-◌, ◌≤◌, ◌<◌}
-use mathlib.Core.Path.{◌≡◌, refl, sym, ap, subst, ◌∙◌}
-use mathlib.Core.Bool.{Bool, true, false}
+use Prim.Native.Nat.{ℕ, suc, ◌+◌, ◌-◌}
+use mathlib.Core.Path.{◌≡◌, refl, sym, subst, ◌∙◌}
+use mathlib.Core.Bool.{false}
+use Rattle.std.specs.Prelude.{Some, None, Ok, Err}
 use mathlib.Core.List.{List}
 use native.Mathlib.Omega.{arith}
 use native.Mathlib.Numerals.{add-one}
@@ -18,62 +19,40 @@ use Rattle.steps.specs.Follow.{costs_in}
 use Rattle.beam.specs.Nodes.{node_at}
 use Rattle.beam.proofs.Nodes.{nodes_none}
 use Rattle.search_paths.specs.Routes.{path_by, next_of, root_of, RootIs, RootFits, Startable, Started}
-use Rattle.search_visits.specs.Work.{Within, Ready, progress_of, round_of, round_begun, round_in, result_of, Inside}
+use Rattle.search_visits.specs.Work.{Within, Ready, progress_of, round_of, round_begun, result_of}
 use Rattle.search_rounds.specs.Rounds.{Roundable, layers_from, PassesLayer, RoundEnds}
 use Rattle.search_visits.specs.declared.work.Progress.{Progress}
 use Rattle.search_visits.specs.declared.work.Round.{Round}
+use Rattle.search_visits.specs.declared.work.Ending.{Ending}
 use Rattle.search_rounds.specs.declared.ends.Passed.{Passed}
 
--- what is left of a round behind a turn in layer k: the layers from k + 1 on, or its end
-unfoldable pub rest : (bytes words plan : List ℕ) (w budget limit k : ℕ) (more : Bool) → Passed → Result (S.Round State Cost) Cost
-rest bytes words plan w budget limit k true y = layers_from bytes words plan w budget limit (suc k) y.nodes y.round
-rest bytes words plan w budget limit k false y = result_of (path_by words w k) y.next (round_in bytes words plan w k y.round)
+-- in layer k, of n nodes: what is left of the round is what was left in its first layer
+pub record Going (bytes outline words₀ plan₀ words plan : List ℕ) (w budget limit k n : ℕ) (x₀ x : Round) : Type 0 where
+  pub ready : Ready bytes outline words plan w limit k n x
+  pub none_yet : x.count ≡ 0
+  pub words_same : length words ≡ length words₀
+  pub plan_same : length plan ≡ length plan₀
+  pub round_same : round_begun x.progress ≡ round_begun x₀.progress
+  pub same : layers_from bytes words₀ plan₀ w budget limit 0 1 x₀ ≡ layers_from bytes words plan w budget limit k n x
 
--- behind a turn in layer k
-pub record Behind (bytes outline words plan : List ℕ) (w budget limit k : ℕ) (y : Passed) : Type 0 where
-  pub best_fits : y.round.progress.best.length ≤ limit
-  pub inside : Inside w limit k y.next
-  pub counted : length (round_in bytes words plan w k y.round).kept ≡ y.round.count
-  pub going_on : y.more ≡ true → (k < limit) × (y.round.count ≡ 0) × Ready bytes outline words plan w limit (suc k) y.nodes y.round
+pub going_first : {bytes outline words plan : List ℕ} {w budget limit : ℕ} {x : Round} → Ready bytes outline words plan w limit 0 1 x → x.count ≡ 0 → Going bytes outline words plan words plan w budget limit 0 1 x x
+going_first r none_yet = record { ready = r; none_yet = none_yet; words_same = refl; plan_same = refl; round_same = refl; same = refl }
 
-module _ {bytes outline words words' plan plan' : List ℕ} {w budget limit k n : ℕ} {x : Round} {y : Passed} (t : PassesLayer bytes outline words words' plan plan' w budget limit k n x y) where
-  behind : Behind bytes outline words' plan' w budget limit k y
-  behind = record { best_fits = t.best_fits; inside = t.inside; counted = t.counted; going_on = λ m. let g = t.going_on m in (g.0, g.1, g.2) }
-
-  rest_same : layers_from bytes words plan w budget limit k n x ≡ rest bytes words' plan' w budget limit k y.more y
-  rest_same = by_more y.more refl
-    where
-      by_more : (b : Bool) → y.more ≡ b → layers_from bytes words plan w budget limit k n x ≡ rest bytes words' plan' w budget limit k b y
-      by_more true m = unfold rest in (t.going_on m).3
-      by_more false m = unfold rest in t.ends m
-
--- the loop: what is left is what was left at its start
-pub record Going (bytes outline words₀ plan₀ words plan : List ℕ) (w budget limit k₀ k : ℕ) (x₀ x : Passed) : Type 0 where
-  pub now : Behind bytes outline words plan w budget limit k x
-  pub round_same : round_begun x.round.progress ≡ round_begun x₀.round.progress
-  pub same : rest bytes words₀ plan₀ w budget limit k₀ x₀.more x₀ ≡ rest bytes words plan w budget limit k x.more x
-
-pub going_first : {bytes outline words words' plan plan' : List ℕ} {w budget limit k n : ℕ} {x : Round} {y : Passed} → PassesLayer bytes outline words words' plan plan' w budget limit k n x y
-    → Going bytes outline words' plan' words' plan' w budget limit k k y y
-going_first t = record { now = behind t; round_same = refl; same = refl }
-
-pub going_more : {bytes outline words₀ plan₀ words plan words' plan' : List ℕ} {w budget limit k₀ k : ℕ} {x₀ x y : Passed} → Going bytes outline words₀ plan₀ words plan w budget limit k₀ k x₀ x → x.more ≡ true
-    → PassesLayer bytes outline words words' plan plan' w budget limit (k + 1) x.nodes x.round y → Going bytes outline words₀ plan₀ words' plan' w budget limit k₀ (k + 1) x₀ y
-unfolding rest
-going_more {bytes} {words = words} {plan} {w = w} {budget} {limit} {k = k} {x = x} g m t =
-    record {
-      now = behind t;
+pub going_more : {bytes outline words₀ plan₀ words plan words' plan' : List ℕ} {w budget limit k n nodes : ℕ} {x₀ x : Round} {y : Passed} → Going bytes outline words₀ plan₀ words plan w budget limit k n x₀ x
+    → PassesLayer bytes outline words words' plan plan' w budget limit k n x y → y.next ≡ Ok (Some nodes) → length words' ≡ length words → length plan' ≡ length plan
+    → Going bytes outline words₀ plan₀ words' plan' w budget limit (k + 1) nodes x₀ y.round
+going_more {k = k} g t e a b =
+    let z : k + 1 ≡ suc k = add-one k in
+    let on = t.going_on _ e in
+    rw z
+    (record {
+      ready = on.2;
+      none_yet = on.1;
+      words_same = a ∙ g.words_same;
+      plan_same = b ∙ g.plan_same;
       round_same = t.round_same ∙ g.round_same;
-      same =
-          g.same
-          ∙ ap (λ (b : Bool). rest bytes words plan w budget limit k b x) m
-          ∙ ap (λ (j : ℕ). layers_from bytes words plan w budget limit j x.nodes x.round) (sym (add-one k))
-          ∙ rest_same t;
-    }
-
-pub ready_next : {bytes outline words₀ plan₀ words plan : List ℕ} {w budget limit k₀ k : ℕ} {x₀ x : Passed} → Going bytes outline words₀ plan₀ words plan w budget limit k₀ k x₀ x → x.more ≡ true
-    → Ready bytes outline words plan w limit (k + 1) x.nodes x.round
-ready_next {bytes} {outline} {words = words} {plan} {w = w} {limit = limit} {k = k} {x = x} g m = subst (λ (j : ℕ). Ready bytes outline words plan w limit j x.nodes x.round) (sym (add-one k)) (g.now.going_on m).2
+      same = g.same ∙ on.3;
+    })
 
 -- ---- the first layer
 
@@ -108,16 +87,29 @@ module _ {bytes outline root words₀ words plan : List ℕ} {w limit : ℕ} {p 
       let z : limit - 0 ≡ limit = omega arith in
       sym (rw (z, started.root_alone bytes, is.node, nodes_none w (next_of w words) bytes (path_by words w 0)))
 
-  pub round_ends : (budget : ℕ) {words₁ plan₁ words₂ plan₂ : List ℕ} {x y : Passed} {k : ℕ} → PassesLayer bytes outline words words₁ plan plan₁ w budget limit 0 1 (fresh p) x
-      → Going bytes outline words₁ plan₁ words₂ plan₂ w budget limit 0 k x y → y.more ≡ false → RoundEnds bytes root words₂ plan plan₂ w budget limit p (record { round = y.round; next = y.next; layer = k })
-  round_ends budget {words₂ = words₂} {plan₂} {y = y} {k} t g m =
-      record {
-        best_fits = g.now.best_fits;
-        round_same = g.round_same ∙ t.round_same;
-        inside = g.now.inside;
-        counted = g.now.counted;
-        same = λ o h is. round_same budget o h is ∙ rest_same t ∙ g.same ∙ ap (λ (b : Bool). rest bytes words₂ plan₂ w budget limit k b y) m ∙ (unfold rest in refl);
-      }
+  module _ {budget : ℕ} {words₁ plan₁ words₂ plan₂ : List ℕ} {k n : ℕ} {x : Round} {y : Passed} (g : Going bytes outline words plan words₁ plan₁ w budget limit k n (fresh p) x)
+      (t : PassesLayer bytes outline words₁ words₂ plan₁ plan₂ w budget limit k n x y)
+    where
+      pub round_done : y.next ≡ Ok None → RoundEnds bytes root words₂ plan plan₂ w budget limit p (record { round = y.round; next = Ok tt; layer = k })
+      unfolding result_of
+      round_done e =
+          record {
+            best_fits = t.best_fits;
+            round_same = t.round_same ∙ g.round_same;
+            inside = tt;
+            counted = t.counted;
+            same = λ o h is. round_same budget o h is ∙ g.same ∙ t.ends e;
+          }
+
+      pub round_over : {e : Ending} → y.next ≡ Err e → RoundEnds bytes root words₂ plan plan₂ w budget limit p (record { round = y.round; next = Err e; layer = k })
+      round_over {e} over =
+          record {
+            best_fits = t.best_fits;
+            round_same = t.round_same ∙ g.round_same;
+            inside = rw over at t.inside;
+            counted = t.counted;
+            same = λ o h is. round_same budget o h is ∙ g.same ∙ t.over e over;
+          }
 
 pub startable : {bytes outline root words plan : List ℕ} {w limit : ℕ} {p : Progress} → Roundable bytes outline root words plan w limit p → Startable root words w
 startable able =

@@ -1,5 +1,6 @@
 -- What is promised of the parts of a turn: what remains at a layer's end, how low rises, and the layer behind it.
-use Rattle.std.specs.Prelude.{ℕ, zero, suc, ◌-◌, ◌≤◌, ◌<◌, ◌≡◌, Bool, true, false, List}
+use Rattle.std.specs.Prelude.{ℕ, zero, suc, ◌-◌, ◌≤◌, ◌<◌, ◌≡◌, Bool, List, Some, None}
+use Rattle.std.specs.Prelude as P
 use Rattle.std.proofs.Math.Option.{Option}
 use Rattle.laws.specs.Lists.{filter}
 use Rattle.model.specs.Meaning.{State}
@@ -12,13 +13,11 @@ use Rattle.search_expansion.specs.Expansion.{BestIs}
 use Rattle.search_paths.specs.Routes.{next_of, Taken}
 use Rattle.search_visits.specs.Work.{round_begun, round_in}
 use Rattle.search_rounds.specs.Rounds.{layers_from}
-use Rattle.search_expansion.specs.declared.trials.Best.{Best}
+use Rattle.search_expansion.specs.declared.trials.Found.{Found}
 use Rattle.search_visits.specs.declared.work.Round.{Round}
-use Rattle.search_visits.specs.declared.work.Next.TheVariants as N
-use Rattle.search_rounds.specs.declared.ends.Passed.{Passed}
 
 -- rule 6: of the first n nodes of a layer count are left, those with f below the best
-pub record Remains (layer : List ℕ) (w : ℕ) (best : Best) (n count : ℕ) : Type 0 where
+pub record Remains (layer : List ℕ) (w : ℕ) (best : P.Option Found) (n count : ℕ) : Type 0 where
   pub fewer : count ≤ n
   pub still : Layer w count layer
   pub left : (bytes : List ℕ) (path : ℕ → List ℕ) (b : Option (S.Route Cost)) → BestIs best b
@@ -33,19 +32,18 @@ unfoldable pub behind_end : (bytes : List ℕ) (w budget left : ℕ) → S.Round
 behind_end bytes w budget zero r = S.on r
 behind_end bytes w budget (suc left) r = S.unless_ended (costs_in bytes) (system_in bytes) r (λ x. S.layers (costs_in bytes) (system_in bytes) budget w left x.kept (S.next_layer (costs_in bytes) (system_in bytes) x))
 
--- layer k + 1 is current
-pub record Onward (words words' : List ℕ) (w limit k : ℕ) (x : Round) (y : Passed) : Type 0 where
+-- layer k + 1 is current, and has so many nodes. y: the round in it
+pub record Onward (words words' : List ℕ) (w limit k : ℕ) (x y : Round) (nodes : ℕ) : Type 0 where
   pub further : k < limit
-  pub none_yet : y.round.count ≡ 0
-  pub as_many : y.nodes ≡ x.count
+  pub none_yet : y.count ≡ 0
+  pub as_many : nodes ≡ x.count
   pub taken : Taken words words' w k x.count
-  pub same : (bytes plan : List ℕ) (budget : ℕ) → behind_end bytes w budget (limit - k) (round_in bytes words plan w k x) ≡ layers_from bytes words' plan w budget limit (suc k) y.nodes y.round
+  pub same : (bytes plan : List ℕ) (budget : ℕ) → behind_end bytes w budget (limit - k) (round_in bytes words plan w k x) ≡ layers_from bytes words' plan w budget limit (suc k) nodes y
 
--- the round x at the end of layer k goes on with layer k + 1, or it is at its end
-pub record EntersNext (words words' : List ℕ) (w limit k : ℕ) (x : Round) (y : Passed) : Type 0 where
-  pub best_same : y.round.progress.best.length ≡ x.progress.best.length
-  pub round_same : round_begun y.round.progress ≡ round_begun x.progress
-  pub still_on : y.next ≡ N.On
-  pub layer : Layer w y.round.count (next_of w words')
-  pub going_on : y.more ≡ true → Onward words words' w limit k x y
-  pub ends : y.more ≡ false → (bytes plan : List ℕ) (budget : ℕ) → behind_end bytes w budget (limit - k) (round_in bytes words plan w k x) ≡ S.on (round_in bytes words' plan w k y.round)
+-- the round x at the end of layer k goes on as y with layer k + 1, of so many nodes, or it is at its end
+pub record EntersNext (words words' : List ℕ) (w limit k : ℕ) (x y : Round) (follows : P.Option ℕ) : Type 0 where
+  pub best_same : y.progress.best ≡ x.progress.best
+  pub round_same : round_begun y.progress ≡ round_begun x.progress
+  pub layer : Layer w y.count (next_of w words')
+  pub going_on : (nodes : ℕ) → follows ≡ Some nodes → Onward words words' w limit k x y nodes
+  pub ends : follows ≡ None → (bytes plan : List ℕ) (budget : ℕ) → behind_end bytes w budget (limit - k) (round_in bytes words plan w k x) ≡ S.on (round_in bytes words' plan w k y)

@@ -1,5 +1,5 @@
 -- What is promised of a layer's end, a turn and a round in code: equations with the definition's rules 1 and 6.
-use Rattle.std.specs.Prelude.{ℕ, suc, ◌+◌, ◌-◌, ◌*◌, ◌≤◌, ◌<◌, ◌≡◌, true, false, List, length}
+use Rattle.std.specs.Prelude.{ℕ, suc, ◌+◌, ◌-◌, ◌*◌, ◌≤◌, ◌<◌, ◌≡◌, List, length, Some, None, Ok, Err, IfErr}
 use Rattle.model.specs.Numbers.{most_steps}
 use Rattle.model.specs.System.{Origin}
 use Rattle.model.specs.Meaning.{State}
@@ -11,7 +11,8 @@ use Rattle.beam.specs.Layers.{Layer}
 use Rattle.search_paths.specs.Routes.{RootIs, RootFits, path_by, next_of, current_of}
 use Rattle.search_visits.specs.declared.work.Progress.{Progress}
 use Rattle.search_visits.specs.declared.work.Round.{Round}
-use Rattle.search_visits.specs.Work.{progress_of, round_begun, result_of, round_in, Ready, Inside}
+use Rattle.search_visits.specs.declared.work.Ending.{Ending}
+use Rattle.search_visits.specs.Work.{progress_of, round_begun, result_of, round_in, BestFits, Ready, EndsInside, Inside}
 use Rattle.search_rounds.specs.declared.ends.Passed.{Passed}
 use Rattle.search_rounds.specs.declared.Ended.{Ended}
 use Rattle.beam_order.specs.Slots.{backs_at}
@@ -29,7 +30,7 @@ pub record Roundable (bytes outline root words plan : List ℕ) (w limit : ℕ) 
   pub outlined : Outlined bytes outline
   pub room : RoomFor words plan w limit
   pub root_fits : RootFits root limit
-  pub best_fits : p.best.length ≤ limit
+  pub best_fits : BestFits limit p.best
 
 -- what the end of layer k needs, where count nodes are in the making
 pub record Enterable (words : List ℕ) (w limit k count : ℕ) : Type 0 where
@@ -44,7 +45,7 @@ pub record Enterable (words : List ℕ) (w limit k count : ℕ) : Type 0 where
 pub record LayerEnds (words : List ℕ) (w : ℕ) (x y : Round) : Type 0 where
   pub fewer : y.count ≤ x.count
   pub layer : Layer w y.count (next_of w words)
-  pub best_same : y.progress.best.length ≡ x.progress.best.length
+  pub best_same : y.progress.best ≡ x.progress.best
   pub round_same : round_begun y.progress ≡ round_begun x.progress
   pub same : (bytes plan : List ℕ) (k : ℕ) → S.layer_end (costs_in bytes) (system_in bytes) (round_in bytes words plan w k x) ≡ round_in bytes words plan w k y
 
@@ -55,18 +56,19 @@ layers_from bytes words plan w budget limit k n x =
 
 -- they go on with layer k + 1, or the round is at its end, or the run is over
 pub record PassesLayer (bytes outline words words' plan plan' : List ℕ) (w budget limit k n : ℕ) (x : Round) (y : Passed) : Type 0 where
-  pub best_fits : y.round.progress.best.length ≤ limit
+  pub best_fits : BestFits limit y.round.progress.best
   pub round_same : round_begun y.round.progress ≡ round_begun x.progress
-  pub inside : Inside w limit k y.next
+  pub inside : IfErr y.next (EndsInside w limit k)
   pub counted : length (round_in bytes words' plan' w k y.round).kept ≡ y.round.count
-  pub going_on : y.more ≡ true
-      → (k < limit) × (y.round.count ≡ 0) × Ready bytes outline words' plan' w limit (suc k) y.nodes y.round
-      × (layers_from bytes words plan w budget limit k n x ≡ layers_from bytes words' plan' w budget limit (suc k) y.nodes y.round)
-  pub ends : y.more ≡ false → layers_from bytes words plan w budget limit k n x ≡ result_of (path_by words' w k) y.next (round_in bytes words' plan' w k y.round)
+  pub going_on : (nodes : ℕ) → y.next ≡ Ok (Some nodes)
+      → (k < limit) × (y.round.count ≡ 0) × Ready bytes outline words' plan' w limit (suc k) nodes y.round
+      × (layers_from bytes words plan w budget limit k n x ≡ layers_from bytes words' plan' w budget limit (suc k) nodes y.round)
+  pub ends : y.next ≡ Ok None → layers_from bytes words plan w budget limit k n x ≡ S.on (round_in bytes words' plan' w k y.round)
+  pub over : (e : Ending) → y.next ≡ Err e → layers_from bytes words plan w budget limit k n x ≡ result_of (path_by words' w k) (Err e) (round_in bytes words' plan' w k y.round)
 
 -- a round from the root on, begun with p: its layers, then on to rule 7, or the run is over in it
 pub record RoundEnds (bytes root words' plan plan' : List ℕ) (w budget limit : ℕ) (p : Progress) (y : Ended) : Type 0 where
-  pub best_fits : y.round.progress.best.length ≤ limit
+  pub best_fits : BestFits limit y.round.progress.best
   pub round_same : round_begun y.round.progress ≡ round_begun p
   pub inside : Inside w limit y.layer y.next
   pub counted : length (round_in bytes words' plan' w y.layer y.round).kept ≡ y.round.count

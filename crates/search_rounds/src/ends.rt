@@ -13,30 +13,27 @@ use beam_order::slots::{NEXT_AT, NEXT_END, ORDER_AT, SLOT_WORDS, f_in};
 use costs::at_most;
 use model::Cost;
 use outline::layout::PREPARED_WORDS;
-use search_expansion::trials::Best;
+use search_expansion::trials::Found;
 use search_paths::current::next_layer;
 use search_visits::layers::layer;
-use search_visits::work::{Limits, Next, Progress, Round};
+use search_visits::work::{Ending, Limits, Progress, Round};
 
-// A round after a layer: `more` tells that the layer behind it, of `nodes` nodes, is current; else the round is at its end, or the run
-// is over.
+// A round after a layer: the layer behind it, of so many nodes, is current; or there is none, and the round is at its end; or the run is
+// over.
 #[derive(Clone, Copy)]
 pub struct Passed {
     pub round: Round,
-    pub next: Next,
-    pub more: bool,
-    pub nodes: usize,
+    pub next: Result<Option<usize>, Ending>,
 }
 
 // How many of the first nodes of the layer are left, those with f below the best.
-fn remaining(layer: &[u64], w: usize, best: Best, count: usize) -> usize
+fn remaining(layer: &[u64], w: usize, best: Option<Found>, count: usize) -> usize
     requires { Layer w count layer.now }
     ensures { Remains layer.now w best count result }
 {
-    if best.found {
-        keep_below(layer, w, count, best.cost)
-    } else {
-        count
+    match best {
+        Some(found) => keep_below(layer, w, count, found.cost),
+        None => count,
     }
 }
 
@@ -45,10 +42,7 @@ fn raised(layer: &[u64], w: usize, marked: bool, count: usize, low: Cost) -> Cos
     requires { Layer w count layer.now × (w ≤ 4096) }
     ensures { Raises layer.now w marked count low result }
 {
-    if marked {
-        return low;
-    }
-    if count == 0 {
+    if marked || count == 0 {
         return low;
     }
     let slot = layer[ORDER_AT * w] as usize;
@@ -63,56 +57,35 @@ fn layer_end(words: &[u64], w: usize, round: Round) -> Round
 {
     let a = NEXT_AT * w;
     let e = NEXT_END * w;
-    let progress = round.progress;
-    let best = progress.best;
-    let tally = progress.tally;
-    let marks = round.marks;
-    let count = round.count;
-    let left = remaining(&words[a..e], w, best, count);
-    let marked = marks.width;
-    let low = progress.low;
-    let higher = raised(&words[a..e], w, marked, left, low);
+    let count = remaining(&words[a..e], w, round.progress.best, round.count);
+    let marked = round.marks.width;
+    let low = raised(&words[a..e], w, marked, count, round.progress.low);
     Round {
-        count: left,
-        marks: marks,
-        improved: round.improved,
+        count,
         progress: Progress {
-            best: best,
-            low: higher,
-            tally: tally,
+            low,
+            ..round.progress
         },
+        ..round
     }
 }
 
-// Behind the end of layer k: makes the layer behind it current, unless the round is at its end.
-fn enter_next(words: &mut [u64], w: usize, limit: usize, k: usize, round: Round) -> Passed
+// Behind the end of layer k: makes the layer behind it current, and tells how many nodes it has, unless the round is at its end.
+fn enter_next(
+    words: &mut [u64],
+    w: usize,
+    limit: usize,
+    k: usize,
+    round: Round,
+) -> (Round, Option<usize>)
     requires { Enterable words.old w limit k round.count }
-    ensures { EntersNext words.old words.new w limit k round result }
+    ensures { EntersNext words.old words.new w limit k round result.0 result.1 }
 {
-    let count = round.count;
-    let improved = round.improved;
-    if k == limit || count == 0 || improved {
-        return Passed {
-            round: round,
-            next: Next::On,
-            more: false,
-            nodes: 0,
-        };
+    if k == limit || round.count == 0 || round.improved {
+        return (round, None);
     }
-    next_layer(words, w, k, count);
-    let marks = round.marks;
-    let progress = round.progress;
-    Passed {
-        round: Round {
-            count: 0,
-            marks: marks,
-            improved: improved,
-            progress: progress,
-        },
-        next: Next::On,
-        more: true,
-        nodes: count,
-    }
+    next_layer(words, w, k, round.count);
+    (Round { count: 0, ..round }, Some(round.count))
 }
 
 // Takes the n nodes of layer k, ends the layer, and makes the layer behind it current where the round has one.
@@ -131,18 +104,18 @@ pub fn pass_layer(
 {
     let w = limits.width;
     let x = layer(words, plan, model, outline, limits, k, n, round);
-    let after = x.round;
-    let next = x.next;
-    match next {
-        Next::On => {
-            let end = layer_end(words, w, after);
-            enter_next(words, w, limits.length, k, end)
+    match x.next {
+        Ok(()) => {
+            let end = layer_end(words, w, x.round);
+            let (after, follows) = enter_next(words, w, limits.length, k, end);
+            Passed {
+                round: after,
+                next: Ok(follows),
+            }
         }
-        Next::Over(e) => Passed {
-            round: after,
-            next: Next::Over(e),
-            more: false,
-            nodes: 0,
+        Err(e) => Passed {
+            round: x.round,
+            next: Err(e),
         },
     }
 }

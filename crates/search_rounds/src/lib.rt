@@ -10,13 +10,13 @@ use crate::ends::pass_layer;
 use beam_order::slots::SLOT_WORDS;
 use outline::layout::PREPARED_WORDS;
 use search_paths::current::start_round;
-use search_visits::work::{Limits, Marks, Next, Progress, Round};
+use search_visits::work::{Ending, Limits, Marks, Progress, Round};
 
 // A round at its end, or where the run was over: in layer `layer`.
 #[derive(Clone, Copy)]
 pub struct Ended {
     pub round: Round,
-    pub next: Next,
+    pub next: Result<(), Ending>,
     pub layer: usize,
 }
 
@@ -34,28 +34,40 @@ pub fn round(
     ensures { RoundEnds model.now root.now words.new plan.old plan.new limits.width limits.budget limits.length progress result }
 {
     start_round(words, root, limits.width);
-    let fresh = Round {
+    let mut now = Round {
         count: 0,
         marks: Marks {
             width: false,
             length: false,
         },
         improved: false,
-        progress: progress,
+        progress,
     };
-    let mut x = pass_layer(words, plan, model, outline, limits, 0, 1, fresh);
     let mut k: usize = 0;
-    while x.more {
-        let before = x.round;
-        let nodes = x.nodes;
-        k += 1;
-        x = pass_layer(words, plan, model, outline, limits, k, nodes, before);
-    }
-    let round = x.round;
-    let next = x.next;
-    Ended {
-        round: round,
-        next: next,
-        layer: k,
+    let mut n: usize = 1;
+    // a layer tells whether another follows: no range gives how many there are
+    loop {
+        let x = pass_layer(words, plan, model, outline, limits, k, n, now);
+        now = x.round;
+        match x.next {
+            Ok(Some(nodes)) => {
+                k += 1;
+                n = nodes;
+            }
+            Ok(None) => {
+                return Ended {
+                    round: now,
+                    next: Ok(()),
+                    layer: k,
+                };
+            }
+            Err(e) => {
+                return Ended {
+                    round: now,
+                    next: Err(e),
+                    layer: k,
+                };
+            }
+        }
     }
 }

@@ -3,6 +3,7 @@ use Prim.Native.Nat.{ℕ}
 use mathlib.Core.Path.{◌≡◌, sym, ap}
 use mathlib.Core.Bool.{Bool, true, false, not, ◌&&◌}
 use mathlib.Core.List.{List, [], ◌∷◌}
+use Rattle.std.specs.Prelude.{Some, None}
 use lib.Dec.{eqb}
 use lib.ListN.{length}
 use borrow.Author.Tests.{eq-eqb, ne_eqb}
@@ -14,7 +15,7 @@ use Rattle.search.specs.Search.{Node}
 use Rattle.search.specs.Search as S
 use Rattle.search_visits.specs.declared.work.Verdict.TheVariants as W
 use Rattle.search_visits.specs.declared.work.Round.{Round}
-use Rattle.search_runs.specs.declared.judges.Judgement.TheVariants as J
+use Rattle.search_expansion.specs.declared.trials.Found.{Found}
 use Rattle.search_visits.specs.Work.{round_of, progress_of, best_of, verdict_of}
 use Rattle.search_runs.specs.Runs.{Judges, judgement_of}
 use Rattle.search_runs.specs.Widths.{nothing_left}
@@ -32,26 +33,26 @@ unfolding round_of nothing_left
 same_test kept plan x e = ap (λ b. not x.marks.width && not x.marks.length && b) (none_left kept x.count e)
 
 module _ (widest : Bool) (x : Round) where
-  pub judged_cheapest : nothing_left x ≡ true → x.progress.best.found ≡ true → Judges widest x (J.Ended W.Cheapest)
+  pub judged_cheapest : {found : Found} → nothing_left x ≡ true → x.progress.best ≡ Some found → Judges widest x (Some W.Cheapest)
   unfolding S.judge S.end_with S.exhausted judgement_of verdict_of round_of progress_of best_of
   judged_cheapest d f = record { same = λ bytes plan kept e. rw (same_test kept plan x e, d, f) }
 
-  pub judged_no_plan : nothing_left x ≡ true → x.progress.best.found ≡ false → Judges widest x (J.Ended W.NoPlan)
+  pub judged_no_plan : nothing_left x ≡ true → x.progress.best ≡ None → Judges widest x (Some W.NoPlan)
   unfolding S.judge S.end_with S.exhausted judgement_of verdict_of round_of progress_of best_of
   judged_no_plan d f = record { same = λ bytes plan kept e. rw (same_test kept plan x e, d, f) }
 
-  pub judged_better : nothing_left x ≡ false → x.improved ≡ true → Judges widest x J.Again
+  pub judged_better : nothing_left x ≡ false → x.improved ≡ true → Judges widest x None
   unfolding S.judge S.end_with judgement_of round_of
   judged_better d i = record { same = λ bytes plan kept e. rw (same_test kept plan x e, d, i) }
 
-  pub judged_width_stop : nothing_left x ≡ false → x.improved ≡ false → x.marks.width ≡ true → widest ≡ true → Judges widest x (J.Ended W.WidthStop)
+  pub judged_width_stop : nothing_left x ≡ false → x.improved ≡ false → x.marks.width ≡ true → widest ≡ true → Judges widest x (Some W.WidthStop)
   unfolding S.judge S.end_with judgement_of verdict_of round_of
   judged_width_stop d i w a = record { same = λ bytes plan kept e. rw (same_test kept plan x e, d, i, w, a) }
 
-  pub judged_wider : nothing_left x ≡ false → x.improved ≡ false → x.marks.width ≡ true → widest ≡ false → Judges widest x J.Again
+  pub judged_wider : nothing_left x ≡ false → x.improved ≡ false → x.marks.width ≡ true → widest ≡ false → Judges widest x None
   unfolding S.judge S.end_with judgement_of round_of
   judged_wider d i w a = record { same = λ bytes plan kept e. rw (same_test kept plan x e, d, i, w, a) }
 
-  pub judged_length_stop : nothing_left x ≡ false → x.improved ≡ false → x.marks.width ≡ false → Judges widest x (J.Ended W.LengthStop)
+  pub judged_length_stop : nothing_left x ≡ false → x.improved ≡ false → x.marks.width ≡ false → Judges widest x (Some W.LengthStop)
   unfolding S.judge S.end_with judgement_of verdict_of round_of
   judged_length_stop d i w = record { same = λ bytes plan kept e. rw (same_test kept plan x e, d, i, w) }

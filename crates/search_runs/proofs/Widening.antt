@@ -1,9 +1,11 @@
 -- The rounds of a run: a round that is judged, and what the loop over the rounds keeps.
 use Prim.Native.Nat.{ℕ, suc, ◌+◌, ◌-◌, ◌*◌, ◌≤◌, ◌<◌}
 use mathlib.Core.Path.{◌≡◌, refl, sym, ap, subst, ◌∙◌}
-use mathlib.Core.Bool.{Bool, true, false, ◌&&◌}
+use mathlib.Core.Bool.{Bool, true, ◌&&◌}
 use mathlib.Core.List.{List}
 use mathlib.Core.Option.{none}
+use Rattle.std.specs.Prelude as P
+use Rattle.std.specs.Prelude.{Some, None, Ok, Err}
 use lib.Dec.{leb, eqb}
 use lib.ListN.{length, get_or, drop}
 use native.Mathlib.Omega.{arith}
@@ -29,13 +31,10 @@ use Rattle.search_visits.specs.declared.work.Verdict.TheVariants as W
 use Rattle.search_visits.specs.declared.work.Progress.{Progress}
 use Rattle.search_visits.specs.declared.work.Ending.{Ending}
 use Rattle.search_visits.specs.declared.work.Ending.TheVariants as E
-use Rattle.search_visits.specs.declared.work.Next.TheVariants as N
 use Rattle.search_rounds.specs.declared.Ended.{Ended}
-use Rattle.search_runs.specs.declared.judges.Judgement.{Judgement}
-use Rattle.search_runs.specs.declared.judges.Judgement.TheVariants as J
 use Rattle.search_runs.specs.declared.Judged.{Judged}
 use Rattle.search_paths.specs.Routes.{RootIs, path_by, next_of}
-use Rattle.search_visits.specs.Work.{verdict_of, best_of, progress_of, round_of, round_in, ending_of, result_of}
+use Rattle.search_visits.specs.Work.{verdict_of, best_of, BestFits, progress_of, round_of, round_in, ending_of, result_of}
 use Rattle.search_rounds.specs.Rounds.{RoomFor, RoundEnds}
 use Rattle.search_runs.specs.Runs.{Judges, judgement_of, Runs}
 use Rattle.search_runs.specs.Widths.{begins_at, after_of, RoundJudged}
@@ -46,7 +45,7 @@ use Rattle.beam_widths.proofs.Places.{last_empty, next_inside, next_is, later_ar
 
 module _ {bytes root words' plan plan' : List ℕ} {w budget limit : ℕ} {p : Progress} {y : Ended} (r : RoundEnds bytes root words' plan plan' w budget limit p y) where
   -- the run was over in the round
-  pub round_over : {last : Bool} {e : Ending} → y.next ≡ N.Over e → RoundJudged bytes root words' plan plan' last budget limit w p (record { next = N.Over e; progress = y.round.progress; layer = y.layer })
+  pub round_over : {last : Bool} {e : Ending} → y.next ≡ Err e → RoundJudged bytes root words' plan plan' last budget limit w p (record { next = Err e; progress = y.round.progress; layer = y.layer })
   unfolding S.after_round result_of round_of after_of
   round_over over =
       record {
@@ -56,14 +55,14 @@ module _ {bytes root words' plan plan' : List ℕ} {w budget limit : ℕ} {p : P
         same = λ o h is. rw (r.same o h is, over);
       }
 
-  judge_same : {b : Bool} {j : Judgement} → Judges b y.round j
+  judge_same : {b : Bool} {j : P.Option Verdict} → Judges b y.round j
       → S.judge (costs_in bytes) (system_in bytes) b (round_in bytes words' plan' w y.layer y.round) ≡ judgement_of (costs_in bytes) (system_in bytes) j (progress_of plan' y.round.progress)
   unfolding round_of
   judge_same judged = judged.same bytes plan' (nodes_of w (next_of w words') bytes (path_by words' w y.layer) y.round.count) r.counted
 
   -- another round follows
-  pub round_again : {last : Bool} {j : Judgement} → y.next ≡ N.On → Judges last y.round j → j ≡ J.Again
-      → RoundJudged bytes root words' plan plan' last budget limit w p (record { next = N.On; progress = y.round.progress; layer = y.layer })
+  pub round_again : {last : Bool} {j : P.Option Verdict} → y.next ≡ Ok tt → Judges last y.round j → j ≡ None
+      → RoundJudged bytes root words' plan plan' last budget limit w p (record { next = Ok tt; progress = y.round.progress; layer = y.layer })
   unfolding S.after_round result_of after_of judgement_of
   round_again on judged again =
       record {
@@ -74,8 +73,8 @@ module _ {bytes root words' plan plan' : List ℕ} {w budget limit : ℕ} {p : P
       }
 
   -- a verdict
-  pub round_ended : {last : Bool} {j : Judgement} {v : Verdict} → y.next ≡ N.On → Judges last y.round j → j ≡ J.Ended v
-      → RoundJudged bytes root words' plan plan' last budget limit w p (record { next = N.Over (E.Decided v); progress = y.round.progress; layer = y.layer })
+  pub round_ended : {last : Bool} {j : P.Option Verdict} {v : Verdict} → y.next ≡ Ok tt → Judges last y.round j → j ≡ Some v
+      → RoundJudged bytes root words' plan plan' last budget limit w p (record { next = Err (E.Decided v); progress = y.round.progress; layer = y.layer })
   unfolding S.after_round result_of after_of judgement_of ending_of
   round_ended on judged ended =
       record {
@@ -113,7 +112,7 @@ rounds_from bytes plan budget limit o h most width wider k p =
 pub record Widening (bytes root words₀ words plan₀ plan widths : List ℕ) (budget limit place : ℕ) (p : Progress) (most : ℕ) : Type 0 where
   pub same_words : length words ≡ length words₀
   pub same_plan : length plan ≡ length plan₀
-  pub best_fits : p.best.length ≤ limit
+  pub best_fits : BestFits limit p.best
   pub inside : place < length widths
   pub width_there : p.tally.width ≡ get_or widths place 0
   pub counted : p.tally.rounds + most ≡ budget + 2
@@ -121,16 +120,16 @@ pub record Widening (bytes root words₀ words plan₀ plan widths : List ℕ) (
       → S.rounds (costs_in bytes) (system_in bytes) (suc budget) budget limit (get_or widths 0 0) (drop 1 widths) 1 (S.root (costs_in bytes) (system_in bytes) o h) (record { best = none; low = (costs_in bytes).combine o.spent h; expansions = 0 })
       ≡ rounds_from bytes plan budget limit o h most (get_or widths place 0) (drop (place + 1) widths) p.tally.rounds p
 
--- before any round: nothing is found, whatever cost stands there
-abbrev unbegun : (cost low : Cost) → Progress
-unbegun cost low = record { best = record { found = false; cost = cost; length = 0 }; low = low; tally = record { expansions = 0; rounds = 0; width = 0 } }
+-- before any round: nothing is found
+abbrev unbegun : (low : Cost) → Progress
+unbegun low = record { best = None; low = low; tally = record { expansions = 0; rounds = 0; width = 0 } }
 
 root_f : {bytes root : List ℕ} {o : Origin State Cost} {h : Cost} → RootIs bytes root o h → (costs_in bytes).combine o.spent h ≡ f_of root
 unfolding node_at S.root
 root_f is = sym (ap (λ (n : S.Node State Cost). n.f) is.node)
 
 -- low is the root's f
-pub widening_first : {bytes root words plan widths : List ℕ} {budget limit first : ℕ} {p : Progress} {cost low : Cost} → rising widths ≡ true → first ≡ get_or widths 0 0 → low ≡ f_of root → p ≡ begins_at first (unbegun cost low)
+pub widening_first : {bytes root words plan widths : List ℕ} {budget limit first : ℕ} {p : Progress} {low : Cost} → rising widths ≡ true → first ≡ get_or widths 0 0 → low ≡ f_of root → p ≡ begins_at first (unbegun low)
     → Widening bytes root words words plan plan widths budget limit 0 p (budget + 1)
 unfolding progress_of best_of
 widening_first {widths = widths} {budget = budget} rises e least begins =
@@ -138,7 +137,7 @@ widening_first {widths = widths} {budget = budget} rises e least begins =
     (record {
       same_words = refl;
       same_plan = refl;
-      best_fits = omega arith;
+      best_fits = tt;
       inside = some_entries widths rises;
       width_there = e;
       counted = omega arith;
@@ -181,7 +180,7 @@ module _ {bytes root words₀ words plan₀ plan widths : List ℕ} {budget limi
     width_same : y.progress.tally.width ≡ width
     width_same = ap (λ (q : ℕ × ℕ). q.1) r.round_same ∙ s.width_there
 
-  pub widening_more : {words' plan' : List ℕ} {y : Judged} {place' next : ℕ} {p' : Progress} → 0 < most → RoundJudged bytes root words' plan plan' last budget limit width p y → y.next ≡ N.On
+  pub widening_more : {words' plan' : List ℕ} {y : Judged} {place' next : ℕ} {p' : Progress} → 0 < most → RoundJudged bytes root words' plan plan' last budget limit width p y → y.next ≡ Ok tt
       → place' ≡ place_behind (length widths) place → next ≡ get_or widths place' 0 → p' ≡ begins_at next y.progress → length words' ≡ length words → length plan' ≡ length plan
       → Widening bytes root words₀ words' plan₀ plan' widths budget limit place' p' (most - 1)
   unfolding S.unless_over after_of progress_of
@@ -198,7 +197,7 @@ module _ {bytes root words₀ words plan₀ plan widths : List ℕ} {budget limi
         same = λ o h is. s.same o h is ∙ one_further one r o h is ∙ rw (on, number_same r, add-one k);
       })
 
-  pub widening_over : rising widths ≡ true → {words' plan' : List ℕ} {y : Judged} {e : Ending} → 0 < most → RoundJudged bytes root words' plan plan' last budget limit width p y → y.next ≡ N.Over e
+  pub widening_over : rising widths ≡ true → {words' plan' : List ℕ} {y : Judged} {e : Ending} → 0 < most → RoundJudged bytes root words' plan plan' last budget limit width p y → y.next ≡ Err e
       → Runs bytes root words' plan' widths budget limit (record { ending = e; progress = y.progress; layer = y.layer })
   unfolding S.unless_over S.answer after_of progress_of
   widening_over rises pos r over =

@@ -6,45 +6,31 @@ ghost use Rattle.search_runs.specs.Widths.{nothing_left};
 
 use search_visits::work::{Round, Verdict};
 
-// Another round, or a verdict.
-#[derive(Clone, Copy)]
-pub enum Judgement {
-    Again,
-    Ended(Verdict),
-}
-
 // No mark and none remaining: the round has left nothing out.
 fn nothing_left(round: Round) -> bool
     ensures { result ≡ nothing_left round }
 {
-    let marks = round.marks;
-    if marks.width {
-        return false;
-    }
-    if marks.length {
-        return false;
-    }
-    round.count == 0
+    !round.marks.width && !round.marks.length && round.count == 0
 }
 
-// Judges a round; widest tells that its width is the widest.
-pub fn judge(round: Round, widest: bool) -> Judgement
+// Judges a round: its verdict, or none where another round follows. widest tells that its width is the widest.
+pub fn judge(round: Round, widest: bool) -> Option<Verdict>
     ensures { Judges widest round result }
 {
     if nothing_left(round) {
-        if round.progress.best.found {
-            return Judgement::Ended(Verdict::Cheapest);
-        }
-        return Judgement::Ended(Verdict::NoPlan);
+        return match round.progress.best {
+            Some(_) => Some(Verdict::Cheapest),
+            None => Some(Verdict::NoPlan),
+        };
     }
     if round.improved {
-        return Judgement::Again;
+        return None;
     }
     if round.marks.width {
         if widest {
-            return Judgement::Ended(Verdict::WidthStop);
+            return Some(Verdict::WidthStop);
         }
-        return Judgement::Again;
+        return None;
     }
-    Judgement::Ended(Verdict::LengthStop)
+    Some(Verdict::LengthStop)
 }

@@ -9,15 +9,13 @@ ghost use Rattle.search_rounds.specs.Rounds.{Roundable};
 ghost use Rattle.search_runs.specs.Runs.{Runnable, Runs};
 ghost use Rattle.search_runs.specs.Widths.{begins_at, RoundJudged};
 
-use crate::judges::{Judgement, judge};
+use crate::judges::judge;
 use beam_order::slots::{SLOT_WORDS, f_in};
 use beam_widths::{next_place, width_at};
-use costs::hours;
 use outline::layout::PREPARED_WORDS;
-use search_expansion::trials::Best;
 use search_rounds::round;
 use search_tally::{Tally, begun};
-use search_visits::work::{Ending, Limits, Next, Progress, Verdict};
+use search_visits::work::{Ending, Limits, Progress, Verdict};
 
 // A run that is over, in this layer.
 #[derive(Clone, Copy)]
@@ -27,10 +25,10 @@ pub struct Stop {
     pub layer: usize,
 }
 
-// What a round leaves, with rule 7 applied: On, another round follows; or the run is over, in this layer.
+// What a round leaves, with rule 7 applied: another round follows, or the run is over, in this layer.
 #[derive(Clone, Copy)]
 pub struct Judged {
-    pub next: Next,
+    pub next: Result<(), Ending>,
     pub progress: Progress,
     pub layer: usize,
 }
@@ -40,15 +38,8 @@ fn begin(progress: Progress, width: usize) -> Progress
     requires { progress.tally.rounds + 1 < 2 ^ 64 }
     ensures { result ≡ begins_at width progress }
 {
-    let best = progress.best;
-    let tally = progress.tally;
-    let low = progress.low;
-    let more = begun(tally, width as u64);
-    Progress {
-        best: best,
-        low: low,
-        tally: more,
-    }
+    let tally = begun(progress.tally, width as u64);
+    Progress { tally, ..progress }
 }
 
 // A round of this width, and what follows it; last tells that no entry of the list is behind it.
@@ -66,28 +57,17 @@ fn judged_round(
     ensures { RoundJudged model.now root.now words.new plan.old plan.new last limits.budget limits.length limits.width progress result }
 {
     let x = round(words, plan, model, outline, limits, root, progress);
-    let ended = x.round;
-    let after = ended.progress;
-    let next = x.next;
-    let layer = x.layer;
-    match next {
-        Next::Over(e) => Judged {
-            next: Next::Over(e),
-            progress: after,
-            layer: layer,
+    let next = match x.next {
+        Ok(()) => match judge(x.round, last) {
+            Some(verdict) => Err(Ending::Decided(verdict)),
+            None => Ok(()),
         },
-        Next::On => match judge(ended, last) {
-            Judgement::Again => Judged {
-                next: Next::On,
-                progress: after,
-                layer: layer,
-            },
-            Judgement::Ended(v) => Judged {
-                next: Next::Over(Ending::Decided(v)),
-                progress: after,
-                layer: layer,
-            },
-        },
+        Err(e) => Err(e),
+    };
+    Judged {
+        next,
+        progress: x.round.progress,
+        layer: x.layer,
     }
 }
 
@@ -107,11 +87,7 @@ pub fn rounds(
 {
     let count = widths.len();
     let unbegun = Progress {
-        best: Best {
-            found: false,
-            cost: hours(0),
-            length: 0,
-        },
+        best: None,
         low: f_in(root, 0),
         tally: Tally {
             expansions: 0,
@@ -121,29 +97,24 @@ pub fn rounds(
     };
     let mut place: usize = 0;
     let mut progress = begin(unbegun, width_at(widths, 0));
-    let mut most = budget + 1;
-    while 0 < most {
+    for _round in 0..budget + 1 {
         let limits = Limits {
             width: width_at(widths, place),
-            length: length,
-            budget: budget,
+            length,
+            budget,
         };
         let last = place + 1 == count;
         let x = judged_round(words, plan, model, outline, limits, last, root, progress);
-        let after = x.progress;
-        let next = x.next;
-        let layer = x.layer;
-        match next {
-            Next::On => {
+        match x.next {
+            Ok(()) => {
                 place = next_place(place, count);
-                progress = begin(after, width_at(widths, place));
-                most -= 1;
+                progress = begin(x.progress, width_at(widths, place));
             }
-            Next::Over(e) => {
+            Err(ending) => {
                 return Stop {
-                    ending: e,
-                    progress: after,
-                    layer: layer,
+                    ending,
+                    progress: x.progress,
+                    layer: x.layer,
                 };
             }
         }
@@ -151,7 +122,7 @@ pub fn rounds(
     // never reached: a round that is followed by another has expanded a state
     Stop {
         ending: Ending::Decided(Verdict::BudgetSpent),
-        progress: progress,
+        progress,
         layer: 0,
     }
 }

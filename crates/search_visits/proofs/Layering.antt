@@ -2,6 +2,9 @@
 use Prim.Native.Nat.{ℕ, suc, ◌+◌, ◌*◌, ◌-◌, ◌≤◌, ◌<◌}
 use mathlib.Core.Path.{◌≡◌, refl, sym, ap, ◌∙◌, subst}
 use mathlib.Core.List.{List}
+use mathlib.Core.Bool.{true, false}
+use Rattle.std.specs.Prelude as P
+use Rattle.std.specs.Prelude.{Ok, Err, is_err}
 use native.Mathlib.Omega.{arith}
 use native.Mathlib.Numerals.{add-one}
 use lib.ListN.{length, take, drop}
@@ -21,7 +24,6 @@ use Rattle.search_paths.proofs.Gathering.{paths_kept, current_kept}
 use Rattle.search_visits.specs.Work.{result_of, round_begun, round_in, Within, Ready, Leaves}
 use Rattle.search_visits.specs.declared.work.Round.{Round}
 use Rattle.search_visits.specs.declared.work.Ending.{Ending}
-use Rattle.search_visits.specs.declared.work.Next.TheVariants as N
 use Rattle.search_visits.specs.declared.work.Visited.{Visited}
 
 -- ---- i nodes are taken
@@ -46,7 +48,7 @@ module _ {bytes outline words plan words' plan' : List ℕ} {w budget limit k n 
   abbrev rest : (m j : ℕ) → S.Round State Cost → Result (S.Round State Cost) Cost
   rest m j r = layer (costs_in bytes) (system_in bytes) budget w (limit - k) (nodes_from bytes (path_by words w k) words m j) r
 
-  pub layer_done : n ≤ i → Leaves bytes outline words words' plan plan' w limit k x (record { round = x'; next = N.On }) (layer (costs_in bytes) (system_in bytes) budget w (limit - k) (current_of bytes words w k n))
+  pub layer_done : n ≤ i → Leaves bytes outline words words' plan plan' w limit k x (record { round = x'; next = Ok tt }) (layer (costs_in bytes) (system_in bytes) budget w (limit - k) (current_of bytes words w k n))
   layer_done b =
       record {
         held = h.ready.held;
@@ -58,7 +60,7 @@ module _ {bytes outline words plan words' plan' : List ℕ} {w budget limit k n 
         same = h.same ∙ none_left;
       }
     where
-      none_left : rest (n - i) i (round_in bytes words' plan' w k x') ≡ result_of (path_by words w k) N.On (round_in bytes words' plan' w k x')
+      none_left : rest (n - i) i (round_in bytes words' plan' w k x') ≡ result_of (path_by words w k) (Ok tt) (round_in bytes words' plan' w k x')
       none_left =
           unfold nodes_from layer result_of in
           let z : n - i ≡ 0 = omega arith in
@@ -108,30 +110,38 @@ module _ {bytes outline words plan words' plan' : List ℕ} {w budget limit k n 
             costs = subst (All (Within (h.ready.before + k))) (sym (current_kept words' words'' w some_width l.current l.rows bytes k n h.ready.few_nodes)) h.ready.costs;
           }
 
-      pub halfway_more : y.next ≡ N.On → Halfway bytes outline words plan words'' plan'' w budget limit k n (i + 1) x y.round
+      pub halfway_more : is_err y.next ≡ false → Halfway bytes outline words plan words'' plan'' w budget limit k n (i + 1) x y.round
       unfolding and_then result_of
-      halfway_more e =
-          let z : i + 1 ≡ suc i = add-one i in
-          record {
-            ready = ready'';
-            within = omega arith;
-            round_same = l.round_same ∙ h.round_same;
-            room_same = words_long ∙ h.room_same;
-            plan_same = plan-long ∙ h.plan_same;
-            current = l.current ∙ h.current;
-            rows = l.rows ∙ h.rows;
-            same = rw z (rw e at turned);
-          }
+      halfway_more goes = by_next y.next refl goes
+        where
+          by_next : (q : P.Result (Unit {0}) Ending) → y.next ≡ q → is_err q ≡ false → Halfway bytes outline words plan words'' plan'' w budget limit k n (i + 1) x y.round
+          by_next (Ok _) e _ =
+              let z : i + 1 ≡ suc i = add-one i in
+              record {
+                ready = ready'';
+                within = omega arith;
+                round_same = l.round_same ∙ h.round_same;
+                room_same = words_long ∙ h.room_same;
+                plan_same = plan-long ∙ h.plan_same;
+                current = l.current ∙ h.current;
+                rows = l.rows ∙ h.rows;
+                same = rw z (rw e at turned);
+              }
+          by_next (Err _) e f = absurd (cc)
 
-      pub layer_over : {end : Ending} → y.next ≡ N.Over end → Leaves bytes outline words words'' plan plan'' w limit k x (record { round = y.round; next = N.Over end }) (layer (costs_in bytes) (system_in bytes) budget w (limit - k) (current_of bytes words w k n))
+      pub layer_over : is_err y.next ≡ true → Leaves bytes outline words words'' plan plan'' w limit k x y (layer (costs_in bytes) (system_in bytes) budget w (limit - k) (current_of bytes words w k n))
       unfolding and_then result_of
-      layer_over e =
-          record {
-            held = l.held;
-            best_fits = l.best_fits;
-            round_same = l.round_same ∙ h.round_same;
-            inside = rw e at l.inside;
-            current = l.current ∙ h.current;
-            rows = l.rows ∙ h.rows;
-            same = rw e at turned;
-          }
+      layer_over ends = by_next y.next refl ends
+        where
+          by_next : (q : P.Result (Unit {0}) Ending) → y.next ≡ q → is_err q ≡ true → Leaves bytes outline words words'' plan plan'' w limit k x y (layer (costs_in bytes) (system_in bytes) budget w (limit - k) (current_of bytes words w k n))
+          by_next (Ok _) e f = absurd (cc)
+          by_next (Err _) e _ =
+              record {
+                held = l.held;
+                best_fits = l.best_fits;
+                round_same = l.round_same ∙ h.round_same;
+                inside = l.inside;
+                current = l.current ∙ h.current;
+                rows = l.rows ∙ h.rows;
+                same = rw e (rw e at turned);
+              }

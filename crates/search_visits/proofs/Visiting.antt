@@ -1,9 +1,10 @@
 -- One node of a layer: the parts of a visit on the records that stand for the definition's, and what they leave of the working words.
 use Prim.Native.Nat.{ℕ, zero, suc, ◌+◌, ◌*◌, ◌-◌, ◌≤◌, ◌<◌, ◌^◌}
 use mathlib.Core.Path.{◌≡◌, refl, sym, ap, ◌∙◌, subst}
-use mathlib.Core.Bool.{Bool, true, false, cond, not, ◌||◌}
+use mathlib.Core.Bool.{Bool, true, false, ◌||◌}
 use mathlib.Core.List.{List, ◌++◌, reverse, reverse-reverse}
-use mathlib.Core.Option.{none, some}
+use Rattle.std.specs.Prelude as P
+use Rattle.std.specs.Prelude.{Some, None, Ok, Err}
 use native.Mathlib.Decide.{dec_lt}
 use native.Mathlib.Omega.{arith}
 use native.Mathlib.Numerals.{add-one}
@@ -18,77 +19,72 @@ use Rattle.model.proofs.Ranges.{up_to_below}
 use Rattle.search.specs.Search.{Node, Result, on, less, below_best, expand, new_best, improved_by, route_to, reached, at_limit, counted, advance, refuse, visit}
 use Rattle.search.specs.Search as S
 use Rattle.beam_order.specs.Slots.{slot_words, g_of, h_of, f_of, state_at, words_in, next_at, next_end}
-use Rattle.steps.specs.declared.answers.StatusAnswer.TheVariants as A
+use Rattle.std.specs.Prelude.{Ok, Err}
+use Rattle.eval_sets.specs.declared.troubles.Trouble.{Trouble}
+use Rattle.steps.specs.declared.answers.Status.TheVariants as A
 use Rattle.steps.specs.Answers.{status_answer}
 use Rattle.steps.specs.InBytes.{system_in, state_in}
 use Rattle.steps.specs.Follow.{costs_in}
 use Rattle.steps.proofs.Promises.{cost_order}
-use Rattle.steps.proofs.Following.{is_base, is_unfinished_lem, no_status_lem}
+use Rattle.steps.proofs.Following.{is_base, is_unfinished_lem}
+use Rattle.steps.proofs.Numbered.{Numbers, status_numbered}
 use Rattle.beam.specs.Nodes.{state_words, node_at}
 use Rattle.beam.specs.Layers.{nodes_of, Indexed, round_with}
 use Rattle.beam.proofs.Whole.{put, put_in}
 use Rattle.beam.proofs.Moves.{width_positive}
-use Rattle.search_expansion.specs.Expansion.{BestIs, below_cost, trial_result, Grows}
+use Rattle.search_expansion.specs.Expansion.{BestIs, below_cost, halted, trial_result, Grows}
 use Rattle.search_paths.specs.Routes.{path_by, next_of, nodes_from}
 use Rattle.search_paths.proofs.Tracing.{path_length}
 use Rattle.search_tally.specs.Tally.{one_more}
 use Rattle.search_paths.proofs.Gathering.{paths_kept, making_first, making_last}
-use Rattle.search_visits.specs.Work.{best_of, progress_of, round_of, round_begun, ending_of, result_of, verdict_of, round_in, Within, Ready, Inside, Leaves}
+use Rattle.search_visits.specs.Work.{best_of, progress_of, round_of, round_begun, ending_of, result_of, verdict_of, round_in, BestFits, Within, Ready, Inside, Leaves}
 use Rattle.search_visits.specs.Visits.{NewBest, Reached, Limited, Counted, Told, Met, Keeps}
-use Rattle.search_expansion.specs.declared.trials.Trial.TheVariants as T
+use Rattle.search_expansion.specs.declared.trials.Halt.TheVariants as H
 use Rattle.search_tally.specs.declared.Tally.{Tally}
 use Rattle.search_expansion.specs.declared.trials.Expanded.{Expanded}
 use Rattle.search_visits.specs.declared.work.Verdict.TheVariants as W
-use Rattle.search_expansion.specs.declared.trials.Best.{Best}
+use Rattle.search_expansion.specs.declared.trials.Found.{Found}
 use Rattle.search_visits.specs.declared.work.Round.{Round}
 use Rattle.search_visits.specs.declared.work.Ending.TheVariants as E
-use Rattle.search_visits.specs.declared.work.Next.TheVariants as N
 use Rattle.search_visits.specs.declared.work.Visited.{Visited}
 
 -- ---- the best plan
 
-below_best_by : (bytes : List ℕ) (found : Bool) (c f : Cost) (p : List ℕ) → below_best (costs_in bytes) (system_in bytes) f (cond found (some (record { cost = c; path = p })) none) ≡ cond found (not (at_most c f)) true
-unfolding below_best less
-below_best_by bytes true c f p = rw (cost_order bytes c f)
-below_best_by bytes false c f p = refl
+pub below_best_is : (bytes plan : List ℕ) (b : P.Option Found) (f : Cost) → below_best (costs_in bytes) (system_in bytes) f (best_of plan b) ≡ below_cost b f
+unfolding below_best less best_of below_cost
+below_best_is bytes plan None f = refl
+below_best_is bytes plan (Some b) f = rw (cost_order bytes b.cost f)
 
-pub below_best_is : (bytes plan : List ℕ) (b : Best) (f : Cost) → below_best (costs_in bytes) (system_in bytes) f (best_of plan b) ≡ below_cost b f
-unfolding best_of below_cost
-below_best_is bytes plan b f = below_best_by bytes b.found b.cost f (reverse (take b.length plan))
-
-pub best_is : (plan : List ℕ) (b : Best) → BestIs b (best_of plan b)
+pub best_is : (plan : List ℕ) (b : P.Option Found) → BestIs b (best_of plan b)
 unfolding best_of
-best_is plan b = by_found b.found refl
-  where
-    by_found : (t : Bool) → b.found ≡ t → BestIs b (cond t (some (record { cost = b.cost; path = reverse (take b.length plan) })) none)
-    by_found true e = (e, refl)
-    by_found false e = e
+best_is plan None = tt
+best_is plan (Some b) = refl
 
 -- ---- rule 2: a new best
 
 -- the round with a plan of k steps and cost g for its best
 abbrev pub better : (k : ℕ) (g : Cost) → Round → Round
-better k g x = record { count = x.count; marks = x.marks; improved = true; progress = record { best = record { found = true; cost = g; length = k }; low = x.progress.low; tally = x.progress.tally } }
+better k g x = record { count = x.count; marks = x.marks; improved = true; progress = record { best = Some (record { cost = g; length = k }); low = x.progress.low; tally = x.progress.tally } }
 
 module _ (k : ℕ) (g : Cost) (x : Round) where
-  pub best_cheapest : true ≡ at_most g x.progress.low → true ≡ at_most x.progress.low g → NewBest k g x (record { round = better k g x; next = N.Over (E.Decided W.Cheapest) })
+  pub best_cheapest : true ≡ at_most g x.progress.low → true ≡ at_most x.progress.low g → NewBest k g x (record { round = better k g x; next = Err (E.Decided W.Cheapest) })
   unfolding new_best improved_by route_to round_of progress_of best_of result_of ending_of verdict_of
-  best_cheapest a b = record { count = refl; steps = refl; round_same = refl; inside = λ w limit j. tt {0}; same = λ bytes kept plan plan' path n e p. rw (e, p, cost_order bytes g x.progress.low, cost_order bytes x.progress.low g, ← a, ← b) }
+  best_cheapest a b = record { count = refl; best = refl; round_same = refl; inside = λ w limit j. tt {0}; same = λ bytes kept plan plan' path n e p. rw (e, p, cost_order bytes g x.progress.low, cost_order bytes x.progress.low g, ← a, ← b) }
 
-  pub best_contradicted : true ≡ at_most g x.progress.low → false ≡ at_most x.progress.low g → NewBest k g x (record { round = better k g x; next = N.Over (E.Decided W.Contradicted) })
+  pub best_contradicted : true ≡ at_most g x.progress.low → false ≡ at_most x.progress.low g → NewBest k g x (record { round = better k g x; next = Err (E.Decided W.Contradicted) })
   unfolding new_best improved_by route_to round_of progress_of best_of result_of ending_of verdict_of
-  best_contradicted a b = record { count = refl; steps = refl; round_same = refl; inside = λ w limit j. tt {0}; same = λ bytes kept plan plan' path n e p. rw (e, p, cost_order bytes g x.progress.low, cost_order bytes x.progress.low g, ← a, ← b) }
+  best_contradicted a b = record { count = refl; best = refl; round_same = refl; inside = λ w limit j. tt {0}; same = λ bytes kept plan plan' path n e p. rw (e, p, cost_order bytes g x.progress.low, cost_order bytes x.progress.low g, ← a, ← b) }
 
-  pub best_on : false ≡ at_most g x.progress.low → NewBest k g x (record { round = better k g x; next = N.On })
+  pub best_on : false ≡ at_most g x.progress.low → NewBest k g x (record { round = better k g x; next = Ok tt })
   unfolding new_best improved_by route_to round_of progress_of best_of result_of
-  best_on a = record { count = refl; steps = refl; round_same = refl; inside = λ w limit j. tt {0}; same = λ bytes kept plan plan' path n e p. rw (e, p, cost_order bytes g x.progress.low, ← a) }
+  best_on a = record { count = refl; best = refl; round_same = refl; inside = λ w limit j. tt {0}; same = λ bytes kept plan plan' path n e p. rw (e, p, cost_order bytes g x.progress.low, ← a) }
 
 -- ---- rule 3: at the limit, counting, and the answer of an expansion
 
 pub limited : (f : Cost) (x : Round) (t : Bool) → t ≡ (x.marks.length || below_cost x.progress.best f)
     → Limited f x (record { count = x.count; marks = record { width = x.marks.width; length = t }; improved = x.improved; progress = x.progress })
 unfolding at_limit round_of progress_of
-limited f x t e = record { count = refl; steps = refl; round_same = refl; same = λ bytes kept plan n q. rw (e, q, below_best_is bytes plan x.progress.best f) }
+limited f x t e = record { count = refl; best = refl; round_same = refl; same = λ bytes kept plan n q. rw (e, q, below_best_is bytes plan x.progress.best f) }
 
 pub counted_one : (x : Round) (t : Tally) → t ≡ one_more x.progress.tally → Counted x (record { count = x.count; marks = x.marks; improved = x.improved; progress = record { best = x.progress.best; low = x.progress.low; tally = t } })
 unfolding counted round_of progress_of
@@ -98,17 +94,17 @@ module _ (g : Cost) (i : ℕ) (z : Expanded) (x : Round) (t : Bool) (m : t ≡ (
   abbrev after : Round
   after = record { count = z.count; marks = record { width = t; length = x.marks.length }; improved = x.improved; progress = x.progress }
 
-  pub told_on : z.trial ≡ T.On → Told g i z x (record { round = after; next = N.On })
+  pub told_on : z.trial ≡ Ok tt → Told g i z x (record { round = after; next = Ok tt })
   unfolding trial_result round_with round_of result_of
-  told_on e = record { count = refl; steps = refl; round_same = refl; inside = λ w limit k s d h. tt {0}; same = λ before kept plan path n p q. rw (e, m) }
+  told_on e = record { count = refl; best = refl; round_same = refl; inside = λ w limit k s d h. tt {0}; same = λ before kept plan path n p q. rw (e, m) }
 
-  pub told_before : {r : ℕ} → z.trial ≡ T.Before r → Told g i z x (record { round = after; next = N.Over (E.At r g i) })
-  unfolding trial_result round_with round_of result_of ending_of
-  told_before e = record { count = refl; steps = refl; round_same = refl; inside = λ w limit k s d h. (s, omega arith); same = λ before kept plan path n p q. rw (e, p, q) }
+  pub told_before : {r : ℕ} → z.trial ≡ Err (H.Before r) → Told g i z x (record { round = after; next = Err (E.At r g i) })
+  unfolding trial_result halted round_with round_of result_of ending_of
+  told_before e = record { count = refl; best = refl; round_same = refl; inside = λ w limit k s d h. (s, omega arith); same = λ before kept plan path n p q. rw (e, p, q) }
 
-  pub told_at : {r u : ℕ} {c : Cost} → z.trial ≡ T.At r c u → Told g i z x (record { round = after; next = N.Over (E.Beyond r c i u) })
-  unfolding trial_result round_with round_of result_of ending_of
-  told_at e = record { count = refl; steps = refl; round_same = refl; inside = λ w limit k s d h. (s, rw e at h, d); same = λ before kept plan path n p q. rw (e, q) }
+  pub told_at : {r u : ℕ} {c : Cost} → z.trial ≡ Err (H.At r c u) → Told g i z x (record { round = after; next = Err (E.Beyond r c i u) })
+  unfolding trial_result halted round_with round_of result_of ending_of
+  told_at e = record { count = refl; best = refl; round_same = refl; inside = λ w limit k s d h. (s, rw e at h, d); same = λ before kept plan path n p q. rw (e, q) }
 
 -- ---- rule 2: a base state
 
@@ -121,7 +117,7 @@ module _ (words plan : List ℕ) (w k i : ℕ) (g : Cost) (x : Round) where
   reached_best plan' y b e h =
       record {
         count = h.count;
-        steps = λ limit a o. omega (arith, h.steps);
+        best_fits = λ limit a o. rw h.best a;
         round_same = h.round_same;
         inside = h.inside;
         same = λ bytes kept n p q.
@@ -129,12 +125,12 @@ module _ (words plan : List ℕ) (w k i : ℕ) (g : Cost) (x : Round) where
             (h.same bytes kept plan plan' (path_by words w k) n p (q ∙ sym (ap reverse e ∙ reverse-reverse (path_by words w k i))));
       }
 
-  pub reached_worse : false ≡ below_cost x.progress.best g → Reached words plan plan w k i g x (record { round = x; next = N.On })
+  pub reached_worse : false ≡ below_cost x.progress.best g → Reached words plan plan w k i g x (record { round = x; next = Ok tt })
   unfolding reached round_of progress_of result_of
   reached_worse b =
       record {
         count = refl;
-        steps = λ limit a o. o;
+        best_fits = λ limit a o. o;
         round_same = refl;
         inside = λ v limit j. tt {0};
         same = λ bytes kept n p q. rw (test bytes n p b);
@@ -161,29 +157,29 @@ module _ (bytes outline words node : List ℕ) (w limit k i : ℕ) (x : Round) (
   here = node_at bytes (path_by words w k) i node
 
   -- the words stay, and so many nodes are in the making
-  stays : (plan plan' : List ℕ) (y : Visited) (rule : S.Round State Cost → Result (S.Round State Cost) Cost) → y.round.count ≡ x.count → y.round.progress.best.length ≤ limit → round_begun y.round.progress ≡ round_begun x.progress → Inside w limit k y.next
+  stays : (plan plan' : List ℕ) (y : Visited) (rule : S.Round State Cost → Result (S.Round State Cost) Cost) → y.round.count ≡ x.count → BestFits limit y.round.progress.best → round_begun y.round.progress ≡ round_begun x.progress → Inside w limit k y.next
       → rule (round_in bytes words plan w k x) ≡ result_of (path_by words w k) y.next (round_of (nodes_of w (next_of w words) bytes (path_by words w k) x.count) plan' y.round)
       → Leaves bytes outline words words plan plan' w limit k x y rule
   unfolding round_of
   stays plan plan' y rule n b o s e = record { held = rw n m.held; best_fits = b; round_same = o; inside = s; current = refl; rows = refl; same = rw n e }
 
   -- rule 3: at the limit
-  pub limit_leaves : (budget : ℕ) (x' : Round) {f : Cost} → f ≡ f_of node → k ≡ limit → Limited f x x' → Keeps bytes outline words words w limit k x (record { round = x'; next = N.On }) (advance (costs_in bytes) (system_in bytes) budget w (limit - k) here)
+  pub limit_leaves : (budget : ℕ) (x' : Round) {f : Cost} → f ≡ f_of node → k ≡ limit → Limited f x x' → Keeps bytes outline words words w limit k x (record { round = x'; next = Ok tt }) (advance (costs_in bytes) (system_in bytes) budget w (limit - k) here)
   unfolding advance result_of node_at
   limit_leaves budget x' known a h =
       let z : limit - k ≡ 0 = omega arith in
       record {
-        leaves = λ plan. stays plan plan (record { round = x'; next = N.On }) (advance (costs_in bytes) (system_in bytes) budget w (limit - k) here) h.count (omega (arith, h.steps, m.best_fits)) h.round_same (tt {0})
+        leaves = λ plan. stays plan plan (record { round = x'; next = Ok tt }) (advance (costs_in bytes) (system_in bytes) budget w (limit - k) here) h.count (rw h.best m.best_fits) h.round_same (tt {0})
             (rw z (ap on (h.same bytes (nodes_of w (next_of w words) bytes (path_by words w k) x.count) plan here (sym known))));
       }
 
   -- rule 3: the budget is used up
-  pub spent_leaves : (budget : ℕ) → k < limit → budget ≤ x.progress.tally.expansions → Keeps bytes outline words words w limit k x (record { round = x; next = N.Over (E.Decided W.BudgetSpent) }) (advance (costs_in bytes) (system_in bytes) budget w (limit - k) here)
+  pub spent_leaves : (budget : ℕ) → k < limit → budget ≤ x.progress.tally.expansions → Keeps bytes outline words words w limit k x (record { round = x; next = Err (E.Decided W.BudgetSpent) }) (advance (costs_in bytes) (system_in bytes) budget w (limit - k) here)
   unfolding advance result_of ending_of verdict_of round_of progress_of
   spent_leaves budget a b =
       let z : limit - k ≡ suc (limit - k - 1) = omega arith in
       record {
-        leaves = λ plan. stays plan plan (record { round = x; next = N.Over (E.Decided W.BudgetSpent) }) (advance (costs_in bytes) (system_in bytes) budget w (limit - k) here) refl m.best_fits refl (tt {0})
+        leaves = λ plan. stays plan plan (record { round = x; next = Err (E.Decided W.BudgetSpent) }) (advance (costs_in bytes) (system_in bytes) budget w (limit - k) here) refl m.best_fits refl (tt {0})
             (rw (z, le-ltb x.progress.tally.expansions budget b));
       }
 
@@ -239,7 +235,7 @@ module _ (bytes outline words node : List ℕ) (w limit k i : ℕ) (x : Round) (
             leaves = λ plan.
                 record {
                   held = rw (told.count, inside_it) grows.held;
-                  best_fits = omega (arith, told.steps, ap (λ (b : Best). b.length) one.best, m.best_fits);
+                  best_fits = rw (told.best, one.best) m.best_fits;
                   round_same = told.round_same ∙ one.round_same;
                   inside = told.inside w limit k m.slot less grows.numbered;
                   current = current';
@@ -253,22 +249,22 @@ module _ (bytes outline words node : List ℕ) (w limit k i : ℕ) (x : Round) (
   abbrev rest : (budget : ℕ) → S.Round State Cost → Result (S.Round State Cost) Cost
   rest budget = visit (costs_in bytes) (system_in bytes) budget w (limit - k) ((system_in bytes).status here.state) here
 
-  pub base_leaves : (budget : ℕ) (plan plan' : List ℕ) (y : Visited) {g : Cost} → g ≡ g_of node → A.Base ≡ status_answer ((system_in bytes).status (state_in bytes (state_words node))) → Reached words plan plan' w k i g x y → Leaves bytes outline words words plan plan' w limit k x y (rest budget)
+  pub base_leaves : (budget : ℕ) (plan plan' : List ℕ) (y : Visited) {g : Cost} → g ≡ g_of node → Ok A.Base ≡ status_answer ((system_in bytes).status (state_in bytes (state_words node))) → Reached words plan plan' w k i g x y → Leaves bytes outline words words plan plan' w limit k x y (rest budget)
   unfolding visit node_at
   base_leaves budget plan plan' y known e h =
-      stays plan plan' y (rest budget) h.count (h.steps limit m.depth m.best_fits) h.round_same (h.inside w limit k)
+      stays plan plan' y (rest budget) h.count (h.best_fits limit m.depth m.best_fits) h.round_same (h.inside w limit k)
       (rw (is_base _ (sym e)) (h.same bytes (nodes_of w (next_of w words) bytes (path_by words w k) x.count) here (sym known) refl))
 
-  pub advance_leaves : (budget : ℕ) (words' plan : List ℕ) (y : Visited) → A.Unfinished ≡ status_answer ((system_in bytes).status (state_in bytes (state_words node)))
+  pub advance_leaves : (budget : ℕ) (words' plan : List ℕ) (y : Visited) → Ok A.Unfinished ≡ status_answer ((system_in bytes).status (state_in bytes (state_words node)))
       → Keeps bytes outline words words' w limit k x y (advance (costs_in bytes) (system_in bytes) budget w (limit - k) here) → Leaves bytes outline words words' plan plan w limit k x y (rest budget)
   unfolding visit node_at
   advance_leaves budget words' plan y e h =
       let l = h.leaves plan in
       record { held = l.held; best_fits = l.best_fits; round_same = l.round_same; inside = l.inside; current = l.current; rows = l.rows; same = rw (is_unfinished_lem _ (sym e)) l.same }
 
-  pub trouble_leaves : (budget : ℕ) (plan : List ℕ) {g : Cost} {t : ℕ} → g ≡ g_of node → A.Trouble t ≡ status_answer ((system_in bytes).status (state_in bytes (state_words node))) → Leaves bytes outline words words plan plan w limit k x (record { round = x; next = N.Over (E.At t g i) }) (rest budget)
+  pub trouble_leaves : (budget : ℕ) (plan : List ℕ) {g : Cost} {u : Trouble} {t : ℕ} → g ≡ g_of node → Err u ≡ status_answer ((system_in bytes).status (state_in bytes (state_words node))) → Numbers u t → Leaves bytes outline words words plan plan w limit k x (record { round = x; next = Err (E.At t g i) }) (rest budget)
   unfolding visit refuse route_to node_at result_of ending_of round_of
-  trouble_leaves budget plan {g} {t} known e = stays plan plan (record { round = x; next = N.Over (E.At t g i) }) (rest budget) refl m.best_fits refl (m.slot, m.depth) (rw (no_status_lem _ (sym e), known))
+  trouble_leaves budget plan {g} {t = t} known e numbers = stays plan plan (record { round = x; next = Err (E.At t g i) }) (rest budget) refl m.best_fits refl (m.slot, m.depth) (rw (status_numbered bytes (state_in bytes (state_words node)) (sym e) numbers, known))
 
 -- ---- a path that was written
 

@@ -1,5 +1,5 @@
 -- What the parts of one visit are promised: a new best plan, a base state, a state at the limit, an expansion and its answer.
-use Rattle.std.specs.Prelude.{ℕ, ◌+◌, ◌≤◌, ◌<◌, ◌^◌, ◌≡◌, List, reverse, length, take}
+use Rattle.std.specs.Prelude.{ℕ, ◌+◌, ◌≤◌, ◌<◌, ◌^◌, ◌≡◌, List, reverse, length, take, Some, IfErr}
 use Rattle.model.specs.Numbers.{most_steps}
 use Rattle.model.specs.Meaning.{State}
 use Rattle.model.specs.declared.Cost.{Cost}
@@ -13,7 +13,7 @@ use Rattle.beam.specs.Nodes.{state_words}
 use Rattle.beam.specs.Layers.{Indexed, round_with}
 use Rattle.search_expansion.specs.Expansion.{trial_result, Numbered}
 use Rattle.search_paths.specs.Routes.{path_by, next_of}
-use Rattle.search_visits.specs.Work.{round_of, round_begun, result_of, Inside, Leaves}
+use Rattle.search_visits.specs.Work.{round_of, round_begun, result_of, BestFits, Inside, Leaves}
 use Rattle.search_expansion.specs.declared.trials.Expanded.{Expanded}
 use Rattle.search_visits.specs.declared.work.Round.{Round}
 use Rattle.search_visits.specs.declared.work.Visited.{Visited}
@@ -21,7 +21,7 @@ use Rattle.search_visits.specs.declared.work.Visited.{Visited}
 -- a plan of k steps and cost g becomes best. plan': bytes with that plan in front
 pub record NewBest (k : ℕ) (g : Cost) (x : Round) (y : Visited) : Type 0 where
   pub count : y.round.count ≡ x.count
-  pub steps : y.round.progress.best.length ≡ k
+  pub best : y.round.progress.best ≡ Some (record { cost = g; length = k })
   pub round_same : round_begun y.round.progress ≡ round_begun x.progress
   pub inside : (w limit j : ℕ) → Inside w limit j y.next
   pub same : (bytes : List ℕ) (kept : List (Node State Cost)) (plan plan' : List ℕ) (path : ℕ → List ℕ) (n : Node State Cost) → n.g ≡ g → n.path ≡ reverse (take k plan')
@@ -30,7 +30,7 @@ pub record NewBest (k : ℕ) (g : Cost) (x : Round) (y : Visited) : Type 0 where
 -- the node in slot i of layer k is a base state, and its g is known
 pub record Reached (words plan plan' : List ℕ) (w k i : ℕ) (g : Cost) (x : Round) (y : Visited) : Type 0 where
   pub count : y.round.count ≡ x.count
-  pub steps : (limit : ℕ) → k ≤ limit → x.progress.best.length ≤ limit → y.round.progress.best.length ≤ limit
+  pub best_fits : (limit : ℕ) → k ≤ limit → BestFits limit x.progress.best → BestFits limit y.round.progress.best
   pub round_same : round_begun y.round.progress ≡ round_begun x.progress
   pub inside : (v limit j : ℕ) → Inside v limit j y.next
   pub same : (bytes : List ℕ) (kept : List (Node State Cost)) (n : Node State Cost) → n.g ≡ g → n.path ≡ path_by words w k i
@@ -39,7 +39,7 @@ pub record Reached (words plan plan' : List ℕ) (w k i : ℕ) (g : Cost) (x : R
 -- a node with this f is not expanded
 pub record Limited (f : Cost) (x y : Round) : Type 0 where
   pub count : y.count ≡ x.count
-  pub steps : y.progress.best.length ≡ x.progress.best.length
+  pub best : y.progress.best ≡ x.progress.best
   pub round_same : round_begun y.progress ≡ round_begun x.progress
   pub same : (bytes : List ℕ) (kept : List (Node State Cost)) (plan : List ℕ) (n : Node State Cost) → n.f ≡ f → at_limit (costs_in bytes) (system_in bytes) n (round_of kept plan x) ≡ round_of kept plan y
 
@@ -52,9 +52,9 @@ pub record Counted (x y : Round) : Type 0 where
 -- an expansion of the node in slot i, with its g, has answered z. kept: the nodes of the layer in the making then
 pub record Told (g : Cost) (i : ℕ) (z : Expanded) (x : Round) (y : Visited) : Type 0 where
   pub count : y.round.count ≡ z.count
-  pub steps : y.round.progress.best.length ≡ x.progress.best.length
+  pub best : y.round.progress.best ≡ x.progress.best
   pub round_same : round_begun y.round.progress ≡ round_begun x.progress
-  pub inside : (w limit k : ℕ) → i < w → k < limit → Numbered z.trial → Inside w limit k y.next
+  pub inside : (w limit k : ℕ) → i < w → k < limit → IfErr z.trial Numbered → Inside w limit k y.next
   pub same : (before kept : List (Node State Cost)) (plan : List ℕ) (path : ℕ → List ℕ) (n : Node State Cost) → n.g ≡ g → n.path ≡ path i
       → trial_result z.trial n (round_with kept z.cut (round_of before plan x)) ≡ result_of path y.next (round_of kept plan y.round)
 
@@ -65,7 +65,7 @@ pub record Met (bytes outline words node : List ℕ) (w limit k i : ℕ) (x : Ro
   pub narrow : w ≤ 4096
   pub depth : k ≤ limit
   pub few_steps : limit ≤ most_steps
-  pub best_fits : x.progress.best.length ≤ limit
+  pub best_fits : BestFits limit x.progress.best
   pub slot : i < w
   pub long : length node ≡ slot_words
   pub small : CostBelow (2 ^ 63) (g_of node)

@@ -1,5 +1,6 @@
 -- The definition's records and results that the code's stand for.
-use Rattle.std.specs.Prelude.{ℕ, ◌+◌, ◌*◌, ◌≤◌, ◌<◌, ◌≡◌, cond, List, ◌∷◌, reverse, length, take, drop}
+use Rattle.std.specs.Prelude.{ℕ, ◌+◌, ◌*◌, ◌≤◌, ◌<◌, ◌≡◌, List, ◌∷◌, reverse, length, take, drop, Some, None, Ok, Err, IfSome, IfErr}
+use Rattle.std.specs.Prelude as P
 use Rattle.std.proofs.Math.Option.{Option, none, some}
 use Rattle.laws.specs.Lists.{All}
 use Rattle.model.specs.Numbers.{range_end, most_steps}
@@ -17,13 +18,11 @@ use Rattle.search_expansion.specs.Expansion.{expand_in}
 use Rattle.search_paths.specs.Routes.{path_by, next_of, current_of}
 use Rattle.search_visits.specs.declared.work.Verdict.{Verdict}
 use Rattle.search_visits.specs.declared.work.Verdict.TheVariants as W
-use Rattle.search_expansion.specs.declared.trials.Best.{Best}
+use Rattle.search_expansion.specs.declared.trials.Found.{Found}
 use Rattle.search_visits.specs.declared.work.Progress.{Progress}
 use Rattle.search_visits.specs.declared.work.Round.{Round}
 use Rattle.search_visits.specs.declared.work.Ending.{Ending}
 use Rattle.search_visits.specs.declared.work.Ending.TheVariants as E
-use Rattle.search_visits.specs.declared.work.Next.{Next}
-use Rattle.search_visits.specs.declared.work.Next.TheVariants as N
 use Rattle.search_visits.specs.declared.work.Visited.{Visited}
 use Rattle.beam_order.specs.Slots.{next_at, next_end}
 
@@ -36,8 +35,13 @@ verdict_of W.BudgetSpent = A.budget_spent
 verdict_of W.Contradicted = A.contradicted
 
 -- plan: the bytes whose first ones are the best plan's
-unfoldable pub best_of : (plan : List ℕ) → Best → Option (Route Cost)
-best_of plan b = cond b.found (some (record { cost = b.cost; path = reverse (take b.length plan) })) none
+unfoldable pub best_of : (plan : List ℕ) → P.Option Found → Option (Route Cost)
+best_of plan None = none
+best_of plan (Some b) = some (record { cost = b.cost; path = reverse (take b.length plan) })
+
+-- a plan that was found has no more steps than the limit
+abbrev pub BestFits : (limit : ℕ) → P.Option Found → Type 0
+BestFits limit best = IfSome best (λ b. b.length ≤ limit)
 
 unfoldable pub progress_of : (plan : List ℕ) → Progress → S.Progress Cost
 progress_of plan p = record { best = best_of plan p.best; low = p.low; expansions = p.tally.expansions }
@@ -51,9 +55,10 @@ ending_of path (E.Decided v) = decided (verdict_of v)
 ending_of path (E.At e c i) = refused e (record { cost = c; path = path i })
 ending_of path (E.Beyond e c i t) = refused e (record { cost = c; path = t ∷ path i })
 
-unfoldable pub result_of : (path : ℕ → List ℕ) → Next → S.Round State Cost → Result (S.Round State Cost) Cost
-result_of path N.On r = on r
-result_of path (N.Over e) r = over (record { ending = ending_of path e; progress = r.progress })
+-- the round goes on, or the run is over
+unfoldable pub result_of : (path : ℕ → List ℕ) → P.Result (Unit {0}) Ending → S.Round State Cost → Result (S.Round State Cost) Cost
+result_of path (Ok _) r = on r
+result_of path (Err e) r = over (record { ending = ending_of path e; progress = r.progress })
 
 -- the round that a run is in: its number and its width
 abbrev pub round_begun : Progress → ℕ × ℕ
@@ -94,7 +99,7 @@ pub record Ready (bytes outline words plan : List ℕ) (w limit k n : ℕ) (x : 
   pub before : ℕ
   pub few_steps : before + limit ≤ most_steps
   pub plan_room : limit ≤ length plan
-  pub best_fits : x.progress.best.length ≤ limit
+  pub best_fits : BestFits limit x.progress.best
   pub few_nodes : n ≤ w
   pub costs : All (Within (before + k)) (current_of bytes words w k n)
 
@@ -104,15 +109,14 @@ EndsInside w limit k (E.Decided v) = Unit {0}
 EndsInside w limit k (E.At e c i) = (i < w) × (k ≤ limit)
 EndsInside w limit k (E.Beyond e c i t) = (i < w) × (t < 256) × (k < limit)
 
-abbrev pub Inside : (w limit k : ℕ) → Next → Type 0
-Inside w limit k N.On = Unit {0}
-Inside w limit k (N.Over e) = EndsInside w limit k e
+abbrev pub Inside : (w limit k : ℕ) → P.Result (Unit {0}) Ending → Type 0
+Inside w limit k next = IfErr next (EndsInside w limit k)
 
 -- rule: what the definition does with the round before; it goes on with the one after, or the run is over.
 -- The current layer and the back pointers stay
 pub record Leaves (bytes outline words words' plan plan' : List ℕ) (w limit k : ℕ) (x : Round) (y : Visited) (rule : S.Round State Cost → Result (S.Round State Cost) Cost) : Type 0 where
   pub held : Indexed outline w y.round.count (next_of w words')
-  pub best_fits : y.round.progress.best.length ≤ limit
+  pub best_fits : BestFits limit y.round.progress.best
   pub round_same : round_begun y.round.progress ≡ round_begun x.progress
   pub inside : Inside w limit k y.next
   pub current : take (next_at * w) words' ≡ take (next_at * w) words

@@ -5,7 +5,7 @@ ghost use Rattle.search_paths.specs.Routes.{current_of};
 ghost use Rattle.search_visits.specs.Work.{layer_in, Ready, Leaves};
 
 use crate::visits::visit;
-use crate::work::{Limits, Next, Round, Spot, Visited};
+use crate::work::{Limits, Round, Spot, Visited};
 use outline::layout::PREPARED_WORDS;
 
 // Takes the n nodes of layer k in order.
@@ -23,26 +23,16 @@ pub fn layer(
     ensures { Leaves model.now outline.now words.old words.new plan.old plan.new limits.width limits.length k round result (layer_in model.now limits.budget limits.width (limits.length - k) (current_of model.now words.old limits.width k n)) }
 {
     let mut now = round;
-    let mut i: usize = 0;
-    while i < n {
+    for i in 0..n {
         let spot = Spot { layer: k, slot: i };
         let x = visit(words, plan, model, outline, limits, spot, now);
         now = x.round;
-        let next = x.next;
-        match next {
-            Next::On => {
-                i += 1;
-            }
-            Next::Over(e) => {
-                return Visited {
-                    round: now,
-                    next: Next::Over(e),
-                };
-            }
+        if x.next.is_err() {
+            return x;
         }
     }
     Visited {
         round: now,
-        next: Next::On,
+        next: Ok(()),
     }
 }

@@ -7,18 +7,18 @@ ghost use Rattle.search_paths.specs.Routes.{Traceable};
 ghost use Rattle.search_visits.specs.Work.{node_in, counted_in, advance_in, visit_in, Leaves};
 ghost use Rattle.search_visits.specs.Visits.{NewBest, Reached, Limited, Counted, Told, Met, Growing, Keeps};
 
-use crate::work::{Ending, Limits, Marks, Next, Progress, Round, Spot, Verdict, Visited};
+use crate::work::{Ending, Limits, Marks, Progress, Round, Spot, Verdict, Visited};
 use beam_order::slots::{NEXT_AT, NEXT_END, SLOT_WORDS, STATE_AT, f_in, g_in};
 use costs::at_most;
 use laws::copy_words;
 use model::Cost;
 use outline::layout::{PREPARED_WORDS, STATE_WORDS};
-use search_expansion::children::{below_best, either, expand};
-use search_expansion::trials::{Best, Expanded, Parent, Trial};
+use search_expansion::children::{below_best, expand};
+use search_expansion::trials::{Expanded, Found, Halt, Parent};
 use search_paths::current::copy_node;
 use search_paths::trace::trace;
 use search_tally::counted;
-use steps::answers::StatusAnswer;
+use steps::answers::Status;
 use steps::conditions::status;
 
 // Rule 2: a plan of k steps and cost g becomes best; the run is over if g is at most low.
@@ -26,37 +26,30 @@ fn new_best(k: usize, g: Cost, round: Round) -> Visited
     ensures { NewBest k g round result }
 {
     let low = round.progress.low;
-    let marks = round.marks;
-    let tally = round.progress.tally;
+    let best = Found { cost: g, length: k };
     let improved = Round {
-        count: round.count,
-        marks: marks,
         improved: true,
         progress: Progress {
-            best: Best {
-                found: true,
-                cost: g,
-                length: k,
-            },
-            low: low,
-            tally: tally,
+            best: Some(best),
+            ..round.progress
         },
+        ..round
     };
     if at_most(g, low) {
         if at_most(low, g) {
             return Visited {
                 round: improved,
-                next: Next::Over(Ending::Decided(Verdict::Cheapest)),
+                next: Err(Ending::Decided(Verdict::Cheapest)),
             };
         }
         return Visited {
             round: improved,
-            next: Next::Over(Ending::Decided(Verdict::Contradicted)),
+            next: Err(Ending::Decided(Verdict::Contradicted)),
         };
     }
     Visited {
         round: improved,
-        next: Next::On,
+        next: Ok(()),
     }
 }
 
@@ -65,15 +58,14 @@ fn reached(words: &[u64], plan: &mut [u8], w: usize, spot: Spot, g: Cost, round:
     requires { Traceable plan.old w spot.layer × (spot.slot < w) }
     ensures { Reached words.now plan.old plan.new w spot.layer spot.slot g round result }
 {
-    let best = round.progress.best;
     let k = spot.layer;
-    if below_best(best, g) {
+    if below_best(round.progress.best, g) {
         trace(words, w, k, spot.slot, plan);
         return new_best(k, g, round);
     }
     Visited {
-        round: round,
-        next: Next::On,
+        round,
+        next: Ok(()),
     }
 }
 
@@ -81,18 +73,14 @@ fn reached(words: &[u64], plan: &mut [u8], w: usize, spot: Spot, g: Cost, round:
 fn at_limit(f: Cost, round: Round) -> Round
     ensures { Limited f round result }
 {
-    let best = round.progress.best;
-    let progress = round.progress;
-    let below = below_best(best, f);
-    let mark = either(round.marks.length, below);
+    let below = below_best(round.progress.best, f);
+    let length = round.marks.length || below;
     Round {
-        count: round.count,
         marks: Marks {
-            width: round.marks.width,
-            length: mark,
+            length,
+            ..round.marks
         },
-        improved: round.improved,
-        progress: progress,
+        ..round
     }
 }
 
@@ -101,20 +89,13 @@ fn count_one(round: Round) -> Round
     requires { round.progress.tally.expansions + 1 < 2 ^ 64 }
     ensures { Counted round result }
 {
-    let best = round.progress.best;
-    let marks = round.marks;
-    let tally = round.progress.tally;
-    let low = round.progress.low;
-    let more = counted(tally);
+    let tally = counted(round.progress.tally);
     Round {
-        count: round.count,
-        marks: marks,
-        improved: round.improved,
         progress: Progress {
-            best: best,
-            low: low,
-            tally: more,
+            tally,
+            ..round.progress
         },
+        ..round
     }
 }
 
@@ -122,32 +103,21 @@ fn count_one(round: Round) -> Round
 fn told(g: Cost, i: usize, x: Expanded, round: Round) -> Visited
     ensures { Told g i x round result }
 {
-    let progress = round.progress;
-    let mark = either(round.marks.width, x.cut);
+    let width = round.marks.width || x.cut;
     let after = Round {
         count: x.count,
         marks: Marks {
-            width: mark,
-            length: round.marks.length,
+            width,
+            ..round.marks
         },
-        improved: round.improved,
-        progress: progress,
+        ..round
     };
-    let trial = x.trial;
-    match trial {
-        Trial::On => Visited {
-            round: after,
-            next: Next::On,
-        },
-        Trial::Before(e) => Visited {
-            round: after,
-            next: Next::Over(Ending::At(e, g, i)),
-        },
-        Trial::At(e, c, t) => Visited {
-            round: after,
-            next: Next::Over(Ending::Beyond(e, c, i, t)),
-        },
-    }
+    let next = match x.trial {
+        Ok(()) => Ok(()),
+        Err(Halt::Before(e)) => Err(Ending::At(e, g, i)),
+        Err(Halt::At(e, c, t)) => Err(Ending::Beyond(e, c, i, t)),
+    };
+    Visited { round: after, next }
 }
 
 // Rule 4: counts one expansion, and expands the node at a spot, whose state is at hand.
@@ -165,20 +135,17 @@ fn expand_node(
     ensures { Keeps model.now outline.now words.old words.new limits.width limits.length spot.layer round result (counted_in model.now limits.width (node_in model.now words.old limits.width spot.layer spot.slot node.now)) }
 {
     let w = limits.width;
-    let i = spot.slot;
-    let n = round.count;
-    let best = round.progress.best;
     let g = g_in(node, 0);
     let parent = Parent {
-        slot: i,
-        g: g,
+        slot: spot.slot,
+        g,
         width: w,
-        best: best,
+        best: round.progress.best,
     };
     let a = NEXT_AT * w;
     let e = NEXT_END * w;
-    let x = expand(&mut words[a..e], model, outline, n, state, parent);
-    told(g, i, x, count_one(round))
+    let x = expand(&mut words[a..e], model, outline, round.count, state, parent);
+    told(g, spot.slot, x, count_one(round))
 }
 
 // Rule 3: the unfinished state at a spot, with the words of its node.
@@ -199,15 +166,15 @@ fn advance(
         let f = f_in(node, 0);
         return Visited {
             round: at_limit(f, round),
-            next: Next::On,
+            next: Ok(()),
         };
     }
     if round.progress.tally.expansions < limits.budget {
         return expand_node(words, model, outline, limits, spot, node, state, round);
     }
     Visited {
-        round: round,
-        next: Next::Over(Ending::Decided(Verdict::BudgetSpent)),
+        round,
+        next: Err(Ending::Decided(Verdict::BudgetSpent)),
     }
 }
 
@@ -229,13 +196,11 @@ fn visit_node(
     let mut state = [0u64; STATE_WORDS];
     copy_words(&node[STATE_AT..], &mut state);
     match status(model, outline, &state) {
-        StatusAnswer::Base => reached(words, plan, limits.width, spot, g, round),
-        StatusAnswer::Unfinished => advance(
-            words, model, outline, limits, spot, node, &state, round,
-        ),
-        StatusAnswer::Trouble(e) => Visited {
-            round: round,
-            next: Next::Over(Ending::At(e, g, spot.slot)),
+        Ok(Status::Base) => reached(words, plan, limits.width, spot, g, round),
+        Ok(Status::Unfinished) => advance(words, model, outline, limits, spot, node, &state, round),
+        Err(e) => Visited {
+            round,
+            next: Err(Ending::At(e.number(), g, spot.slot)),
         },
     }
 }

@@ -1,7 +1,7 @@
 // What a round and a run bring forward, beside the working words and the bytes of the best plan.
 
 use model::Cost;
-use search_expansion::trials::Best;
+use search_expansion::trials::Found;
 use search_tally::Tally;
 
 // Document 01's verdicts.
@@ -15,10 +15,10 @@ pub enum Verdict {
     Contradicted,
 }
 
-// What lasts over rounds: the best plan, low, the tally of the run.
+// What lasts over rounds: the best plan, if one was found, low, the tally of the run.
 #[derive(Clone, Copy)]
 pub struct Progress {
-    pub best: Best,
+    pub best: Option<Found>,
     pub low: Cost,
     pub tally: Tally,
 }
@@ -63,16 +63,9 @@ pub enum Ending {
     Beyond(u8, Cost, usize, usize),
 }
 
-// The round goes on, or the run is over.
-#[derive(Clone, Copy)]
-pub enum Next {
-    On,
-    Over(Ending),
-}
-
-// A round after some of its nodes were taken.
+// A round after some of its nodes were taken: it goes on, or the run is over.
 #[derive(Clone, Copy)]
 pub struct Visited {
     pub round: Round,
-    pub next: Next,
+    pub next: Result<(), Ending>,
 }

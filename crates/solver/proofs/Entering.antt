@@ -4,6 +4,8 @@ use mathlib.Core.Path.{◌≡◌, refl, sym, ap, ◌∙◌, subst}
 use mathlib.Core.Bool.{Bool, true, false, ◌&&◌}
 use mathlib.Core.List.{List, ◌∷◌, ◌++◌}
 use mathlib.Core.Option.{none}
+use Rattle.std.specs.Prelude as P
+use Rattle.std.specs.Prelude.{Some, None}
 use native.Mathlib.Nat.{mul-le-mul}
 use native.Mathlib.Omega.{arith}
 use lib.ListN.{length, drop, get_or, take}
@@ -35,23 +37,20 @@ use Rattle.beam_widths.specs.Lists.{BuiltIn}
 use Rattle.beam_widths.proofs.Rising.{widths, built_in_none, built_in_some}
 use Rattle.steps.specs.InBytes.{refusal_in, system_in, bound_in, state_in, target_in, origin_in}
 use Rattle.steps.specs.Follow.{costs_in}
-use Rattle.steps.specs.Answers.{held_answer, bound_answer}
-use Rattle.steps.specs.declared.answers.HeldAnswer.{HeldAnswer}
-use Rattle.steps.specs.declared.answers.HeldAnswer.TheVariants as H
-use Rattle.steps.specs.declared.answers.BoundAnswer.{BoundAnswer}
-use Rattle.steps.specs.declared.answers.BoundAnswer.TheVariants as B
+use Rattle.std.specs.Prelude.{Result, Ok, Err}
+use Rattle.eval_sets.specs.declared.troubles.Trouble.{Trouble}
+use Rattle.steps.specs.Answers.{result_of}
 use Rattle.beam.specs.Nodes.{header_of, node_at}
 use Rattle.search_paths.specs.Routes.{RootIs}
 use Rattle.search_rounds.specs.Rounds.{RoomFor}
 use Rattle.search_runs.specs.Runs.{Runs}
 use Rattle.search_report.specs.Answers.{AnswerIs, stop_answer, Reports, numbers_of, answer_in}
 use Rattle.solver.specs.Searches.{search_in, SearchSays, SetSays, lent_of, lent, run_of, Searched, entered_of, ended_at_target}
-use Rattle.solver.specs.declared.entry.Entered.{Entered}
-use Rattle.solver.specs.declared.entry.Entered.TheVariants as E
 use Rattle.search_report.specs.declared.answers.Answer.{Answer}
 use Rattle.search_runs.specs.declared.Stop.{Stop}
 use Rattle.steps.proofs.Promises.{cost_laws, cost_empty, bound_hours_lem, bound_troubles, origin_start, origin_spent}
-use Rattle.steps.proofs.Trials.{all_held, one_fails, one_troubles, bound_value, bound_trouble}
+use Rattle.steps.proofs.Trials.{is_result}
+use Rattle.steps.proofs.Numbered.{Numbers, admits_numbered, bound_numbered}
 use Rattle.search_report.proofs.Reporting.{answer_same}
 use Rattle.search_report.proofs.Numbers.{in_numbers, read_back}
 
@@ -113,29 +112,29 @@ module _ (bytes : List ℕ) where
   bounded = bound_in bytes (target_in bytes)
 
 -- what the code has found of the target's words
-module _ (bytes target : List ℕ) (at_Target : state_in bytes target ≡ target_in bytes) (q : HeldAnswer) (tried : q ≡ held_answer ((system_in bytes).admits (state_in bytes target)) 0) where
-  held : held_answer (admitted bytes) 0 ≡ q
-  held = ap (λ s. held_answer ((system_in bytes).admits s) 0) (sym at_Target) ∙ sym tried
+module _ (bytes target : List ℕ) (at_Target : state_in bytes target ≡ target_in bytes) (q : Result Bool Trouble) (tried : q ≡ result_of ((system_in bytes).admits (state_in bytes target))) where
+  held : result_of (admitted bytes) ≡ q
+  held = ap (λ s. result_of ((system_in bytes).admits s)) (sym at_Target) ∙ sym tried
 
-  pub enter_broken : q ≡ H.Fails → E.Broken ≡ entered_of (admitted bytes) (bounded bytes)
+  pub enter_broken : {b : Bool} → q ≡ Ok b → b ≡ false → Ok None ≡ entered_of (admitted bytes) (bounded bytes)
   unfolding entered_of
-  enter_broken e = rw (one_fails (admitted bytes) 0 (held ∙ e))
+  enter_broken e y = rw (is_result (admitted bytes) (held ∙ e), y)
 
-  pub enter_trouble : {t : ℕ} → q ≡ H.Trouble t → E.Trouble t ≡ entered_of (admitted bytes) (bounded bytes)
+  pub enter_trouble : {u : Trouble} {t : ℕ} → q ≡ Err u → Numbers u t → Err t ≡ entered_of (admitted bytes) (bounded bytes)
   unfolding entered_of
-  enter_trouble e = rw (one_troubles (admitted bytes) 0 (held ∙ e))
+  enter_trouble e numbers = rw (admits_numbered bytes (target_in bytes) (held ∙ e) numbers)
 
-  module _ {i : ℕ} (all : q ≡ H.All i) (r : BoundAnswer) (says : r ≡ bound_answer (bound_in bytes (state_in bytes target))) where
-    valued : bound_answer (bounded bytes) ≡ r
-    valued = ap (λ s. bound_answer (bound_in bytes s)) (sym at_Target) ∙ sym says
+  module _ {b : Bool} (all : q ≡ Ok b) (y : b ≡ true) (r : Result ℕ Trouble) (says : r ≡ result_of (bound_in bytes (state_in bytes target))) where
+    valued : result_of (bounded bytes) ≡ r
+    valued = ap (λ s. result_of (bound_in bytes s)) (sym at_Target) ∙ sym says
 
-    pub enter_bounded : {h : ℕ} → r ≡ B.Value h → E.Bounded h ≡ entered_of (admitted bytes) (bounded bytes)
+    pub enter_bounded : {h : ℕ} → r ≡ Ok h → Ok (Some h) ≡ entered_of (admitted bytes) (bounded bytes)
     unfolding entered_of
-    enter_bounded e = rw ((all_held (admitted bytes) 0 (held ∙ all)).0, bound_value (bounded bytes) (valued ∙ e))
+    enter_bounded e = rw (is_result (admitted bytes) (held ∙ all), y, is_result (bounded bytes) (valued ∙ e))
 
-    pub enter_unbounded : {t : ℕ} → r ≡ B.Trouble t → E.Trouble t ≡ entered_of (admitted bytes) (bounded bytes)
+    pub enter_unbounded : {u : Trouble} {t : ℕ} → r ≡ Err u → Numbers u t → Err t ≡ entered_of (admitted bytes) (bounded bytes)
     unfolding entered_of
-    enter_unbounded e = rw ((all_held (admitted bytes) 0 (held ∙ all)).0, bound_trouble (bounded bytes) (valued ∙ e))
+    enter_unbounded e numbers = rw (is_result (admitted bytes) (held ∙ all), y, bound_numbered bytes (target_in bytes) (valued ∙ e) numbers)
 
 -- ---- the search of a model that was read
 
@@ -154,7 +153,7 @@ module _ (bytes widths : List ℕ) (limit budget : ℕ) where
   unfolding node_at root
   target_root target h e = record { node = rw (e, origin_start bytes, origin_spent bytes, nothing_spent (hours h)) }
 
-  with_bound : (a : Value Bool) (b : Value ℕ) (h : ℕ) → admitted bytes ≡ a → bounded bytes ≡ b → entered_of a b ≡ E.Bounded h
+  with_bound : (a : Value Bool) (b : Value ℕ) (h : ℕ) → admitted bytes ≡ a → bounded bytes ≡ b → entered_of a b ≡ Ok (Some h)
       → searched ≡ S.rounds (costs_in bytes) (system_in bytes) (suc budget) budget limit first (drop 1 widths) 1 (root (costs_in bytes) (system_in bytes) (origin_in bytes) (hours h)) (record { best = none; low = (costs_in bytes).combine (origin_in bytes).spent (hours h); expansions = 0 })
   unfolding entered_of search search_within enter begin
   with_bound (value true) (value x) h p q e = let same : x ≡ h = cc in rw (origin_start bytes, p, bound_hours_lem bytes (target_in bytes) q, same)
@@ -165,22 +164,22 @@ module _ (bytes widths : List ℕ) (limit budget : ℕ) where
   at_origin : {X : Type 0} (f : State → X) {x : X} → f (target_in bytes) ≡ x → f (origin_in bytes).start ≡ x
   at_origin f e = ap f (origin_start bytes) ∙ e
 
-  broken : (a : Value Bool) (b : Value ℕ) → admitted bytes ≡ a → entered_of a b ≡ E.Broken → searched ≡ ended_at_target first (verdict no_plan)
+  broken : (a : Value Bool) (b : Value ℕ) → admitted bytes ≡ a → entered_of a b ≡ Ok None → searched ≡ ended_at_target first (verdict no_plan)
   unfolding entered_of
   broken (value true) (value x) p e = let z : ◌≡◌ {A = ℕ} 0 1 = cc in absurd (omega arith)
   broken (value true) (trouble t) p e = let z : ◌≡◌ {A = ℕ} 0 1 = cc in absurd (omega arith)
   broken (value false) b p e = broken_start (costs_in bytes) (system_in bytes) (origin_in bytes) budget limit first (drop 1 widths) (at_origin (system_in bytes).admits p) ∙ rw (cost_empty bytes)
   broken (trouble t) b p e = let z : ◌≡◌ {A = ℕ} 0 1 = cc in absurd (omega arith)
 
-  troubled : (a : Value Bool) (b : Value ℕ) (t : ℕ) → admitted bytes ≡ a → bounded bytes ≡ b → entered_of a b ≡ E.Trouble t → searched ≡ ended_at_target first (by_state t)
+  troubled : (a : Value Bool) (b : Value ℕ) (t : ℕ) → admitted bytes ≡ a → bounded bytes ≡ b → entered_of a b ≡ Err t → searched ≡ ended_at_target first (by_state t)
   unfolding entered_of
   troubled (value true) (value x) t p q e = let z : ◌≡◌ {A = ℕ} 0 1 = cc in absurd (omega arith)
   troubled (value true) (trouble u) t p q e = let same : u ≡ t = cc in rw (sym same) (unbounded_start (costs_in bytes) (system_in bytes) (origin_in bytes) budget limit first (drop 1 widths) (at_origin (system_in bytes).admits p) (at_origin (system_in bytes).bound (bound_troubles bytes (target_in bytes) q)) ∙ rw (origin_spent bytes, cost_empty bytes))
   troubled (value false) b t p q e = let z : ◌≡◌ {A = ℕ} 0 1 = cc in absurd (omega arith)
   troubled (trouble u) b t p q e = let same : u ≡ t = cc in rw (sym same) (troubled_start (costs_in bytes) (system_in bytes) (origin_in bytes) budget limit first (drop 1 widths) (at_origin (system_in bytes).admits p) ∙ rw (origin_spent bytes, cost_empty bytes))
 
-  module _ (plan plan' : List ℕ) (x : Answer) (q : Entered) (entered : q ≡ entered_of (admitted bytes) (bounded bytes)) where
-    pub says_run : (h : ℕ) → q ≡ E.Bounded h
+  module _ (plan plan' : List ℕ) (x : Answer) (q : P.Result (P.Option ℕ) ℕ) (entered : q ≡ entered_of (admitted bytes) (bounded bytes)) where
+    pub says_run : (h : ℕ) → q ≡ Ok (Some h)
         → (at words best : List ℕ) (stop : Stop) → RootIs bytes at (origin_in bytes) (hours h) → Runs bytes at words best widths budget limit stop → Reports words best plan plan' stop x → SearchSays bytes plan plan' widths limit budget x
     says_run h e at words best stop at-root runs r =
         let same : searched ≡ stop_answer bytes words best stop = with_bound (admitted bytes) (bounded bytes) h refl refl (sym entered ∙ e) ∙ runs.same (origin_in bytes) (hours h) at-root in
@@ -190,10 +189,10 @@ module _ (bytes widths : List ℕ) (limit budget : ℕ) where
     unfolding buffer_after
     says_ended o w there same kept r = record { answer = answer_same x same (rw there at r); plan_after = kept ∙ ap (λ (a : A.Answer Cost). buffer_after a plan) (sym same) }
 
-    pub says_broken : (w : ℕ) → w ≡ first → q ≡ E.Broken → plan' ≡ plan → AnswerIs (ended_at_target w (verdict no_plan)) x → SearchSays bytes plan plan' widths limit budget x
+    pub says_broken : (w : ℕ) → w ≡ first → q ≡ Ok None → plan' ≡ plan → AnswerIs (ended_at_target w (verdict no_plan)) x → SearchSays bytes plan plan' widths limit budget x
     says_broken w there e = says_ended (verdict no_plan) w there (broken (admitted bytes) (bounded bytes) refl (sym entered ∙ e))
 
-    pub says_troubled : (t w : ℕ) → w ≡ first → q ≡ E.Trouble t → plan' ≡ plan → AnswerIs (ended_at_target w (by_state t)) x → SearchSays bytes plan plan' widths limit budget x
+    pub says_troubled : (t w : ℕ) → w ≡ first → q ≡ Err t → plan' ≡ plan → AnswerIs (ended_at_target w (by_state t)) x → SearchSays bytes plan plan' widths limit budget x
     says_troubled t w there e = says_ended (by_state t) w there (troubled (admitted bytes) (bounded bytes) t refl refl (sym entered ∙ e))
 
 -- ---- the run, test by test

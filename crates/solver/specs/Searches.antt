@@ -1,5 +1,6 @@
 -- What the search on bytes says: the definition's run, field by field; the plan buffer and the working words; the mission's demands.
-use Rattle.std.specs.Prelude.{ℕ, ◌^◌, ◌≤◌, ◌<◌, ◌≡◌, Bool, true, false, List, [], length, get_or, drop}
+use Rattle.std.specs.Prelude.{ℕ, ◌^◌, ◌≤◌, ◌<◌, ◌≡◌, Bool, true, false, List, [], length, get_or, drop, Some, None, Ok, Err}
+use Rattle.std.specs.Prelude as P
 use Rattle.model.specs.declared.Cost.{Cost}
 use Rattle.model.specs.Costs.{free}
 use Rattle.model.specs.Numbers.{most_model_bytes, most_steps}
@@ -15,15 +16,13 @@ use Rattle.search_rounds.specs.Rounds.{RoomFor}
 use Rattle.search_report.specs.Answers.{AnswerIs, FieldsAre, answer_in}
 use Rattle.search_report.specs.declared.answers.Answer.{Answer}
 use Rattle.search_report.specs.declared.answers.Fields.{Fields}
-use Rattle.solver.specs.declared.entry.Entered.{Entered}
-use Rattle.solver.specs.declared.entry.Entered.TheVariants as E
 
--- what is met at the target: its constraints, then its bounds
-unfoldable pub entered_of : (admits : Value Bool) (bound : Value ℕ) → Entered
-entered_of (value true) (value h) = E.Bounded h
-entered_of (value true) (trouble t) = E.Trouble t
-entered_of (value false) bound = E.Broken
-entered_of (trouble t) bound = E.Trouble t
+-- what is met at the target: its constraints, then its bounds; none where a constraint fails
+unfoldable pub entered_of : (admits : Value Bool) (bound : Value ℕ) → P.Result (P.Option ℕ) ℕ
+entered_of (value true) (value h) = Ok (Some h)
+entered_of (value true) (trouble t) = Err t
+entered_of (value false) bound = Ok None
+entered_of (trouble t) bound = Err t
 
 -- the answer of a run that ends at the target, in round 1 at this width, before anything is found
 abbrev pub ended_at_target : (width : ℕ) → A.Outcome → A.Answer Cost

@@ -3,7 +3,7 @@
 ghost use Rattle.std.specs.Prelude.{◌≡◌, ◌≤◌};
 ghost use Rattle.search.specs.Run.{plain, form_fits, lent_fits, refused_by_input};
 ghost use Rattle.steps.specs.InBytes.{Outlined, state_in, system_in, bound_in, target_in};
-ghost use Rattle.steps.specs.Answers.{bound_answer};
+ghost use Rattle.steps.specs.Answers.{result_of};
 ghost use Rattle.search_report.specs.Answers.{AnswerIs, numbers_of, outcome_of};
 ghost use Rattle.solver.specs.Searches.{Searchable, Searched, Settled, SetSays, settings, list_settings, lent_of, SearchSays, entered_of, ended_at_target};
 
@@ -11,54 +11,54 @@ use crate::roots::write_root;
 use beam_order::slots::SLOT_WORDS;
 use beam_widths::{WIDTHS, built_in, widest, width_at};
 use costs::hours;
+use eval_sets::troubles::Trouble;
 use outline::layout::{PREPARED_WORDS, STATE_WORDS};
 use prepare::read_and_prepare;
 use quick::sums::{SUM_WORDS, forget};
 use search::length_fits;
-use search_report::answers::{Answer, Outcome};
+use search_report::answers::{Answer, Refusal};
 use search_report::report::report;
 use search_runs::rounds;
 use search_tally::{Tally, begun};
 use search_visits::work::Verdict;
-use steps::answers::{BoundAnswer, HeldAnswer};
 use steps::bounds::bound;
 use steps::conditions::constraints_hold;
 use steps::states::start;
-
-// What is met at the target when round 1 has begun: h, a constraint that fails, or trouble in the constraints or in h.
-#[derive(Clone, Copy)]
-pub enum Entered {
-    Bounded(u64),
-    Broken,
-    Trouble(u8),
-}
 
 // h of the target.
 fn target_bound(
     model: &[u8],
     outline: &[u64; PREPARED_WORDS],
     target: &[u64; STATE_WORDS],
-) -> BoundAnswer
+) -> Result<u64, Trouble>
     requires { Outlined model.now outline.now }
-    ensures { result ≡ bound_answer (bound_in model.now (state_in model.now target.now)) }
+    ensures { result ≡ result_of (bound_in model.now (state_in model.now target.now)) }
 {
     let mut sums = [0u64; SUM_WORDS];
     forget(&mut sums);
     bound(model, outline, target, &mut sums)
 }
 
-// Tries the target: its constraints, then its bounds.
-fn enter(model: &[u8], outline: &[u64; PREPARED_WORDS], target: &[u64; STATE_WORDS]) -> Entered
+// Tries the target when round 1 has begun, its constraints, then its bounds: h, or none where a constraint fails; or trouble, by its number.
+fn enter(
+    model: &[u8],
+    outline: &[u64; PREPARED_WORDS],
+    target: &[u64; STATE_WORDS],
+) -> Result<Option<u64>, u8>
     requires { Outlined model.now outline.now × (state_in model.now target.now ≡ target_in model.now) }
     ensures { result ≡ entered_of ((system_in model.now).admits (target_in model.now)) (bound_in model.now (target_in model.now)) }
 {
     match constraints_hold(model, outline, target) {
-        HeldAnswer::All(_) => match target_bound(model, outline, target) {
-            BoundAnswer::Value(h) => Entered::Bounded(h),
-            BoundAnswer::Trouble(t) => Entered::Trouble(t),
-        },
-        HeldAnswer::Fails => Entered::Broken,
-        HeldAnswer::Trouble(t) => Entered::Trouble(t),
+        Ok(holds) => {
+            if holds {
+                return match target_bound(model, outline, target) {
+                    Ok(h) => Ok(Some(h)),
+                    Err(t) => Err(t.number()),
+                };
+            }
+            Ok(None)
+        }
+        Err(t) => Err(t.number()),
     }
 }
 
@@ -78,7 +78,7 @@ pub fn search_model(
     let mut target = [0u64; STATE_WORDS];
     start(model, outline, &mut target);
     match enter(model, outline, &target) {
-        Entered::Bounded(h) => {
+        Ok(Some(h)) => {
             let mut root = [0u64; SLOT_WORDS];
             write_root(&target, h, &mut root);
             let mut best = [0u8; 256];
@@ -87,13 +87,13 @@ pub fn search_model(
             );
             report(plan, words, &best, limit, stop)
         }
-        Entered::Broken => ended_at_target(Outcome::Verdict(Verdict::NoPlan), width_at(widths, 0)),
-        Entered::Trouble(t) => ended_at_target(Outcome::ByState(t), width_at(widths, 0)),
+        Ok(None) => ended_at_target(Ok(Verdict::NoPlan), width_at(widths, 0)),
+        Err(t) => ended_at_target(Err(Refusal::ByState(t)), width_at(widths, 0)),
     }
 }
 
 // The answer of a run that ends at the target, in round 1 at this width, before anything is found.
-fn ended_at_target(outcome: Outcome, width: usize) -> Answer
+fn ended_at_target(outcome: Result<Verdict, Refusal>, width: usize) -> Answer
     ensures { AnswerIs (ended_at_target width (outcome_of outcome)) result }
 {
     let fresh = Tally {
@@ -104,12 +104,12 @@ fn ended_at_target(outcome: Outcome, width: usize) -> Answer
     let tally = begun(fresh, width as u64);
     let nothing = hours(0);
     Answer {
-        outcome: outcome,
+        outcome,
         flag: false,
         cost: nothing,
         bound: nothing,
         length: 0,
-        tally: tally,
+        tally,
     }
 }
 
@@ -119,7 +119,7 @@ pub fn refusal(number: u8) -> Answer
 {
     let nothing = hours(0);
     Answer {
-        outcome: Outcome::ByInput(number),
+        outcome: Err(Refusal::ByInput(number)),
         flag: false,
         cost: nothing,
         bound: nothing,
@@ -136,10 +136,7 @@ pub fn refusal(number: u8) -> Answer
 pub fn is_length(limit: u32) -> bool
     ensures { result ≡ form_fits (plain limit) }
 {
-    if limit < 1 {
-        return false;
-    }
-    length_fits(limit as u64)
+    1 <= limit && length_fits(limit as u64)
 }
 
 // Whether the caller lends enough: plan bytes, and working words.
@@ -147,10 +144,7 @@ pub fn lent_fits(width: usize, limit: usize, bytes: usize, words: usize) -> bool
     requires { (width ≤ 4096) × (limit ≤ 256) }
     ensures { result ≡ lent_fits width limit (lent_of bytes words) }
 {
-    if bytes < limit {
-        return false;
-    }
-    64 * width + width * (limit + 1) <= words
+    limit <= bytes && 64 * width + width * (limit + 1) <= words
 }
 
 // What follows the settings where the length is given: what is lent, the reading, the run.
@@ -167,11 +161,10 @@ pub fn search_set(
 {
     if lent_fits(widest(widths), limit, plan.len(), words.len()) {
         let mut outline = [0u64; PREPARED_WORDS];
-        let number = read_and_prepare(model, &mut outline);
-        if number == 0 {
-            return search_model(model, &outline, widths, limit, budget as u64, plan, words);
-        }
-        return refusal(number);
+        return match read_and_prepare(model, &mut outline) {
+            Ok(()) => search_model(model, &outline, widths, limit, budget as u64, plan, words),
+            Err(refused) => refusal(refused.number()),
+        };
     }
     refusal(3)
 }

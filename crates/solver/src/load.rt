@@ -24,18 +24,17 @@ pub fn load_set(
     ensures { SetSays model.now plan.old plan.new words.old words.new (list_loading_settings widths.now budget) result }
 {
     let mut outline = [0u64; PREPARED_WORDS];
-    let number = read_and_prepare(model, &mut outline);
-    if number == 0 {
-        if in_profile(model, &outline) {
-            let limit = loading_length(model, &outline);
-            if lent_fits(widest(widths), limit, plan.len(), words.len()) {
-                return search_model(model, &outline, widths, limit, budget as u64, plan, words);
-            }
-            return refusal(3);
-        }
-        return refusal(15);
+    if let Err(refused) = read_and_prepare(model, &mut outline) {
+        return refusal(refused.number());
     }
-    refusal(number)
+    if in_profile(model, &outline) {
+        let limit = loading_length(model, &outline);
+        if lent_fits(widest(widths), limit, plan.len(), words.len()) {
+            return search_model(model, &outline, widths, limit, budget as u64, plan, words);
+        }
+        return refusal(3);
+    }
+    refusal(15)
 }
 
 // The search of a model of at most so many bytes in the loading profile. A model outside it is told, with 15, once it is read and before too

@@ -5,16 +5,14 @@ use mathlib.Core.Bool.{Bool, true, false}
 use mathlib.Core.List.{List}
 use native.Mathlib.Omega.{arith}
 use lib.ListN.{length, take, drop, length-drop}
-use lib.IntN.{ℤ, pos}
-use lib.Signed.{mag, lt_z}
+use lib.IntN.{ℤ}
+use lib.Signed.{mag}
 use mir.Syntax.{w64}
 use mir.Val.{SFits, of_z, to_z}
 use Rattle.model.specs.Numbers.{range_end, most_nesting, most_objects}
 use Rattle.words.proofs.Integers.{back}
 use Rattle.words.proofs.Literal.{suffix}
 use Rattle.outline.specs.Outline.{model_of}
-use Rattle.eval_sets.specs.declared.answers.NumberValue.{NumberValue}
-use Rattle.eval_sets.specs.declared.answers.NumberValue.TheVariants as N
 use Rattle.eval_sets.specs.declared.answers.ConditionValue.{ConditionValue}
 use Rattle.eval_sets.specs.declared.answers.ConditionValue.TheVariants as C
 use Rattle.eval_sets.specs.declared.answers.ElementValue.{ElementValue}
@@ -24,7 +22,7 @@ use Rattle.eval_sets.specs.Runs.{Environment, environment, run_element, run_set,
 use Rattle.eval_sets.specs.Promise.{Describes}
 use Rattle.eval_sets.proofs.Promises.{run_number_lem, run_condition_lem, run_set_lem, run_element_lem}
 use Rattle.eval_sets.proofs.Within.{number_within, condition_within, set_within, element_within, element_small}
-use Rattle.eval_sets.specs.Answers.{condition_answer}
+use Rattle.eval_sets.specs.Answers.{NumberValue, told, condition_answer}
 use Rattle.eval_tests.specs.Stopped.{stopped}
 use Rattle.eval_tests.proofs.Stopping.{stopped_within}
 use Rattle.prepare.specs.Forms.{MemberForm}
@@ -33,7 +31,7 @@ use Rattle.quick.specs.Entries.{EntryForm, entry_at}
 use Rattle.quick.specs.Sets.{member_in}
 use Rattle.quick.proofs.Changes.{membership_says}
 use Rattle.quick.proofs.Compared.{entry_says}
-use Rattle.cursor.specs.Told.{silent_from, NumberTold, SetTold, ConditionTold, TestTold}
+use Rattle.cursor.specs.Told.{NumberTo, SetTo, ConditionTo, FailsAt}
 use Rattle.cursor.proofs.Says.{number_says, condition_says, fails_says, set_says_lem}
 use Rattle.steps.specs.InBytes.{Outlined}
 use Rattle.steps.specs.Says.{ConditionSays, NumberSays, ElementSays, SetSays}
@@ -42,14 +40,9 @@ use Rattle.steps.specs.Says.{ConditionSays, NumberSays, ElementSays, SetSays}
 abbrev lent : ℕ → List ℕ → List ℕ
 lent n l = take (length l - n) (drop n l)
 
-module _ {bytes words state : List ℕ} {at q : ℕ} where
-  -- the code of a number, kept in a word, that tells something: the cursor is not before the place
-  pub told_ends : {z : ℤ} → SFits w64 z → NumberTold bytes words state at z q → lt_z (to_z w64 (of_z w64 z)) (pos silent_from) ≡ true → at ≤ q
-  told_ends f told below = let is = told (rw (back f) at below) in omega (arith, is.ends)
-
-  -- a condition that is told whether it holds or fails is told as a test
-  pub as_test : {code : ℕ} → ConditionTold bytes words state at code q → TestTold bytes words state at code q
-  as_test told = record { holds = told.holds; fails = λ none. let fails = told.fails none in record { used = fails.used; is = fails.is } }
+-- where a condition does not hold, its end is not asked for
+pub fails_of : {bytes words state : List ℕ} {at q : ℕ} → ConditionTo bytes words state at false q → FailsAt bytes words state at
+fails_of t = record { used = t.used; is = t.is }
 
 module _ (bytes words : List ℕ) (o : Outlined bytes words) (at : ℕ) (state : List ℕ) where
   abbrev here : Environment
@@ -72,7 +65,7 @@ module _ (bytes words : List ℕ) (o : Outlined bytes words) (at : ℕ) (state :
       rw (f, ← length-drop at bytes) (λ x n h. run_number_lem most_nesting here (drop at bytes) _ _ x n described h, number_within most_nesting here (drop at bytes))
 
   -- 28 t e e, in place
-  pub entry_promised : EntryForm bytes at → (z : ℤ) → z ≡ entry_at bytes at words state → mag z < range_end → NumberSays bytes at state (N.Value z 6) × NumberWithin (length bytes - at) (N.Value z 6)
+  pub entry_promised : EntryForm bytes at → (z : ℤ) → z ≡ entry_at bytes at words state → mag z < range_end → NumberSays bytes at state (told z 6) × NumberWithin (length bytes - at) (told z 6)
   entry_promised f z e l = (λ x n h. rw e (entry_says bytes at words state f (rw e at l) x n o.outlines h), (l, omega (arith, f.inside)))
 
   -- 54 30 k 41 v, in place
@@ -85,32 +78,25 @@ module _ (bytes words : List ℕ) (o : Outlined bytes words) (at : ℕ) (state :
   -- ---- told along a cursor
 
   module _ (q : ℕ) where
-    pub condition_told : (code : ℕ) → TestTold bytes words state at code q → code ≡ 1 → ConditionSays bytes at state (C.Holds true (q - at)) × ConditionWithin (length bytes - at) (C.Holds true (q - at))
+    pub condition_told : ConditionTo bytes words state at true q → ConditionSays bytes at state (C.Holds true (q - at)) × ConditionWithin (length bytes - at) (C.Holds true (q - at))
     unfolding stopped
-    condition_told code told one =
-        let holds = told.holds one in
+    condition_told holds =
         (λ x n h. ap stopped (condition_says bytes words state o.outlines at holds x n h), omega (arith, holds.ends, holds.is.there.inside))
 
-    pub failure_told : (code : ℕ) → TestTold bytes words state at code q → code ≡ 0 → ConditionSays bytes at state (C.Holds false 0) × ConditionWithin (length bytes - at) (C.Holds false 0)
-    unfolding stopped condition_answer
-    failure_told code told none = (λ x n h. rw (fails_says bytes words state o.outlines at (told.fails none) x n h), omega arith)
-
-    pub number_told : (z : ℤ) → NumberTold bytes words state at z q → lt_z z (pos silent_from) ≡ true → NumberSays bytes at state (N.Value z (q - at)) × NumberWithin (length bytes - at) (N.Value z (q - at))
-    number_told z told below =
-        let is = told below in
-        (λ x n h. number_says bytes words state o.outlines at is x n h, (is.is.fits, omega (arith, is.ends, is.is.there.inside)))
+    pub number_told : {z : ℤ} → NumberTo bytes words state at z q → NumberSays bytes at state (told z (q - at)) × NumberWithin (length bytes - at) (told z (q - at))
+    number_told is = (λ x n h. number_says bytes words state o.outlines at is x n h, (is.is.fits, omega (arith, is.ends, is.is.there.inside)))
 
     -- of a number that is kept in a word, beside whatever else is promised
-    pub kept_number_told : {z : ℤ} {R : Type 0} → SFits w64 z → NumberTold bytes words state at z q → lt_z (to_z w64 (of_z w64 z)) (pos silent_from) ≡ true → R
-        → NumberSays bytes at state (N.Value (to_z w64 (of_z w64 z)) (q - at)) × NumberWithin (length bytes - at) (N.Value (to_z w64 (of_z w64 z)) (q - at)) × R
-    kept_number_told f told below also =
-        let is = told (rw (back f) at below) in
-        rw (back f) (λ x n h. number_says bytes words state o.outlines at is x n h, (is.is.fits, omega (arith, is.ends, is.is.there.inside)), also)
+    pub kept_number_told : {z : ℤ} {R : Type 0} → SFits w64 z → NumberTo bytes words state at z q → R
+        → NumberSays bytes at state (told (to_z w64 (of_z w64 z)) (q - at)) × NumberWithin (length bytes - at) (told (to_z w64 (of_z w64 z)) (q - at)) × R
+    kept_number_told f is also = let t = number_told is in rw (back f) (t.0, t.1, also)
 
-    pub set_told : (s : ℕ) → SetTold bytes words state at s q → (q ≡ at → ⊥) → (c : ℕ) → SetSays bytes at state (record { members = s; objects = c; used = q - at }) × (q - at ≤ length bytes - at)
-    set_told s told moved c =
-        let is = told moved in
-        (λ x n h. set_says_lem bytes words state o.outlines at is x n h, omega (arith, is.ends, is.is.there.inside))
+    pub set_told : {s : ℕ} → SetTo bytes words state at s q → (c : ℕ) → SetSays bytes at state (record { members = s; objects = c; used = q - at }) × (q - at ≤ length bytes - at)
+    set_told is c = (λ x n h. set_says_lem bytes words state o.outlines at is x n h, omega (arith, is.ends, is.is.there.inside))
+
+  pub failure_told : FailsAt bytes words state at → ConditionSays bytes at state (C.Holds false 0) × ConditionWithin (length bytes - at) (C.Holds false 0)
+  unfolding stopped condition_answer
+  failure_told fails = (λ x n h. rw (fails_says bytes words state o.outlines at fails x n h), omega arith)
 
   pub set_promised : (r : SetValue) → r ≡ run_set most_nesting state words (lent at bytes) → SetSays bytes at state r × (r.used ≤ length bytes - at)
   set_promised r e =

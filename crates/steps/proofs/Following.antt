@@ -22,41 +22,42 @@ use Rattle.model.proofs.Ranges.{up_to_less, up_to_below, below_up_to}
 use Rattle.costs.specs.Costs.{Joinable}
 use Rattle.model.specs.Check.{final, after_move, after_status, follow, after_constraints, follow_from, answer_number, cost_given}
 use Rattle.outline.specs.Outline.{model_of, rule_number}
-use Rattle.steps.specs.declared.answers.StatusAnswer.TheVariants as S
-use Rattle.steps.specs.declared.answers.HeldAnswer.{HeldAnswer}
-use Rattle.steps.specs.declared.answers.HeldAnswer.TheVariants as H
+use Rattle.std.specs.Prelude.{Result, Ok, Err}
+use Rattle.model.proofs.Troubles.{PlanTrouble, follow_from_trouble}
+use Rattle.eval_sets.specs.declared.troubles.Trouble.{Trouble}
+use Rattle.eval_sets.specs.declared.troubles.Trouble.TheVariants.{NotAPlan}
+use Rattle.eval_sets.specs.Troubles.{named}
+use Rattle.steps.specs.declared.answers.Status.TheVariants as S
 use Rattle.steps.specs.declared.answers.MoveAnswer.{MoveAnswer}
 use Rattle.steps.specs.declared.answers.MoveAnswer.TheVariants as M
-use Rattle.steps.specs.declared.answers.FollowAnswer.{FollowAnswer}
-use Rattle.steps.specs.declared.answers.FollowAnswer.TheVariants as T
 use Rattle.steps.specs.declared.answers.Checked.{Checked}
 use Rattle.steps.specs.InBytes.{Outlined, state_in, system_in, target_in}
-use Rattle.steps.specs.Answers.{status_answer, held_answer, move_answer}
+use Rattle.steps.specs.Answers.{result_of, status_answer, move_answer}
 use Rattle.steps.specs.Says.{MoveSays}
 use Rattle.steps.specs.Follow.{costs_in, follow_in, follow_from_in, step_tried, finished, FollowsOn, CheckedIs}
 use Rattle.prepare.proofs.Items.{none_beyond}
-use Rattle.steps.proofs.Trials.{all_held, one_fails, one_troubles}
+use Rattle.steps.proofs.Trials.{is_result, result_troubles}
 use Rattle.steps.proofs.Promises.{combined_up_to, step_cost_below}
 
 -- ---- answers taken apart
 
-pub is_base : (x : Status) → status_answer x ≡ S.Base → x ≡ base
+pub is_base : (x : Status) → status_answer x ≡ Ok S.Base → x ≡ base
 unfolding status_answer
 is_base base e = refl
 is_base unfinished e = let z : ◌≡◌ {A = ℕ} 0 1 = cc in absurd (omega arith)
 is_base (no_status t) e = let z : ◌≡◌ {A = ℕ} 0 1 = cc in absurd (omega arith)
 
-pub is_unfinished_lem : (x : Status) → status_answer x ≡ S.Unfinished → x ≡ unfinished
+pub is_unfinished_lem : (x : Status) → status_answer x ≡ Ok S.Unfinished → x ≡ unfinished
 unfolding status_answer
 is_unfinished_lem base e = let z : ◌≡◌ {A = ℕ} 0 1 = cc in absurd (omega arith)
 is_unfinished_lem unfinished e = refl
 is_unfinished_lem (no_status t) e = let z : ◌≡◌ {A = ℕ} 0 1 = cc in absurd (omega arith)
 
-pub no_status_lem : (x : Status) {t : ℕ} → status_answer x ≡ S.Trouble t → x ≡ no_status t
+pub no_status_lem : (x : Status) {t : Trouble} → status_answer x ≡ Err t → (s : ℕ) × (x ≡ no_status s) × (t ≡ named s)
 unfolding status_answer
 no_status_lem base e = let z : ◌≡◌ {A = ℕ} 0 1 = cc in absurd (omega arith)
 no_status_lem unfinished e = let z : ◌≡◌ {A = ℕ} 0 1 = cc in absurd (omega arith)
-no_status_lem (no_status t) e = cc
+no_status_lem (no_status t) e = (t, refl, cc)
 
 pub is_blocked : (x : Move State Cost) → move_answer x ≡ M.Blocked → x ≡ blocked
 unfolding move_answer
@@ -72,19 +73,19 @@ is_moved (moved c u) e = (u, cc)
 is_moved (trouble_before t) e = let z : ◌≡◌ {A = ℕ} 0 1 = cc in absurd (omega arith)
 is_moved (trouble_after c t) e = let z : ◌≡◌ {A = ℕ} 0 1 = cc in absurd (omega arith)
 
-pub is_before : (x : Move State Cost) {t : ℕ} → move_answer x ≡ M.Before t → x ≡ trouble_before t
+pub is_before : (x : Move State Cost) {t : Trouble} → move_answer x ≡ M.Before t → (s : ℕ) × (x ≡ trouble_before s) × (t ≡ named s)
 unfolding move_answer
 is_before blocked e = let z : ◌≡◌ {A = ℕ} 0 1 = cc in absurd (omega arith)
 is_before (moved c u) e = let z : ◌≡◌ {A = ℕ} 0 1 = cc in absurd (omega arith)
-is_before (trouble_before t) e = cc
+is_before (trouble_before t) e = (t, refl, cc)
 is_before (trouble_after c t) e = let z : ◌≡◌ {A = ℕ} 0 1 = cc in absurd (omega arith)
 
-pub is_after : (x : Move State Cost) {c : Cost} {t : ℕ} → move_answer x ≡ M.After c t → x ≡ trouble_after c t
+pub is_after : (x : Move State Cost) {c : Cost} {t : Trouble} → move_answer x ≡ M.After c t → (s : ℕ) × (x ≡ trouble_after c s) × (t ≡ named s)
 unfolding move_answer
 is_after blocked e = let z : ◌≡◌ {A = ℕ} 0 1 = cc in absurd (omega arith)
 is_after (moved c u) e = let z : ◌≡◌ {A = ℕ} 0 1 = cc in absurd (omega arith)
 is_after (trouble_before t) e = let z : ◌≡◌ {A = ℕ} 0 1 = cc in absurd (omega arith)
-is_after (trouble_after c t) e = cc
+is_after (trouble_after d t) e = (t, cc, cc)
 
 -- ---- costs
 
@@ -108,27 +109,36 @@ joinable p q = record {
 
 -- ---- one transition
 
+module _ (bytes : List ℕ) (rest : Cost → State → Value Cost) where
+  before_ends : {x : Move State Cost} {n : ℕ} → x ≡ trouble_before n → after_move (costs_in bytes) (system_in bytes) x rest ≡ trouble n
+  unfolding after_move
+  before_ends e = rw e
+
+  after_ends : {x : Move State Cost} {c : Cost} {n : ℕ} → x ≡ trouble_after c n → after_move (costs_in bytes) (system_in bytes) x rest ≡ trouble n
+  unfolding after_move
+  after_ends e = rw e
+
 module _ (bytes state : List ℕ) (t : ℕ) (g : Cost) (child : List ℕ) (q : MoveAnswer) (says : MoveSays bytes state t child q) where
   abbrev here : State
   here = state_in bytes state
 
-  pub checked_blocked : q ≡ M.Blocked → FollowsOn bytes (step_tried bytes here t g) child g (T.Ended not_a_plan)
-  unfolding after_move
-  checked_blocked e plan = let m = is_blocked _ (sym says.answer ∙ e) in rw m
+  pub checked_blocked : q ≡ M.Blocked → FollowsOn bytes (step_tried bytes here t g) child g (Err NotAPlan)
+  unfolding after_move named
+  checked_blocked e = let m = is_blocked _ (sym says.answer ∙ e) in (not_a_plan, refl, λ plan. rw m)
 
-  pub checked_before : {n : ℕ} → q ≡ M.Before n → FollowsOn bytes (step_tried bytes here t g) child g (T.Ended n)
+  pub checked_before : {n : Trouble} → q ≡ M.Before n → FollowsOn bytes (step_tried bytes here t g) child g (Err n)
   unfolding after_move
-  checked_before e plan = let m = is_before _ (sym says.answer ∙ e) in rw m
+  checked_before e = let m = is_before _ (sym says.answer ∙ e) in (m.0, m.2, λ plan. before_ends bytes (λ c u. follow_in bytes plan u ((costs_in bytes).combine g c)) m.1)
 
-  pub checked_after : {c : Cost} {n : ℕ} → q ≡ M.After c n → FollowsOn bytes (step_tried bytes here t g) child g (T.Ended n)
+  pub checked_after : {c : Cost} {n : Trouble} → q ≡ M.After c n → FollowsOn bytes (step_tried bytes here t g) child g (Err n)
   unfolding after_move
-  checked_after e plan = let m = is_after _ (sym says.answer ∙ e) in rw m
+  checked_after e = let m = is_after _ (sym says.answer ∙ e) in (m.0, m.2, λ plan. after_ends bytes (λ c u. follow_in bytes plan u ((costs_in bytes).combine g c)) m.1)
 
   -- each part of a step's cost is below the range's end
   pub step_small : {c : Cost} → q ≡ M.Moved c → CostBelow range_end c
   step_small e = let m = is_moved _ (sym says.answer ∙ e) in step_cost_below bytes here t m.1
 
-  pub checked_moved : {c h : Cost} → q ≡ M.Moved c → h ≡ (costs_in bytes).combine g c → FollowsOn bytes (step_tried bytes here t g) child g (T.On h)
+  pub checked_moved : {c h : Cost} → q ≡ M.Moved c → h ≡ (costs_in bytes).combine g c → FollowsOn bytes (step_tried bytes here t g) child g (Ok h)
   unfolding after_move
   checked_moved {c} {h} e f =
       let m = is_moved _ (sym says.answer ∙ e) in
@@ -137,9 +147,9 @@ module _ (bytes state : List ℕ) (t : ℕ) (g : Cost) (child : List ℕ) (q : M
 
 -- ---- one turn: the status of the state, then the transition
 
-checked_same : (bytes : List ℕ) (f k : List ℕ → Value Cost) (child : List ℕ) (g : Cost) (r : FollowAnswer) → ((plan : List ℕ) → k plan ≡ f plan) → FollowsOn bytes f child g r → FollowsOn bytes k child g r
-checked_same bytes f k child g (T.On h) e t = (λ plan. e plan ∙ t.0 plan, t.1)
-checked_same bytes f k child g (T.Ended n) e t = λ plan. e plan ∙ t plan
+checked_same : (bytes : List ℕ) (f k : List ℕ → Value Cost) (child : List ℕ) (g : Cost) (r : Result Cost Trouble) → ((plan : List ℕ) → k plan ≡ f plan) → FollowsOn bytes f child g r → FollowsOn bytes k child g r
+checked_same bytes f k child g (Ok h) e t = (λ plan. e plan ∙ t.0 plan, t.1)
+checked_same bytes f k child g (Err n) e t = (t.0, t.1, λ plan. e plan ∙ t.2 plan)
 
 module _ (bytes : List ℕ) (s : State) (t : ℕ) (g : Cost) where
   -- a number that is not declared is blocked
@@ -156,35 +166,39 @@ module _ (bytes : List ℕ) (s : State) (t : ℕ) (g : Cost) where
   unfolding follow after_status
   follow_unfinished plan e = rw e (undeclared (λ c u. follow_in bytes plan u ((costs_in bytes).combine g c)))
 
+  no_status_ends : {n : ℕ} (plan : List ℕ) → (system_in bytes).status s ≡ no_status n → follow_in bytes (t ∷ plan) s g ≡ trouble n
+  unfolding follow after_status
+  no_status_ends plan e = rw e
+
   module _ (child : List ℕ) where
     abbrev whole : List ℕ → Value Cost
     whole plan = follow_in bytes (t ∷ plan) s g
 
-    pub checked_base : S.Base ≡ status_answer ((system_in bytes).status s) → FollowsOn bytes whole child g (T.Ended not_a_plan)
-    unfolding follow after_status
-    checked_base e plan = rw (is_base _ (sym e))
+    pub checked_base : Ok S.Base ≡ status_answer ((system_in bytes).status s) → FollowsOn bytes whole child g (Err NotAPlan)
+    unfolding follow after_status named
+    checked_base e = (not_a_plan, refl, λ plan. rw (is_base _ (sym e)))
 
-    pub checked_troubles : {n : ℕ} → S.Trouble n ≡ status_answer ((system_in bytes).status s) → FollowsOn bytes whole child g (T.Ended n)
+    pub checked_troubles : {n : Trouble} → Err n ≡ status_answer ((system_in bytes).status s) → FollowsOn bytes whole child g (Err n)
     unfolding follow after_status
-    checked_troubles e plan = rw (no_status_lem _ (sym e))
+    checked_troubles e = let p = no_status_lem _ (sym e) in (p.0, p.2, λ plan. no_status_ends plan p.1)
 
-    pub checked_on : S.Unfinished ≡ status_answer ((system_in bytes).status s) → (r : FollowAnswer) → FollowsOn bytes (step_tried bytes s t g) child g r → FollowsOn bytes whole child g r
+    pub checked_on : Ok S.Unfinished ≡ status_answer ((system_in bytes).status s) → (r : Result Cost Trouble) → FollowsOn bytes (step_tried bytes s t g) child g r → FollowsOn bytes whole child g r
     checked_on e r h = checked_same bytes (step_tried bytes s t g) whole child g r (λ plan. follow_unfinished plan (is_unfinished_lem _ (sym e))) h
 
 -- ---- the final state
 
 module _ (bytes : List ℕ) (s : State) (g : Cost) where
-  pub finish_base : S.Base ≡ status_answer ((system_in bytes).status s) → CheckedIs (finished bytes s g) (record { answer = 0; cost = g })
-  unfolding final answer_number cost_given
-  finish_base e = let f = is_base _ (sym e) in record { number = rw f; cost = rw f }
+  pub finish_base : Ok S.Base ≡ status_answer ((system_in bytes).status s) → Ok g ≡ result_of (finished bytes s g)
+  unfolding final result_of
+  finish_base e = rw (is_base _ (sym e))
 
-  pub finish_unfinished : S.Unfinished ≡ status_answer ((system_in bytes).status s) → (r : Checked) → CheckedIs (trouble not_a_plan) r → CheckedIs (finished bytes s g) r
-  unfolding final
-  finish_unfinished e r c = rw (is_unfinished_lem _ (sym e)) c
+  pub finish_unfinished : Ok S.Unfinished ≡ status_answer ((system_in bytes).status s) → Err NotAPlan ≡ result_of (finished bytes s g)
+  unfolding final result_of named
+  finish_unfinished e = rw (is_unfinished_lem _ (sym e))
 
-  pub finish_troubles : {n : ℕ} → S.Trouble n ≡ status_answer ((system_in bytes).status s) → (r : Checked) → CheckedIs (trouble n) r → CheckedIs (finished bytes s g) r
-  unfolding final
-  finish_troubles e r c = rw (no_status_lem _ (sym e)) c
+  pub finish_troubles : {n : Trouble} → Err n ≡ status_answer ((system_in bytes).status s) → Err n ≡ result_of (finished bytes s g)
+  unfolding final result_of
+  finish_troubles e = let p = no_status_lem _ (sym e) in rw p.1 (ap Err p.2)
 
 -- ---- the whole plan
 
@@ -201,37 +215,56 @@ module _ (bytes plan : List ℕ) (s : State) (state : List ℕ) (g : Cost) (i : 
   pub cost_small : length plan ≤ 256 → CostBelow (2 ^ 63) g
   cost_small h = up_to_below so_far.small (omega (arith, so_far.within))
 
-  pub followed_last : length plan ≤ i → (r : Checked) → CheckedIs (finished bytes (state_in bytes state) g) r → CheckedIs (follow_in bytes plan s free) r
+  pub followed_last : length plan ≤ i → {r : Result Cost Trouble} → r ≡ result_of (finished bytes (state_in bytes state) g) → r ≡ result_of (follow_in bytes plan s free)
   unfolding follow
-  followed_last h r c = rw (so_far.left, drop_of_length-le plan h) c
+  followed_last h e = rw (so_far.left, drop_of_length-le plan h) e
 
-  module _ (h : i < length plan) (after : List ℕ) (r : FollowAnswer) (turned : FollowsOn bytes (λ rest. follow_in bytes (get_or plan i 0 ∷ rest) (state_in bytes state) g) after g r) where
+  module _ (h : i < length plan) (after : List ℕ) (r : Result Cost Trouble) (turned : FollowsOn bytes (λ rest. follow_in bytes (get_or plan i 0 ∷ rest) (state_in bytes state) g) after g r) where
     next_step : follow_in bytes plan s free ≡ follow_in bytes (get_or plan i 0 ∷ drop (i + 1) plan) (state_in bytes state) g
     next_step = so_far.left ∙ ap (λ (l : List ℕ). follow_in bytes l (state_in bytes state) g) (drop-cons plan i 0 h ∙ ap (λ (k : ℕ). get_or plan i 0 ∷ drop k plan) (sym (add-one i)))
 
-    pub followed_more : {k : Cost} → r ≡ T.On k → Followed bytes plan s after k (i + 1)
+    pub followed_more : {k : Cost} → r ≡ Ok k → Followed bytes plan s after k (i + 1)
     followed_more {k} e =
         let t = rw e at turned in
         let m : (i + 1) * range_end ≡ i * range_end + range_end = omega arith in
         record { within = omega arith; small = up_to_less (t.1 (i * range_end) so_far.small) (omega arith); left = next_step ∙ t.0 (drop (i + 1) plan) }
 
-    pub followed_ended : {n : ℕ} → r ≡ T.Ended n → (x : Checked) → CheckedIs (trouble n) x → CheckedIs (follow_in bytes plan s free) x
-    followed_ended e x c = rw (next_step ∙ (rw e at turned) (drop (i + 1) plan)) c
+    pub followed_ended : {n : Trouble} → r ≡ Err n → Err n ≡ result_of (follow_in bytes plan s free)
+    unfolding result_of
+    followed_ended e = let t = rw e at turned in rw (next_step ∙ t.2 (drop (i + 1) plan)) (ap Err t.1)
 
 -- ---- the target's constraints, then the plan
 
-module _ (bytes plan state : List ℕ) (at_Target : state_in bytes state ≡ target_in bytes) (g : Cost) (q : HeldAnswer) (says : q ≡ held_answer ((system_in bytes).admits (state_in bytes state)) 0) where
-  held : held_answer ((system_in bytes).admits (target_in bytes)) 0 ≡ q
-  held = ap (λ s. held_answer ((system_in bytes).admits s) 0) (sym at_Target) ∙ sym says
+module _ (bytes plan state : List ℕ) (at_Target : state_in bytes state ≡ target_in bytes) (g : Cost) (q : Result Bool Trouble) (says : q ≡ result_of ((system_in bytes).admits (state_in bytes state))) where
+  abbrev from_target : Result Cost Trouble
+  from_target = result_of (follow_from_in bytes plan (target_in bytes) g)
 
-  pub target_meets : {i : ℕ} → q ≡ H.All i → (r : Checked) → CheckedIs (follow_in bytes plan (state_in bytes state) g) r → CheckedIs (follow_from_in bytes plan (target_in bytes) g) r
-  unfolding follow_from after_constraints
-  target_meets e r c = rw ((all_held ((system_in bytes).admits (target_in bytes)) 0 (held ∙ e)).0, sym at_Target) c
+  held : result_of ((system_in bytes).admits (target_in bytes)) ≡ q
+  held = ap (λ s. result_of ((system_in bytes).admits s)) (sym at_Target) ∙ sym says
 
-  pub target_breaks : q ≡ H.Fails → (r : Checked) → CheckedIs (trouble not_a_plan) r → CheckedIs (follow_from_in bytes plan (target_in bytes) g) r
+  pub target_meets : {b : Bool} → q ≡ Ok b → b ≡ true → {r : Result Cost Trouble} → r ≡ result_of (follow_in bytes plan (state_in bytes state) g) → r ≡ from_target
   unfolding follow_from after_constraints
-  target_breaks e r c = rw (one_fails ((system_in bytes).admits (target_in bytes)) 0 (held ∙ e)) c
+  target_meets e y h = rw (is_result ((system_in bytes).admits (target_in bytes)) (held ∙ e), y, sym at_Target) h
 
-  pub target_troubles : {n : ℕ} → q ≡ H.Trouble n → (r : Checked) → CheckedIs (trouble n) r → CheckedIs (follow_from_in bytes plan (target_in bytes) g) r
-  unfolding follow_from after_constraints
-  target_troubles e r c = rw (one_troubles ((system_in bytes).admits (target_in bytes)) 0 (held ∙ e)) c
+  pub target_breaks : {b : Bool} → q ≡ Ok b → b ≡ false → Err NotAPlan ≡ from_target
+  unfolding follow_from after_constraints result_of named
+  target_breaks e y = rw (is_result ((system_in bytes).admits (target_in bytes)) (held ∙ e), y)
+
+  pub target_troubles : {n : Trouble} → q ≡ Err n → Err n ≡ from_target
+  unfolding follow_from after_constraints result_of
+  target_troubles e = let p = result_troubles ((system_in bytes).admits (target_in bytes)) (held ∙ e) in rw p.1 (ap Err p.2)
+
+-- ---- the answer in numbers
+
+module _ (bytes plan : List ℕ) (g : Cost) where
+  pub plan_passes : {c : Cost} → Ok c ≡ result_of (follow_from_in bytes plan (target_in bytes) g) → CheckedIs (follow_from_in bytes plan (target_in bytes) g) (record { answer = 0; cost = c })
+  unfolding answer_number cost_given
+  plan_passes e = let p = is_result _ (sym e) in record { number = rw p; cost = rw p }
+
+  -- a trouble has the number of the definitions
+  pub plan_refused : {t : Trouble} {n : ℕ} → Err t ≡ result_of (follow_from_in bytes plan (target_in bytes) g) → ((k : ℕ) → PlanTrouble k → t ≡ named k → n ≡ k)
+      → {r : Checked} → CheckedIs (trouble n) r → CheckedIs (follow_from_in bytes plan (target_in bytes) g) r
+  plan_refused e kept c =
+      let p = result_troubles _ (sym e) in
+      let same = kept p.0 (follow_from_trouble range_end (costs_in bytes) (model_of bytes) plan (target_in bytes) g p.1) p.2 in
+      rw p.1 (rw same at c)

@@ -13,6 +13,7 @@ use Rattle.model.specs.Syntax.{Condition}
 use Rattle.model.specs.Commands.{conditions}
 use Rattle.model.specs.Meaning.{condition_value, all_hold}
 use Rattle.outline.specs.Outline.{model_of}
+use Rattle.eval_sets.specs.declared.troubles.Trouble.{Trouble}
 use Rattle.eval_sets.specs.declared.answers.ConditionValue.{ConditionValue}
 use Rattle.eval_sets.specs.declared.answers.ConditionValue.TheVariants as C
 use Rattle.eval_sets.specs.Answers.{condition_answer}
@@ -20,7 +21,7 @@ use Rattle.eval_sets.specs.Bounds.{ConditionWithin}
 use Rattle.eval_tests.specs.Stopped.{stopped}
 use Rattle.steps.specs.declared.answers.HeldAnswer.TheVariants as H
 use Rattle.steps.specs.InBytes.{state_in}
-use Rattle.steps.specs.Answers.{held_answer}
+use Rattle.steps.specs.Answers.{IsTrouble, held_answer}
 use Rattle.steps.specs.Says.{ConditionSays, HeldSays}
 use Rattle.steps.proofs.Readings.{Listed, ConditionAt, conditions_listed, First, first_of, none_of}
 
@@ -32,11 +33,11 @@ condition_holds (value true) n e = (cc, λ y. cc)
 condition_holds (value false) n e = (cc, λ y. let z : ◌≡◌ {A = ℕ} 0 1 = cc in absurd (omega arith))
 condition_holds (trouble t) n e = let z : ◌≡◌ {A = ℕ} 0 1 = cc in absurd (omega arith)
 
-pub condition_troubles : (v : Value Bool) (n : ℕ) {t : ℕ} → stopped (condition_answer v n) ≡ C.Trouble t → v ≡ trouble t
+pub condition_troubles : (v : Value Bool) (n : ℕ) {t : Trouble} → stopped (condition_answer v n) ≡ C.Trouble t → IsTrouble v t
 unfolding condition_answer stopped
 condition_troubles (value true) n e = let z : ◌≡◌ {A = ℕ} 0 1 = cc in absurd (omega arith)
 condition_troubles (value false) n e = let z : ◌≡◌ {A = ℕ} 0 1 = cc in absurd (omega arith)
-condition_troubles (trouble t) n e = cc
+condition_troubles (trouble t) n e = (t, refl, cc)
 
 pub holds_within : (l : ℕ) {r : ConditionValue} {b : Bool} {k : ℕ} → r ≡ C.Holds b k → ConditionWithin l r → k ≤ l
 holds_within l e w = rw e at w
@@ -95,10 +96,10 @@ module _ (bytes state : List ℕ) where
           let p = condition_holds _ f.part.used (sym (said t f) ∙ e) in
           rw (t.same, f.whole, p.0, y)
 
-      pub trying_troubles : {k : ℕ} → r ≡ C.Trouble k → HeldSays bytes at state (H.Trouble k)
+      pub trying_troubles : {k : Trouble} → r ≡ C.Trouble k → HeldSays bytes at state (H.Trouble k)
       unfolding all_hold ◌>>=◌ held_answer
       trying_troubles e l n h =
           let t = tried l n h in
           let f = first_of _ _ _ t.listed byte in
           let p = condition_troubles _ f.part.used (sym (said t f) ∙ e) in
-          rw (t.same, f.whole, p)
+          rw (t.same, f.whole, p.1) (ap H.Trouble p.2)

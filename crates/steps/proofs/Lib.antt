@@ -15,3 +15,4 @@ pub mod Moving
 pub mod Allowing
 pub mod Promises
 pub mod Following
+pub mod Numbered

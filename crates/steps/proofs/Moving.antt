@@ -19,35 +19,34 @@ use Rattle.outline.specs.Outline.{model_of}
 use Rattle.prepare.specs.Layout.{guards_from}
 use Rattle.prepare.specs.Guards.{passes, guard_in}
 use Rattle.prepare.specs.Prepared.{TransitionAt}
+use Rattle.eval_sets.specs.declared.troubles.Trouble.{Trouble}
 use Rattle.steps.specs.declared.answers.HeldAnswer.{HeldAnswer}
 use Rattle.steps.specs.declared.answers.HeldAnswer.TheVariants as H
-use Rattle.steps.specs.declared.answers.CostAnswer.{CostAnswer}
-use Rattle.steps.specs.declared.answers.CostAnswer.TheVariants as C
-use Rattle.steps.specs.declared.answers.EffectsAnswer.{EffectsAnswer}
-use Rattle.steps.specs.declared.answers.EffectsAnswer.TheVariants as E
+use Rattle.std.specs.Prelude.{Result, Ok, Err}
+use Rattle.eval_sets.specs.declared.answers.Told.{Told}
 use Rattle.steps.specs.declared.answers.AttemptAnswer.{AttemptAnswer}
 use Rattle.steps.specs.declared.answers.AttemptAnswer.TheVariants as A
 use Rattle.steps.specs.declared.answers.MoveAnswer.{MoveAnswer}
 use Rattle.steps.specs.declared.answers.MoveAnswer.TheVariants as M
 use Rattle.steps.specs.InBytes.{Outlined, state_in, system_in}
-use Rattle.steps.specs.Answers.{held_answer, effects_answer, attempt_answer, move_answer}
+use Rattle.steps.specs.Answers.{result_of, IsTrouble, held_answer, CostAnswer, EffectsAnswer, effects_answer, attempt_answer, taken_answer, move_answer}
 use Rattle.steps.specs.Says.{HeldSays, CostsSay, EffectsRead, EffectsSays, AttemptSay, TakenSays, TakenRead, TransitionRead, AttemptSays, Tried, MoveSays}
 use Rattle.prepare.proofs.Items.{Nth, nth_of, none_beyond}
 use Rattle.steps.proofs.Readings.{costs_at, PartsAt, parts_at}
 use Rattle.steps.proofs.Costing.{costs_told, costs_troubles}
-use Rattle.steps.proofs.Trials.{constraints_in, all_held, one_fails, one_troubles}
+use Rattle.steps.proofs.Trials.{constraints_in, all_held, one_fails, one_troubles, is_result, result_troubles}
 
 -- ---- answers taken apart
 
-effects_done : (v : Value State) → effects_answer v ≡ E.Done → (u : State) × (v ≡ value u)
+effects_done : (v : Value State) {u : Unit {0}} → effects_answer v ≡ Ok u → (u : State) × (v ≡ value u)
 unfolding effects_answer
 effects_done (value u) e = (u, refl)
 effects_done (trouble t) e = let z : ◌≡◌ {A = ℕ} 0 1 = cc in absurd (omega arith)
 
-effects_trouble : (v : Value State) {t : ℕ} → effects_answer v ≡ E.Trouble t → v ≡ trouble t
+effects_trouble : (v : Value State) {t : Trouble} → effects_answer v ≡ Err t → IsTrouble v t
 unfolding effects_answer
 effects_trouble (value u) e = let z : ◌≡◌ {A = ℕ} 0 1 = cc in absurd (omega arith)
-effects_trouble (trouble t) e = cc
+effects_trouble (trouble t) e = (t, refl, cc)
 
 not_taken_lem : (v : Value Attempt) → attempt_answer v ≡ A.NotTaken → v ≡ value not_taken
 unfolding attempt_answer
@@ -61,18 +60,18 @@ is_taken (value not_taken) e = let z : ◌≡◌ {A = ℕ} 0 1 = cc in absurd (o
 is_taken (value (taken c u)) e = (u, cc)
 is_taken (trouble t) e = let z : ◌≡◌ {A = ℕ} 0 1 = cc in absurd (omega arith)
 
-attempt_troubles : (v : Value Attempt) {t : ℕ} → attempt_answer v ≡ A.Trouble t → v ≡ trouble t
+attempt_troubles : (v : Value Attempt) {t : Trouble} → attempt_answer v ≡ A.Trouble t → IsTrouble v t
 unfolding attempt_answer
 attempt_troubles (value not_taken) e = let z : ◌≡◌ {A = ℕ} 0 1 = cc in absurd (omega arith)
 attempt_troubles (value (taken c u)) e = let z : ◌≡◌ {A = ℕ} 0 1 = cc in absurd (omega arith)
-attempt_troubles (trouble t) e = cc
+attempt_troubles (trouble t) e = (t, refl, cc)
 
 -- ---- answers, and what they write
 
 module _ (bytes child : List ℕ) (v : Value Attempt) where
-  says_trouble : {t : ℕ} → v ≡ trouble t → AttemptSay bytes child (A.Trouble t) v
+  says_trouble : {t : Trouble} → IsTrouble v t → AttemptSay bytes child (A.Trouble t) v
   unfolding attempt_answer
-  says_trouble e = record { answer = rw e; written = λ c u i. let z : ◌≡◌ {A = ℕ} 0 1 = cc in absurd (omega arith) }
+  says_trouble e = record { answer = rw (e.1, e.2); written = λ c u i. let z : ◌≡◌ {A = ℕ} 0 1 = cc e.1 in absurd (omega arith) }
 
   says_not_taken : v ≡ value not_taken → AttemptSay bytes child A.NotTaken v
   unfolding attempt_answer
@@ -89,34 +88,34 @@ going_on : {A B : Type 0} {v : Value A} {a : A} (next : A → Value B) → v ≡
 unfolding ◌>>=◌
 going_on next e = rw e
 
-stops : {A B : Type 0} {v : Value A} {t : ℕ} (next : A → Value B) → v ≡ trouble t → (v >>= next) ≡ trouble t
+stops : {A B : Type 0} {v : Value A} {t : Trouble} (next : A → Value B) → IsTrouble v t → IsTrouble (v >>= next) t
 unfolding ◌>>=◌
-stops next e = rw e
+stops next e = (e.0, rw e.1, e.2)
 
 module _ (bytes : List ℕ) (at : ℕ) (state : List ℕ) (q : CostAnswer) (says : CostsSay bytes at state q) where
-  pub take_stops : {t : ℕ} (child : List ℕ) → q ≡ C.Trouble t → TakenSays bytes at state child (A.Trouble t)
+  pub take_stops : {t : Trouble} (child : List ℕ) → q ≡ Err t → TakenSays bytes at state child (Err t)
   take_stops child e x n l k h g = says_trouble bytes child _ (stops _ (costs_troubles _ n (sym (says x n h) ∙ e)))
 
-  module _ {c : Cost} {used : ℕ} (e : q ≡ C.Costs c used) where
+  module _ {c : Told Cost} (e : q ≡ Ok c) where
     -- where the effects begin
-    pub effects_begin : TakenRead bytes at → EffectsRead bytes (at + used)
+    pub effects_begin : TakenRead bytes at → EffectsRead bytes (at + c.used)
     effects_begin r = let p = costs_told _ r.costs_read.used (sym (says r.costs_read.item r.costs_read.used r.costs_read.reads) ∙ e) in rw p.1 at r.effects_read
 
     -- the effects go into a copy of the state
-    module _ (child : List ℕ) (r : EffectsAnswer) (effected : EffectsSays bytes (at + used) state state child r) where
-      pub take_done : r ≡ E.Done → TakenSays bytes at state child (A.Taken c)
+    module _ (child : List ℕ) (r : EffectsAnswer) (effected : EffectsSays bytes (at + c.used) state state child r) where
+      pub take_done : {u : Unit {0}} → r ≡ Ok u → TakenSays bytes at state child (Ok c.value)
       take_done d x n l k h g =
           let p = costs_told _ n (sym (says x n h) ∙ e) in
           let s = effected l k (rw p.1 at g) in
           let w = effects_done _ (sym s.answer ∙ d) in
           says_taken bytes child _ (going_on _ p.0 ∙ going_on _ w.1) (s.written w.0 w.1)
 
-      pub take_troubles : {t : ℕ} → r ≡ E.Trouble t → TakenSays bytes at state child (A.Trouble t)
+      pub take_troubles : {t : Trouble} → r ≡ Err t → TakenSays bytes at state child (Err t)
       take_troubles d x n l k h g =
           let p = costs_told _ n (sym (says x n h) ∙ e) in
           let s = effected l k (rw p.1 at g) in
           let w = effects_trouble _ (sym s.answer ∙ d) in
-          says_trouble bytes child _ (going_on _ p.0 ∙ stops _ w)
+          says_trouble bytes child _ (let i = stops _ w in (i.0, going_on _ p.0 ∙ i.1, i.2))
 
 -- ---- conditions, then the rest
 
@@ -134,12 +133,12 @@ module _ (bytes : List ℕ) (at : ℕ) (state : List ℕ) (q : HeldAnswer) (says
       let f = one_fails _ _ (held x p ∙ e) in
       says_not_taken bytes child _ (rw f)
 
-  pub attempt_stops : {t : ℕ} (child : List ℕ) → q ≡ H.Trouble t → AttemptSays bytes at state child (A.Trouble t)
+  pub attempt_stops : {t : Trouble} (child : List ℕ) → q ≡ H.Trouble t → AttemptSays bytes at state child (A.Trouble t)
   unfolding attempt ◌>>=◌
   attempt_stops child e x n h =
       let p = parts_at _ _ bytes at x n h in
       let f = one_troubles _ _ (held x p ∙ e) in
-      says_trouble bytes child _ (rw f)
+      says_trouble bytes child _ (stops _ f)
 
   module _ {next : ℕ} (e : q ≡ H.All next) where
     pub rest_read : TransitionRead bytes at → TakenRead bytes next
@@ -154,7 +153,7 @@ module _ (bytes : List ℕ) (at : ℕ) (state : List ℕ) (q : HeldAnswer) (says
           effects_read = record { item = r.item.effects; used = p.effects_used; reads = rw f.1 at p.reads_effects };
         }
 
-    pub attempt_taken : (child : List ℕ) (r : AttemptAnswer) → TakenSays bytes next state child r → AttemptSays bytes at state child r
+    pub attempt_taken : (child : List ℕ) (r : Result Cost Trouble) → TakenSays bytes next state child r → AttemptSays bytes at state child (taken_answer r)
     unfolding attempt ◌>>=◌
     attempt_taken child r rest x n h =
         let p = parts_at _ _ bytes at x n h in
@@ -165,17 +164,17 @@ module _ (bytes : List ℕ) (at : ℕ) (state : List ℕ) (q : HeldAnswer) (says
 -- ---- the constraints of the new state
 
 module _ (end : ℕ) (m : Model) (c : Cost) (s : State) (v : Value Bool) where
-  pub constraints_met : {i : ℕ} → H.All i ≡ held_answer v 0 → M.Moved c ≡ move_answer (constrained end m c s v)
+  pub constraints_met : {b : Bool} → Ok b ≡ result_of v → b ≡ true → M.Moved c ≡ move_answer (constrained end m c s v)
   unfolding constrained move_answer
-  constraints_met e = rw (all_held v 0 (sym e)).0
+  constraints_met e y = rw (is_result v (sym e), y)
 
-  pub constraint_fails : H.Fails ≡ held_answer v 0 → M.Blocked ≡ move_answer (constrained end m c s v)
+  pub constraint_fails : {b : Bool} → Ok b ≡ result_of v → b ≡ false → M.Blocked ≡ move_answer (constrained end m c s v)
   unfolding constrained move_answer
-  constraint_fails e = rw (one_fails v 0 (sym e))
+  constraint_fails e y = rw (is_result v (sym e), y)
 
-  pub constraint_troubles : {t : ℕ} → H.Trouble t ≡ held_answer v 0 → M.After c t ≡ move_answer (constrained end m c s v)
+  pub constraint_troubles : {t : Trouble} → Err t ≡ result_of v → M.After c t ≡ move_answer (constrained end m c s v)
   unfolding constrained move_answer
-  constraint_troubles e = rw (one_troubles v 0 (sym e))
+  constraint_troubles e = let p = result_troubles v (sym e) in rw p.1 (ap (M.After c) p.2)
 
 new_state : (end : ℕ) (m : Model) (c : Cost) (s : State) (v : Value Bool) {d : Cost} {u : State} → constrained end m c s v ≡ moved d u → s ≡ u
 unfolding constrained
@@ -259,12 +258,12 @@ module _ (bytes state : List ℕ) (t : ℕ) (child : List ℕ) (q : AttemptAnswe
       let m : (system_in bytes).move (state_in bytes state) t ≡ blocked = the_move ∙ rw v in
       record { answer = rw m; arrives = λ c u i. let z : ◌≡◌ {A = ℕ} 0 1 = cc in absurd (omega arith) }
 
-  pub move_before : {k : ℕ} → q ≡ A.Trouble k → MoveSays bytes state t child (M.Before k)
+  pub move_before : {k : Trouble} → q ≡ A.Trouble k → MoveSays bytes state t child (M.Before k)
   unfolding move_of move_answer
   move_before {k} e =
       let v = attempt_troubles _ (sym a.says.answer ∙ e) in
-      let m : (system_in bytes).move (state_in bytes state) t ≡ trouble_before k = the_move ∙ rw v in
-      record { answer = rw m; arrives = λ c u i. let z : ◌≡◌ {A = ℕ} 0 1 = cc in absurd (omega arith) }
+      let m : (system_in bytes).move (state_in bytes state) t ≡ trouble_before v.0 = the_move ∙ ap (move_of range_end (model_of bytes)) v.1 in
+      record { answer = rw m (ap M.Before v.2); arrives = λ c u i. let z : ◌≡◌ {A = ℕ} 0 1 = cc in absurd (omega arith) }
 
   pub move_after : {c : Cost} → q ≡ A.Taken c → (r : MoveAnswer) → r ≡ move_answer (constrained range_end (model_of bytes) c (state_in bytes child) (constraints_in bytes child)) → MoveSays bytes state t child r
   unfolding move_of system_of

@@ -1,5 +1,5 @@
 -- Numbers that are not negative as unsigned words: bounds that raise h, and costs, the high cost beside the low one.
-use Prim.Native.Nat.{ℕ, ◌≤◌, ◌<◌}
+use Prim.Native.Nat.{ℕ, max, ◌≤◌, ◌<◌}
 use mathlib.Core.Path.{◌≡◌, refl}
 use mathlib.Core.Bool.{true, false, true≢false}
 use native.Mathlib.Omega.{arith}
@@ -34,15 +34,10 @@ unfolding raise
 raise_low h (pos a) e = let l : a < 0 = ltb-true a 0 e in absurd (omega arith)
 raise_low h (negsuc a) e = refl
 
-high : (h : ℕ) (z : ℤ) → lt_z z (pos 0) ≡ false → h < nat_abs z → nat_abs z ≡ raise h z
+greater : (h : ℕ) (z : ℤ) → lt_z z (pos 0) ≡ false → max h (nat_abs z) ≡ raise h z
 unfolding raise
-high h (pos a) e l = omega arith
-high h (negsuc a) e l = absurd (true≢false e)
-
-keeps : (h : ℕ) (z : ℤ) → lt_z z (pos 0) ≡ false → nat_abs z ≤ h → h ≡ raise h z
-unfolding raise
-keeps h (pos a) e l = omega arith
-keeps h (negsuc a) e l = absurd (true≢false e)
+greater h (pos a) e = refl
+greater h (negsuc a) e = absurd (true≢false e)
 
 cost : (z : ℤ) → lt_z z (pos 0) ≡ false → cost_of z ≡ value (nat_abs z)
 unfolding cost_of
@@ -60,11 +55,8 @@ under low (pos c) e l = rw (lt-leb low c l)
 under low (negsuc c) e l = refl
 
 module _ (z : ℤ) (f : SFits w64 z) (e : lt_z z (pos 0) ≡ false) where
-  pub raise_high : (h : ℕ) → h < nat_abs (to_z w64 (of_z w64 z)) → nat_abs (to_z w64 (of_z w64 z)) ≡ raise h z
-  raise_high h l = rw (back f) (high h z e (rw (back f) at l))
-
-  pub raise_keeps : (h : ℕ) → nat_abs (to_z w64 (of_z w64 z)) ≤ h → h ≡ raise h z
-  raise_keeps h l = keeps h z e (rw (back f) at l)
+  pub raise_greater : (h : ℕ) → max h (nat_abs (to_z w64 (of_z w64 z))) ≡ raise h z
+  raise_greater h = rw (back f) (greater h z e)
 
   pub cost_is : cost_of z ≡ value (nat_abs (to_z w64 (of_z w64 z)))
   cost_is = rw (back f) (cost z e)

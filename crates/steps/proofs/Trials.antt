@@ -7,6 +7,8 @@ use native.Mathlib.Omega.{arith}
 use lib.ListN.{length, get_or, drop, drop_of_length-le}
 use lib.IntN.{ℤ}
 use lib.Signed.{mag}
+use Rattle.std.specs.Prelude.{Result, Ok, Err, Some}
+use Rattle.eval_sets.specs.declared.answers.Told.{Told}
 use Rattle.model.specs.Numbers.{range_end, most_nesting}
 use Rattle.model.specs.Values.{Value, value, trouble, ◌>>=◌}
 use Rattle.model.specs.Syntax.{Number, Condition}
@@ -18,18 +20,16 @@ use Rattle.outline.specs.Outline.{model_of, base_cases_from, bounds_from}
 use Rattle.prepare.specs.Layout.{conjuncts_from, conjunct_count_at}
 use Rattle.prepare.specs.Guards.{passes, guard_in}
 use Rattle.prepare.specs.Prepared.{Conjuncts}
+use Rattle.eval_sets.specs.declared.troubles.Trouble.{Trouble}
 use Rattle.eval_sets.specs.declared.answers.ConditionValue.{ConditionValue}
 use Rattle.eval_sets.specs.declared.answers.ConditionValue.TheVariants as C
-use Rattle.eval_sets.specs.declared.answers.NumberValue.{NumberValue}
-use Rattle.eval_sets.specs.declared.answers.NumberValue.TheVariants as N
-use Rattle.eval_sets.specs.Answers.{number_answer}
+use Rattle.eval_sets.specs.Answers.{NumberValue, told, number_answer}
 use Rattle.eval_sets.specs.Bounds.{NumberWithin}
 use Rattle.steps.specs.declared.answers.HeldAnswer.{HeldAnswer}
 use Rattle.steps.specs.declared.answers.HeldAnswer.TheVariants as H
-use Rattle.steps.specs.declared.answers.StatusAnswer.TheVariants as S
-use Rattle.steps.specs.declared.answers.BoundAnswer.TheVariants as B
+use Rattle.steps.specs.declared.answers.Status.TheVariants as S
 use Rattle.steps.specs.InBytes.{Outlined, state_in, system_in, bound_in}
-use Rattle.steps.specs.Answers.{held_answer, status_answer, bound_answer}
+use Rattle.steps.specs.Answers.{result_of, IsTrouble, held_answer, status_answer}
 use Rattle.quick.specs.Quick.{QuickSays}
 use Rattle.quick.specs.Sums.{bound_place, BoundTold}
 use Rattle.quick.proofs.Totals.{number_is}
@@ -51,28 +51,28 @@ one_fails (value true) n e = let z : ◌≡◌ {A = ℕ} 0 1 = cc in absurd (ome
 one_fails (value false) n e = refl
 one_fails (trouble t) n e = let z : ◌≡◌ {A = ℕ} 0 1 = cc in absurd (omega arith)
 
-pub one_troubles : (v : Value Bool) (n : ℕ) {t : ℕ} → held_answer v n ≡ H.Trouble t → v ≡ trouble t
+pub one_troubles : (v : Value Bool) (n : ℕ) {t : Trouble} → held_answer v n ≡ H.Trouble t → IsTrouble v t
 unfolding held_answer
 one_troubles (value true) n e = let z : ◌≡◌ {A = ℕ} 0 1 = cc in absurd (omega arith)
 one_troubles (value false) n e = let z : ◌≡◌ {A = ℕ} 0 1 = cc in absurd (omega arith)
-one_troubles (trouble t) n e = cc
+one_troubles (trouble t) n e = (t, refl, cc)
 
-pub number_troubles : (v : Value ℤ) (n : ℕ) {t : ℕ} → number_answer v n ≡ N.Trouble t → v ≡ trouble t
+pub number_troubles : (v : Value ℤ) (n : ℕ) {t : Trouble} → number_answer v n ≡ Err t → IsTrouble v t
 unfolding number_answer
 number_troubles (value a) n e = let z : ◌≡◌ {A = ℕ} 0 1 = cc in absurd (omega arith)
-number_troubles (trouble t) n e = cc
+number_troubles (trouble t) n e = (t, refl, cc)
 
-pub bound_value : (v : Value ℕ) {h : ℕ} → bound_answer v ≡ B.Value h → v ≡ value h
-unfolding bound_answer
-bound_value (value a) e = cc
-bound_value (trouble t) e = let z : ◌≡◌ {A = ℕ} 0 1 = cc in absurd (omega arith)
+pub is_result : {A : Type 0} (v : Value A) {a : A} → result_of v ≡ Ok a → v ≡ value a
+unfolding result_of
+is_result (value a) e = cc
+is_result (trouble t) e = let z : ◌≡◌ {A = ℕ} 0 1 = cc in absurd (omega arith)
 
-pub bound_trouble : (v : Value ℕ) {t : ℕ} → bound_answer v ≡ B.Trouble t → v ≡ trouble t
-unfolding bound_answer
-bound_trouble (value h) e = let z : ◌≡◌ {A = ℕ} 0 1 = cc in absurd (omega arith)
-bound_trouble (trouble a) e = cc
+pub result_troubles : {A : Type 0} (v : Value A) {t : Trouble} → result_of v ≡ Err t → IsTrouble v t
+unfolding result_of
+result_troubles (value a) e = let z : ◌≡◌ {A = ℕ} 0 1 = cc in absurd (omega arith)
+result_troubles (trouble t) e = (t, refl, cc)
 
-pub value_within : (l : ℕ) {r : NumberValue} {z : ℤ} {k : ℕ} → r ≡ N.Value z k → NumberWithin l r → (mag z < range_end) × (k ≤ l)
+pub value_within : (l : ℕ) {r : NumberValue} {z : Told ℤ} → r ≡ Ok z → NumberWithin l r → (mag z.value < range_end) × (z.used ≤ l)
 value_within l e w = rw e at w
 
 -- ---- items tried in order, to the first that decides
@@ -148,7 +148,7 @@ abbrev pub Seeking : (bytes state : List ℕ) (k : ℕ) → Type 0
 Seeking bytes state k = some_holds range_end (model_of bytes).tables (model_of bytes).base_cases (state_in bytes state) ≡ some_holds range_end (model_of bytes).tables (drop k (model_of bytes).base_cases) (state_in bytes state)
 
 module _ (bytes state : List ℕ) (k : ℕ) (passed : Seeking bytes state k) where
-  pub seeking_last : length (model_of bytes).base_cases ≤ k → S.Unfinished ≡ status_answer ((system_in bytes).status (state_in bytes state))
+  pub seeking_last : length (model_of bytes).base_cases ≤ k → Ok S.Unfinished ≡ status_answer ((system_in bytes).status (state_in bytes state))
   unfolding system_of status status_of status_answer some_holds base_cases_placed
   seeking_last h = rw (none_left (base_cases_placed bytes state) (model_of bytes).base_cases k passed h)
 
@@ -166,38 +166,32 @@ module _ (bytes state : List ℕ) (k : ℕ) (passed : Seeking bytes state k) whe
     pub seeking_more : r ≡ H.Fails → Seeking bytes state (k + 1)
     seeking_more e = with_case (one_fails case (at + i.used) (case_said ∙ e))
 
-    pub seeking_base : {n : ℕ} → r ≡ H.All n → S.Base ≡ status_answer ((system_in bytes).status (state_in bytes state))
+    pub seeking_base : {n : ℕ} → r ≡ H.All n → Ok S.Base ≡ status_answer ((system_in bytes).status (state_in bytes state))
     unfolding system_of status status_of status_answer
     seeking_base e = rw (with_case (all_held case (at + i.used) (case_said ∙ e)).0)
 
-    pub seeking_troubles : {t : ℕ} → r ≡ H.Trouble t → S.Trouble t ≡ status_answer ((system_in bytes).status (state_in bytes state))
+    pub seeking_troubles : {t : Trouble} → r ≡ H.Trouble t → Err t ≡ status_answer ((system_in bytes).status (state_in bytes state))
     unfolding system_of status status_of status_answer base_cases_placed
-    seeking_troubles e = rw (with_trouble (base_cases_placed bytes state) (model_of bytes).base_cases k passed i.rest (one_troubles case (at + i.used) (case_said ∙ e)))
+    seeking_troubles e =
+        let p = one_troubles case (at + i.used) (case_said ∙ e) in
+        rw (with_trouble (base_cases_placed bytes state) (model_of bytes).base_cases k passed i.rest p.1) (ap Err p.2)
 
 -- ---- a condition, in place or by the evaluators
 
 module _ (bytes : List ℕ) (at : ℕ) (state : List ℕ) where
-  module _ {words : List ℕ} (o : Outlined bytes words) {r : ℕ} (says : QuickSays bytes at words state r) where
-    pub quick_holds : r ≡ 1 → TestedSays bytes at state (H.All 0)
-    unfolding held_answer
-    quick_holds e x n reads = rw ((says x n o.outlines reads).holds e)
-
-    pub quick_fails : r ≡ 0 → TestedSays bytes at state H.Fails
-    unfolding held_answer
-    quick_fails e x n reads = rw ((says x n o.outlines reads).fails e)
+  module _ {words : List ℕ} (o : Outlined bytes words) {b : Bool} (says : QuickSays bytes at words state (Some b)) where
+    pub quick_told : TestedSays bytes at state (Ok b)
+    unfolding result_of
+    quick_told x n reads = rw (says x n o.outlines reads)
 
   module _ (r : ConditionValue) (says : ConditionSays bytes at state r) where
-    pub tested_holds : {b : Bool} {n : ℕ} → r ≡ C.Holds b n → b ≡ true → TestedSays bytes at state (H.All 0)
-    unfolding held_answer
-    tested_holds f y x n reads = rw ((condition_holds _ n (sym (says x n reads) ∙ f)).0, y)
+    pub tested_told : {b : Bool} {n : ℕ} → r ≡ C.Holds b n → TestedSays bytes at state (Ok b)
+    unfolding result_of
+    tested_told f x n reads = rw (condition_holds _ n (sym (says x n reads) ∙ f)).0
 
-    pub tested_fails : {b : Bool} {n : ℕ} → r ≡ C.Holds b n → b ≡ false → TestedSays bytes at state H.Fails
-    unfolding held_answer
-    tested_fails f y x n reads = rw ((condition_holds _ n (sym (says x n reads) ∙ f)).0, y)
-
-    pub tested_troubles : {t : ℕ} → r ≡ C.Trouble t → TestedSays bytes at state (H.Trouble t)
-    unfolding held_answer
-    tested_troubles f x n reads = rw (condition_troubles _ n (sym (says x n reads) ∙ f))
+    pub tested_troubles : {t : Trouble} → r ≡ C.Trouble t → TestedSays bytes at state (Err t)
+    unfolding result_of
+    tested_troubles f x n reads = let p = condition_troubles _ n (sym (says x n reads) ∙ f) in rw p.1 (ap Err p.2)
 
 -- ---- a conjunct of the constraints
 
@@ -205,12 +199,12 @@ module _ (bytes words : List ℕ) (k : ℕ) (state : List ℕ) where
   abbrev guard_passes : Bool
   guard_passes = passes (guard_in words (conjuncts_from + 4 * k)) state
 
-  pub conjunct_passed_over : false ≡ guard_passes → ConjunctSays bytes words k state (H.All 0)
-  unfolding held_answer
+  pub conjunct_passed_over : false ≡ guard_passes → ConjunctSays bytes words k state (Ok true)
+  unfolding result_of
   conjunct_passed_over e x c = rw (c.decides state, ← e)
 
   -- the condition behind the guard has the conjunct's value
-  pub conjunct_tried : true ≡ guard_passes → {at : ℕ} → at ≡ get_or words (conjuncts_from + 4 * k + 3) 0 → (r : HeldAnswer) → TestedSays bytes at state r → ConjunctSays bytes words k state r
+  pub conjunct_tried : true ≡ guard_passes → {at : ℕ} → at ≡ get_or words (conjuncts_from + 4 * k + 3) 0 → (r : Result Bool Trouble) → TestedSays bytes at state r → ConjunctSays bytes words k state r
   unfolding guard_in
   conjunct_tried e stands r says x c =
       let same : condition_value range_end (model_of bytes).tables x (state_in bytes state) ≡ condition_value range_end (model_of bytes).tables c.part (state_in bytes state) = c.decides state ∙ rw (← e) in
@@ -243,42 +237,47 @@ module _ {bytes words state : List ℕ} {k : ℕ} (passed : Meeting bytes words 
   abbrev parts : List Condition
   parts = passed.parted.parts
 
-  pub meeting_last : get_or words conjunct_count_at 0 ≤ k → H.All 0 ≡ held_answer (constraints_in bytes state) 0
-  unfolding held_answer all_hold conjuncts
+  pub meeting_last : get_or words conjunct_count_at 0 ≤ k → Ok true ≡ result_of (constraints_in bytes state)
+  unfolding result_of all_hold conjuncts
   meeting_last h = rw (none_left (conjuncts bytes state) parts k passed.left (omega (arith, h, passed.parted.count)))
 
-  module _ (h : k < get_or words conjunct_count_at 0) (r : HeldAnswer) (says : ConjunctSays bytes words k state r) where
+  module _ (h : k < get_or words conjunct_count_at 0) (r : Result Bool Trouble) (says : ConjunctSays bytes words k state r) where
     there : Nth parts k
     there = nth_of parts k (omega (arith, h, passed.parted.count))
 
     abbrev conjunct : Value Bool
     conjunct = condition_value range_end (model_of bytes).tables there.nth (state_in bytes state)
 
-    conjunct_said : held_answer conjunct 0 ≡ r
+    conjunct_said : result_of conjunct ≡ r
     conjunct_said = sym (says there.nth (passed.parted.placed k there.nth there.found))
 
     with_conjunct : {b : Bool} → conjunct ≡ value b → constraints_in bytes state ≡ cond b (all_hold range_end (model_of bytes).tables (drop (k + 1) parts) (state_in bytes state)) (value false)
     unfolding conjuncts
     with_conjunct = with_value (conjuncts bytes state) parts k passed.left there.rest
 
-    pub meeting_more : {n : ℕ} → r ≡ H.All n → Meeting bytes words state (k + 1)
-    meeting_more e = record { parted = passed.parted; left = with_conjunct (all_held conjunct 0 (conjunct_said ∙ e)).0 }
+    with_truth : {b : Bool} → r ≡ Ok b → constraints_in bytes state ≡ cond b (all_hold range_end (model_of bytes).tables (drop (k + 1) parts) (state_in bytes state)) (value false)
+    with_truth e = with_conjunct (is_result conjunct (conjunct_said ∙ e))
 
-    pub meeting_fails : r ≡ H.Fails → H.Fails ≡ held_answer (constraints_in bytes state) 0
-    unfolding held_answer
-    meeting_fails e = rw (with_conjunct (one_fails conjunct 0 (conjunct_said ∙ e)))
+    pub meeting_more : {b : Bool} → r ≡ Ok b → b ≡ true → Meeting bytes words state (k + 1)
+    meeting_more e y = record { parted = passed.parted; left = rw y at (with_truth e) }
 
-    pub meeting_troubles : {t : ℕ} → r ≡ H.Trouble t → H.Trouble t ≡ held_answer (constraints_in bytes state) 0
-    unfolding held_answer conjuncts
-    meeting_troubles e = rw (with_trouble (conjuncts bytes state) parts k passed.left there.rest (one_troubles conjunct 0 (conjunct_said ∙ e)))
+    pub meeting_fails : {b : Bool} → r ≡ Ok b → b ≡ false → Ok false ≡ result_of (constraints_in bytes state)
+    unfolding result_of
+    meeting_fails e y = rw (with_truth e, y)
+
+    pub meeting_troubles : {t : Trouble} → r ≡ Err t → Err t ≡ result_of (constraints_in bytes state)
+    unfolding result_of conjuncts
+    meeting_troubles e =
+        let p = result_troubles conjunct (conjunct_said ∙ e) in
+        rw (with_trouble (conjuncts bytes state) parts k passed.left there.rest p.1) (ap Err p.2)
 
 -- ---- bounds
 
 -- a bound, in place or by the evaluators
 module _ {bytes words : List ℕ} (o : Outlined bytes words) (state : List ℕ) (k : ℕ) where
-  pub bound_in_place : (z : ℤ) → BoundTold bytes (bound_place words k) words state z → mag z < range_end → BoundSays bytes words state k (N.Value z 0)
+  pub bound_in_place : (z : ℤ) → BoundTold bytes (bound_place words k) words state z → mag z < range_end → BoundSays bytes words state k (told z 0)
   unfolding number_answer
-  bound_in_place z told l = record { told = λ x n reads. (0, rw (told x n o.outlines reads l)); within = (l, omega arith) }
+  bound_in_place z says l = record { told = λ x n reads. (0, rw (says x n o.outlines reads l)); within = (l, omega arith) }
 
   pub bound_evaluated : (r : NumberValue) → NumberSays bytes (bound_place words k) state r → NumberWithin (length bytes - bound_place words k) r → BoundSays bytes words state k r
   bound_evaluated r says within = record { told = λ x n reads. (n, says x n reads); within = within }
@@ -292,8 +291,8 @@ unfolding bound_hours
 raising_first bytes state = refl
 
 module _ (bytes state : List ℕ) (k h : ℕ) (passed : Raising bytes state k h) where
-  pub raising_last : length (model_of bytes).bounds ≤ k → B.Value h ≡ bound_answer (bound_in bytes (state_in bytes state))
-  unfolding bound_answer greatest bounds_from_lem
+  pub raising_last : length (model_of bytes).bounds ≤ k → Ok h ≡ result_of (bound_in bytes (state_in bytes state))
+  unfolding result_of greatest bounds_from_lem
   raising_last l = rw (none_left (bounds_from_lem bytes state h) (model_of bytes).bounds k passed l)
 
   module _ {words : List ℕ} (o : Outlined bytes words) (more : k < length (model_of bytes).bounds) (r : NumberValue) (says : BoundSays bytes words state k r) where
@@ -306,10 +305,12 @@ module _ (bytes state : List ℕ) (k h : ℕ) (passed : Raising bytes state k h)
     number_said : (used : ℕ) × (number_answer number used ≡ r)
     number_said = let s = says.told placed.item placed.used placed.reads in (s.0, sym s.1)
 
-    pub raising_more : {z : ℤ} {n : ℕ} → r ≡ N.Value z n → Raising bytes state (k + 1) (raise h z)
+    pub raising_more : {z : Told ℤ} → r ≡ Ok z → Raising bytes state (k + 1) (raise h z.value)
     unfolding bounds_from_lem
     raising_more e = with_value (bounds_from_lem bytes state h) (model_of bytes).bounds k passed placed.rest (number_is number number_said.0 (number_said.1 ∙ e)).0
 
-    pub raising_troubles : {t : ℕ} → r ≡ N.Trouble t → B.Trouble t ≡ bound_answer (bound_in bytes (state_in bytes state))
-    unfolding bound_answer bounds_from_lem
-    raising_troubles e = rw (with_trouble (bounds_from_lem bytes state h) (model_of bytes).bounds k passed placed.rest (number_troubles number number_said.0 (number_said.1 ∙ e)))
+    pub raising_troubles : {t : Trouble} → r ≡ Err t → Err t ≡ result_of (bound_in bytes (state_in bytes state))
+    unfolding result_of bounds_from_lem
+    raising_troubles e =
+        let p = number_troubles number number_said.0 (number_said.1 ∙ e) in
+        rw (with_trouble (bounds_from_lem bytes state h) (model_of bytes).bounds k passed placed.rest p.1) (ap Err p.2)

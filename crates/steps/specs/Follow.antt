@@ -1,5 +1,5 @@
 -- The plan check of the model that stands in bytes, and what one turn of it is promised.
-use Rattle.std.specs.Prelude.{ℕ, ◌+◌, ◌≡◌, List}
+use Rattle.std.specs.Prelude.{ℕ, ◌+◌, ◌≡◌, List, Result, Ok, Err}
 use Rattle.model.specs.Numbers.{range_end}
 use Rattle.model.specs.Values.{Value, trouble}
 use Rattle.model.specs.System.{Costs}
@@ -8,8 +8,8 @@ use Rattle.model.specs.declared.Cost.{Cost}
 use Rattle.model.specs.Costs.{costs_of, CostUpTo}
 use Rattle.model.specs.Check.{final, after_move, follow, follow_from, answer_number, cost_given}
 use Rattle.outline.specs.Outline.{model_of}
-use Rattle.steps.specs.declared.answers.FollowAnswer.{FollowAnswer}
-use Rattle.steps.specs.declared.answers.FollowAnswer.TheVariants as T
+use Rattle.eval_sets.specs.declared.troubles.Trouble.{Trouble}
+use Rattle.eval_sets.specs.Troubles.{named}
 use Rattle.steps.specs.declared.answers.Checked.{Checked}
 use Rattle.steps.specs.InBytes.{state_in, system_in}
 
@@ -33,9 +33,9 @@ abbrev pub finished : (bytes : List ℕ) (s : State) (g : Cost) → Value Cost
 finished bytes s g = final (costs_in bytes) (system_in bytes) ((system_in bytes).status s) g
 
 -- f plan, whatever plan is left: the check goes on from the child's state, or ends
-abbrev pub FollowsOn : (bytes : List ℕ) (f : List ℕ → Value Cost) (child : List ℕ) (g : Cost) → FollowAnswer → Type 0
-FollowsOn bytes f child g (T.On h) = ((plan : List ℕ) → f plan ≡ follow_in bytes plan (state_in bytes child) h) × ((n : ℕ) → CostUpTo n g → CostUpTo (n + range_end) h)
-FollowsOn bytes f child g (T.Ended t) = (plan : List ℕ) → f plan ≡ trouble t
+abbrev pub FollowsOn : (bytes : List ℕ) (f : List ℕ → Value Cost) (child : List ℕ) (g : Cost) → Result Cost Trouble → Type 0
+FollowsOn bytes f child g (Ok h) = ((plan : List ℕ) → f plan ≡ follow_in bytes plan (state_in bytes child) h) × ((n : ℕ) → CostUpTo n g → CostUpTo (n + range_end) h)
+FollowsOn bytes f child g (Err t) = (n : ℕ) × (t ≡ named n) × ((plan : List ℕ) → f plan ≡ trouble n)
 
 -- the answer number and the cost of the check
 pub record CheckedIs (v : Value Cost) (r : Checked) : Type 0 where

@@ -1,5 +1,5 @@
 -- What is promised of the parts of a model where they stand in its bytes: values in the state that the words stand for.
-use Rattle.std.specs.Prelude.{ℕ, ◌+◌, ◌-◌, ◌≤◌, ◌<◌, ◌≡◌, List, [], length, drop, eqb, ℤ}
+use Rattle.std.specs.Prelude.{Bool, Result, Err, IfOk, ℕ, ◌+◌, ◌-◌, ◌≤◌, ◌<◌, ◌≡◌, List, [], length, drop, eqb, ℤ}
 use Rattle.std.proofs.Math.Option.{some}
 use Rattle.std.proofs.Math.ListN.{get_elem?}
 use Rattle.std.specs.Int.Signed.{mag}
@@ -14,25 +14,21 @@ use Rattle.model.specs.Commands.{conditions, costs, effect_target, effect_on, ex
 use Rattle.model.specs.Meaning.{State, element_value, set_value, number_value, condition_value, expression_value, all_hold}
 use Rattle.model.specs.Steps.{with_high, step_cost, effects, Attempt, taken, attempt}
 use Rattle.words.specs.States.{value_of}
-use Rattle.eval_sets.specs.declared.answers.NumberValue.{NumberValue}
 use Rattle.eval_sets.specs.declared.answers.ConditionValue.{ConditionValue}
 use Rattle.eval_sets.specs.declared.answers.ElementValue.{ElementValue}
 use Rattle.eval_sets.specs.declared.answers.SetValue.{SetValue}
-use Rattle.eval_sets.specs.Answers.{number_answer, condition_answer}
+use Rattle.eval_sets.specs.declared.troubles.Trouble.{Trouble}
+use Rattle.eval_sets.specs.Answers.{NumberValue, told, number_answer, condition_answer}
 use Rattle.eval_sets.specs.Bounds.{NumberWithin}
+use Rattle.eval_sets.specs.Troubles.{named}
 use Rattle.eval_tests.specs.Stopped.{stopped}
 use Rattle.outline.specs.Outline.{model_of}
 use Rattle.prepare.specs.Prepared.{ConjunctAt}
 use Rattle.quick.specs.Sums.{bound_place}
 use Rattle.steps.specs.declared.answers.HeldAnswer.{HeldAnswer}
-use Rattle.steps.specs.declared.answers.CostAnswer.{CostAnswer}
-use Rattle.steps.specs.declared.answers.CostAnswer.TheVariants as C
-use Rattle.steps.specs.declared.answers.WordAnswer.{WordAnswer}
-use Rattle.steps.specs.declared.answers.WordAnswer.TheVariants as W
-use Rattle.steps.specs.declared.answers.EffectsAnswer.{EffectsAnswer}
 use Rattle.steps.specs.declared.answers.AttemptAnswer.{AttemptAnswer}
 use Rattle.steps.specs.declared.answers.MoveAnswer.{MoveAnswer}
-use Rattle.steps.specs.Answers.{held_answer, cost_answer, effects_answer, attempt_answer, move_answer}
+use Rattle.steps.specs.Answers.{result_of, held_answer, CostAnswer, WordAnswer, EffectsAnswer, cost_answer, effects_answer, attempt_answer, taken_answer, move_answer}
 use Rattle.steps.specs.InBytes.{state_in, system_in}
 
 -- 0A from the first on, as a transition has them
@@ -47,18 +43,16 @@ pub record ReadsAt {A : Type 0} (r : Reader A) (bytes : List ℕ) (at : ℕ) : T
 
 -- no more bytes used than there are
 abbrev pub CostWithin : (bytes : ℕ) → CostAnswer → Type 0
-CostWithin l (C.Costs c n) = n ≤ l
-CostWithin l (C.Trouble t) = Unit {0}
+CostWithin l r = IfOk r (λ c. c.used ≤ l)
 
 -- no more bytes used than there are
 abbrev pub WordWithin : (bytes : ℕ) → WordAnswer → Type 0
-WordWithin l (W.Word w n) = n ≤ l
-WordWithin l (W.Trouble t) = Unit {0}
+WordWithin l r = IfOk r (λ w. w.used ≤ l)
 
 -- the word stands for the value
 abbrev pub WordIs : Kind → Value ℤ → (used : ℕ) → WordAnswer → Type 0
-WordIs k (value z) n r = (w : ℕ) × (r ≡ W.Word w n) × (value_of k w ≡ z)
-WordIs k (trouble t) n r = r ≡ W.Trouble t
+WordIs k (value z) n r = (w : ℕ) × (r ≡ told w n) × (value_of k w ≡ z)
+WordIs k (trouble t) n r = r ≡ Err (named t)
 
 module _ (bytes : List ℕ) where
   abbrev variables_in : List Variable
@@ -131,20 +125,20 @@ module _ (bytes : List ℕ) where
     abbrev pub taken_in : StepCosts → List Effect → Value Attempt
     taken_in x l = step_cost range_end (model_of bytes) x (state_in bytes state) >>= λ c. effects range_end (model_of bytes) l (state_in bytes state) (state_in bytes state) >>= λ new. value (taken c new)
 
-    abbrev pub TakenSays : (child : List ℕ) → AttemptAnswer → Type 0
+    abbrev pub TakenSays : (child : List ℕ) → Result Cost Trouble → Type 0
     TakenSays child r = (x : StepCosts) (n : ℕ) (l : List Effect) (k : ℕ) → costs variables_in tables_in (drop at bytes) ≡ read x n
-        → effect_list variables_in tables_in (drop (at + n) bytes) ≡ read l k → AttemptSay child r (taken_in x l)
+        → effect_list variables_in tables_in (drop (at + n) bytes) ≡ read l k → AttemptSay child (taken_answer r) (taken_in x l)
 
     abbrev pub AttemptSays : (child : List ℕ) → AttemptAnswer → Type 0
     AttemptSays child r = (x : Transition) (n : ℕ) → transition variables_in tables_in (drop at bytes) ≡ read x n → AttemptSay child r (attempt range_end (model_of bytes) x (state_in bytes state))
 
   -- the condition at a place, without its bytes
-  abbrev pub TestedSays : (at : ℕ) (state : List ℕ) → HeldAnswer → Type 0
-  TestedSays at state r = (x : Condition) (n : ℕ) → reading.condition variables_in tables_in most_nesting (drop at bytes) ≡ read x n → r ≡ held_answer (condition_value range_end tables_in x (state_in bytes state)) 0
+  abbrev pub TestedSays : (at : ℕ) (state : List ℕ) → Result Bool Trouble → Type 0
+  TestedSays at state r = (x : Condition) (n : ℕ) → reading.condition variables_in tables_in most_nesting (drop at bytes) ≡ read x n → r ≡ result_of (condition_value range_end tables_in x (state_in bytes state))
 
   -- conjunct k of the constraints, tried in a state
-  abbrev pub ConjunctSays : (words : List ℕ) (k : ℕ) (state : List ℕ) → HeldAnswer → Type 0
-  ConjunctSays words k state r = (x : Condition) → ConjunctAt bytes words (model_of bytes) k x → r ≡ held_answer (condition_value range_end tables_in x (state_in bytes state)) 0
+  abbrev pub ConjunctSays : (words : List ℕ) (k : ℕ) (state : List ℕ) → Result Bool Trouble → Type 0
+  ConjunctSays words k state r = (x : Condition) → ConjunctAt bytes words (model_of bytes) k x → r ≡ result_of (condition_value range_end tables_in x (state_in bytes state))
 
   -- costs, then effects
   pub record TakenRead (at : ℕ) : Type 0 where

@@ -5,12 +5,12 @@ ghost use Rattle.model.specs.Steps as steps;
 ghost use Rattle.outline.specs.Outline.{model_of};
 ghost use Rattle.quick.specs.Sums.{Remembers};
 ghost use Rattle.steps.specs.InBytes.{Outlined, state_in, bound_in};
-ghost use Rattle.steps.specs.Answers.{bound_answer};
+ghost use Rattle.steps.specs.Answers.{result_of};
 ghost use Rattle.steps.specs.Says.{BoundSays, InnerPlace};
 
-use crate::answers::BoundAnswer;
 use crate::parts::number_knowing;
-use eval_sets::answers::NumberValue;
+use eval_sets::answers::Told;
+use eval_sets::troubles::Trouble;
 use outline::layout::{BOUND_COUNT, BOUNDS, PREPARED_WORDS, STATE_WORDS};
 use outline::word_at;
 use quick::sums::{SUM_WORDS, bound_sum, inner_sum};
@@ -23,8 +23,7 @@ fn raise(h: u64, z: i64) -> u64
     if z < 0 {
         return h;
     }
-    let a = z as u64;
-    if h < a { a } else { h }
+    h.max(z as u64)
 }
 
 // Where the sum inside the bound at a place stands, if it is told; else behind the last byte.
@@ -45,13 +44,13 @@ fn bound_number(
     state: &[u64; STATE_WORDS],
     sums: &mut [u64; SUM_WORDS],
     k: usize,
-) -> NumberValue
+) -> Result<Told<i64>, Trouble>
     requires { Outlined model.now outline.now × Remembers model.now outline.now sums.old × (k < length (model_of model.now).bounds) }
     ensures { BoundSays model.now outline.now state.now k result × Remembers model.now outline.now sums.new }
 {
     let z = bound_sum(model, outline, state, sums, k);
     if in_range(z) {
-        return NumberValue::Value(z, 0);
+        return Ok(Told { value: z, used: 0 });
     }
     let at = word_at(outline, BOUNDS + k) as usize;
     let inner = inner_sum(model, outline, state, sums, k);
@@ -66,23 +65,17 @@ pub fn bound(
     outline: &[u64; PREPARED_WORDS],
     state: &[u64; STATE_WORDS],
     sums: &mut [u64; SUM_WORDS],
-) -> BoundAnswer
+) -> Result<u64, Trouble>
     requires { Outlined model.now outline.now × Remembers model.now outline.now sums.old }
-    ensures { (result ≡ bound_answer (bound_in model.now (state_in model.now state.now))) × Remembers model.now outline.now sums.new }
+    ensures { (result ≡ result_of (bound_in model.now (state_in model.now state.now))) × Remembers model.now outline.now sums.new }
 {
     let count = word_at(outline, BOUND_COUNT) as usize;
     let mut h: u64 = 0;
-    let mut k: usize = 0;
-    while k < count {
-        match bound_number(model, outline, state, sums, k) {
-            NumberValue::Value(z, _) => {
-                h = raise(h, z);
-                k += 1;
-            }
-            NumberValue::Trouble(t) => return BoundAnswer::Trouble(t),
-        }
+    for k in 0..count {
+        let z = bound_number(model, outline, state, sums, k)?;
+        h = raise(h, z.value);
     }
-    BoundAnswer::Value(h)
+    Ok(h)
 }
 
 // h of a child. In a model without bounds it is told without a call.
@@ -91,12 +84,12 @@ pub fn child_bound(
     outline: &[u64; PREPARED_WORDS],
     state: &[u64; STATE_WORDS],
     sums: &mut [u64; SUM_WORDS],
-) -> BoundAnswer
+) -> Result<u64, Trouble>
     requires { Outlined model.now outline.now × Remembers model.now outline.now sums.old }
-    ensures { (result ≡ bound_answer (bound_in model.now (state_in model.now state.now))) × Remembers model.now outline.now sums.new }
+    ensures { (result ≡ result_of (bound_in model.now (state_in model.now state.now))) × Remembers model.now outline.now sums.new }
 {
     if word_at(outline, BOUND_COUNT) == 0 {
-        return BoundAnswer::Value(0);
+        return Ok(0);
     }
     bound(model, outline, state, sums)
 }

@@ -5,13 +5,15 @@ ghost use Rattle.model.specs.Values.{trouble};
 ghost use Rattle.model.specs.Costs.{free, CostBelow};
 ghost use Rattle.costs.specs.Costs.{Joinable};
 ghost use Rattle.steps.specs.InBytes.{Outlined, state_in, target_in};
+ghost use Rattle.steps.specs.Answers.{result_of};
 ghost use Rattle.steps.specs.Follow.{costs_in, follow_in, follow_from_in, step_tried, finished, FollowsOn, CheckedIs};
 
-use crate::answers::{Checked, FollowAnswer, HeldAnswer, MoveAnswer, NOT_A_PLAN, StatusAnswer};
+use crate::answers::{Checked, MoveAnswer, Status};
 use crate::conditions::{constraints_hold, status};
 use crate::moves::step;
 use crate::states::start;
 use costs::hours;
+use eval_sets::troubles::Trouble;
 use model::Cost;
 use outline::layout::{PREPARED_WORDS, RULE, STATE_WORDS};
 use outline::word_at;
@@ -33,17 +35,17 @@ fn tried_step(
     t: u8,
     g: Cost,
     child: &mut [u64; STATE_WORDS],
-) -> FollowAnswer
+) -> Result<Cost, Trouble>
     requires { Outlined model.now outline.now × CostBelow (2 ^ 63) g }
     ensures { FollowsOn model.now (step_tried model.now (state_in model.now state.now) t g) child.new g result }
 {
     let mut sums = [0u64; SUM_WORDS];
     forget(&mut sums);
     match step(model, outline, state, t as usize, child, &mut sums) {
-        MoveAnswer::Blocked => FollowAnswer::Ended(NOT_A_PLAN),
-        MoveAnswer::Moved(c) => FollowAnswer::On(combine(model, outline, g, c)),
-        MoveAnswer::Before(n) => FollowAnswer::Ended(n),
-        MoveAnswer::After(_, n) => FollowAnswer::Ended(n),
+        MoveAnswer::Blocked => Err(Trouble::NotAPlan),
+        MoveAnswer::Moved(c) => Ok(combine(model, outline, g, c)),
+        MoveAnswer::Before(t) => Err(t),
+        MoveAnswer::After(_, t) => Err(t),
     }
 }
 
@@ -55,14 +57,13 @@ fn checked_step(
     t: u8,
     g: Cost,
     child: &mut [u64; STATE_WORDS],
-) -> FollowAnswer
+) -> Result<Cost, Trouble>
     requires { Outlined model.now outline.now × CostBelow (2 ^ 63) g }
     ensures { FollowsOn model.now (λ plan. follow_in model.now (t ∷ plan) (state_in model.now state.now) g) child.new g result }
 {
-    match status(model, outline, state) {
-        StatusAnswer::Base => FollowAnswer::Ended(NOT_A_PLAN),
-        StatusAnswer::Unfinished => tried_step(model, outline, state, t, g, child),
-        StatusAnswer::Trouble(n) => FollowAnswer::Ended(n),
+    match status(model, outline, state)? {
+        Status::Base => Err(Trouble::NotAPlan),
+        Status::Unfinished => tried_step(model, outline, state, t, g, child),
     }
 }
 
@@ -82,42 +83,52 @@ fn finish(
     outline: &[u64; PREPARED_WORDS],
     state: &[u64; STATE_WORDS],
     g: Cost,
-) -> Checked
+) -> Result<Cost, Trouble>
     requires { Outlined model.now outline.now }
-    ensures { CheckedIs (finished model.now (state_in model.now state.now) g) result }
+    ensures { result ≡ result_of (finished model.now (state_in model.now state.now) g) }
 {
-    match status(model, outline, state) {
-        StatusAnswer::Base => Checked { answer: 0, cost: g },
-        StatusAnswer::Unfinished => refused_plan(NOT_A_PLAN),
-        StatusAnswer::Trouble(n) => refused_plan(n),
+    match status(model, outline, state)? {
+        Status::Base => Ok(g),
+        Status::Unfinished => Err(Trouble::NotAPlan),
     }
 }
 
-// Follows the steps of a plan from a state, whatever its own constraints: 0 and their cost, or the number of the first trouble.
+// Follows the steps of a plan from a state, whatever its own constraints: their cost, or the first trouble.
 fn follow_steps(
     model: &[u8],
     outline: &[u64; PREPARED_WORDS],
     from: &[u64; STATE_WORDS],
     plan: &[u8],
-) -> Checked
+) -> Result<Cost, Trouble>
     requires { Outlined model.now outline.now × (length plan.now ≤ 256) }
-    ensures { CheckedIs (follow_in model.now plan.now (state_in model.now from.now) free) result }
+    ensures { result ≡ result_of (follow_in model.now plan.now (state_in model.now from.now) free) }
 {
     let mut state = *from;
     let mut child = [0u64; STATE_WORDS];
     let mut g = hours(0);
-    let mut i: usize = 0;
-    while i < plan.len() {
-        match checked_step(model, outline, &state, plan[i], g, &mut child) {
-            FollowAnswer::On(h) => {
-                g = h;
-                state = child;
-                i += 1;
-            }
-            FollowAnswer::Ended(n) => return refused_plan(n),
-        }
+    for t in plan {
+        g = checked_step(model, outline, &state, *t, g, &mut child)?;
+        state = child;
     }
     finish(model, outline, &state, g)
+}
+
+// The same from the target, which has to meet the constraints first.
+fn follow_from_target(
+    model: &[u8],
+    outline: &[u64; PREPARED_WORDS],
+    plan: &[u8],
+) -> Result<Cost, Trouble>
+    requires { Outlined model.now outline.now × (length plan.now ≤ 256) }
+    ensures { result ≡ result_of (follow_from_in model.now plan.now (target_in model.now) free) }
+{
+    let mut target = [0u64; STATE_WORDS];
+    start(model, outline, &mut target);
+    let holds = constraints_hold(model, outline, &target)?;
+    if holds {
+        return follow_steps(model, outline, &target, plan);
+    }
+    Err(Trouble::NotAPlan)
 }
 
 // Follows a plan from the target, which has to meet the constraints first: 0 and its cost, or the number of the first trouble.
@@ -125,11 +136,8 @@ pub fn follow(model: &[u8], outline: &[u64; PREPARED_WORDS], plan: &[u8]) -> Che
     requires { Outlined model.now outline.now × (length plan.now ≤ 256) }
     ensures { CheckedIs (follow_from_in model.now plan.now (target_in model.now) free) result }
 {
-    let mut target = [0u64; STATE_WORDS];
-    start(model, outline, &mut target);
-    match constraints_hold(model, outline, &target) {
-        HeldAnswer::All(_) => follow_steps(model, outline, &target, plan),
-        HeldAnswer::Fails => refused_plan(NOT_A_PLAN),
-        HeldAnswer::Trouble(n) => refused_plan(n),
+    match follow_from_target(model, outline, plan) {
+        Ok(cost) => Checked { answer: 0, cost },
+        Err(t) => refused_plan(t.number()),
     }
 }

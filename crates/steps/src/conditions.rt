@@ -3,12 +3,13 @@
 ghost use Rattle.std.specs.Prelude.{◌≡◌, ◌<◌, ◌≤◌, length, get_or};
 ghost use Rattle.prepare.specs.Layout.{conjunct_count_at};
 ghost use Rattle.steps.specs.InBytes.{Outlined, state_in, system_in};
-ghost use Rattle.steps.specs.Answers.{held_answer, status_answer};
+ghost use Rattle.steps.specs.Answers.{result_of, status_answer};
 ghost use Rattle.steps.specs.Says.{HeldSays, TestedSays, ConjunctSays};
 
-use crate::answers::{HeldAnswer, StatusAnswer};
+use crate::answers::{HeldAnswer, Status};
 use crate::parts::{condition_at, condition_near};
 use eval_sets::answers::ConditionValue;
+use eval_sets::troubles::Trouble;
 use laws::byte_at;
 use outline::layout::{
     BASE_CASE_COUNT, BASE_CASES, CONJUNCT_COUNT, CONJUNCTS, PREPARED_WORDS, STATE_WORDS,
@@ -28,6 +29,7 @@ pub fn conditions_hold(
     ensures { HeldSays model.now at state.now result }
 {
     let mut next = at;
+    // a condition tells where the next one is: no range gives its places
     while byte_at(model, next) == 8 {
         match condition_near(model, next + 1, outline, state) {
             ConditionValue::Holds(holds, used) => {
@@ -65,26 +67,16 @@ fn condition_holds(
     at: usize,
     outline: &[u64; PREPARED_WORDS],
     state: &[u64; STATE_WORDS],
-) -> HeldAnswer
+) -> Result<bool, Trouble>
     requires { Outlined model.now outline.now × (at ≤ length model.now) }
     ensures { TestedSays model.now at state.now result }
 {
-    let code = condition(model, at, outline, state);
-    if code == 1 {
-        return HeldAnswer::All(0);
-    }
-    if code == 0 {
-        return HeldAnswer::Fails;
+    if let Some(holds) = condition(model, at, outline, state) {
+        return Ok(holds);
     }
     match condition_at(model, at, outline, state) {
-        ConditionValue::Holds(holds, _) => {
-            if holds {
-                HeldAnswer::All(0)
-            } else {
-                HeldAnswer::Fails
-            }
-        }
-        ConditionValue::Trouble(t) => HeldAnswer::Trouble(t),
+        ConditionValue::Holds(holds, _) => Ok(holds),
+        ConditionValue::Trouble(t) => Err(t),
     }
 }
 
@@ -94,7 +86,7 @@ fn conjunct_holds(
     outline: &[u64; PREPARED_WORDS],
     k: usize,
     state: &[u64; STATE_WORDS],
-) -> HeldAnswer
+) -> Result<bool, Trouble>
     requires { Outlined model.now outline.now × (k < get_or outline.now conjunct_count_at 0) }
     ensures { ConjunctSays model.now outline.now k state.now result }
 {
@@ -102,7 +94,7 @@ fn conjunct_holds(
         let at = word_at(outline, CONJUNCTS + 4 * k + 3) as usize;
         return condition_holds(model, at, outline, state);
     }
-    HeldAnswer::All(0)
+    Ok(true)
 }
 
 // Tries the state constraints, conjunct by conjunct.
@@ -110,22 +102,18 @@ pub fn constraints_hold(
     model: &[u8],
     outline: &[u64; PREPARED_WORDS],
     state: &[u64; STATE_WORDS],
-) -> HeldAnswer
+) -> Result<bool, Trouble>
     requires { Outlined model.now outline.now }
-    ensures { result ≡ held_answer ((system_in model.now).admits (state_in model.now state.now)) 0 }
+    ensures { result ≡ result_of ((system_in model.now).admits (state_in model.now state.now)) }
 {
     let count = word_at(outline, CONJUNCT_COUNT) as usize;
-    let mut k: usize = 0;
-    while k < count {
-        match conjunct_holds(model, outline, k, state) {
-            HeldAnswer::All(_) => {
-                k += 1;
-            }
-            HeldAnswer::Fails => return HeldAnswer::Fails,
-            HeldAnswer::Trouble(t) => return HeldAnswer::Trouble(t),
+    for k in 0..count {
+        let holds = conjunct_holds(model, outline, k, state)?;
+        if !holds {
+            return Ok(false);
         }
     }
-    HeldAnswer::All(0)
+    Ok(true)
 }
 
 // Tries the constraints of a child. A model without any is told without a call.
@@ -133,12 +121,12 @@ pub fn child_holds(
     model: &[u8],
     outline: &[u64; PREPARED_WORDS],
     state: &[u64; STATE_WORDS],
-) -> HeldAnswer
+) -> Result<bool, Trouble>
     requires { Outlined model.now outline.now }
-    ensures { result ≡ held_answer ((system_in model.now).admits (state_in model.now state.now)) 0 }
+    ensures { result ≡ result_of ((system_in model.now).admits (state_in model.now state.now)) }
 {
     if word_at(outline, CONJUNCT_COUNT) == 0 {
-        return HeldAnswer::All(0);
+        return Ok(true);
     }
     constraints_hold(model, outline, state)
 }
@@ -148,21 +136,18 @@ pub fn status(
     model: &[u8],
     outline: &[u64; PREPARED_WORDS],
     state: &[u64; STATE_WORDS],
-) -> StatusAnswer
+) -> Result<Status, Trouble>
     requires { Outlined model.now outline.now }
     ensures { result ≡ status_answer ((system_in model.now).status (state_in model.now state.now)) }
 {
     let count = word_at(outline, BASE_CASE_COUNT) as usize;
-    let mut k: usize = 0;
-    while k < count {
+    for k in 0..count {
         let at = word_at(outline, BASE_CASES + k) as usize;
         match conditions_hold(model, at, outline, state) {
-            HeldAnswer::All(_) => return StatusAnswer::Base,
-            HeldAnswer::Fails => {
-                k += 1;
-            }
-            HeldAnswer::Trouble(t) => return StatusAnswer::Trouble(t),
+            HeldAnswer::All(_) => return Ok(Status::Base),
+            HeldAnswer::Fails => {}
+            HeldAnswer::Trouble(t) => return Err(t),
         }
     }
-    StatusAnswer::Unfinished
+    Ok(Status::Unfinished)
 }

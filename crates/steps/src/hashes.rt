@@ -40,10 +40,8 @@ pub fn hash(model: &[u8], outline: &[u64; PREPARED_WORDS], state: &[u64]) -> u64
 {
     let count = word_at(outline, VARIABLE_COUNT) as usize;
     let mut m = 1;
-    let mut v = 0;
-    while v < count {
+    for v in 0..count {
         m = mix_at(outline, state, v, m);
-        v += 1;
     }
     m
 }

@@ -12,15 +12,13 @@ ghost use Rattle.steps.specs.Answers.{move_answer};
 ghost use Rattle.steps.specs.Says.{NumberSays, RangeSays, CostsSay, CostWithin, NumberWordSays, WordSays, WordWithin, EffectsRead, EffectsSays, TakenRead, TakenSays, TransitionRead, AttemptSays, Tried, MoveSays};
 ghost use Rattle.steps.specs.Allowed.{Allowed, allowed_from};
 
-use crate::answers::{
-    AttemptAnswer, CostAnswer, EffectsAnswer, HIGH_BELOW_LOW, HeldAnswer, MoveAnswer,
-    NEGATIVE_COST, WordAnswer,
-};
+use crate::answers::{AttemptAnswer, HeldAnswer, MoveAnswer};
 use crate::conditions::{child_holds, rest_holds};
 use crate::parts::{element_at, number_near, number_short, set_at};
 use costs::fixed;
-use cursor::numbers::{SILENT, literal};
-use eval_sets::answers::NumberValue;
+use cursor::numbers::literal;
+use eval_sets::answers::Told;
+use eval_sets::troubles::Trouble;
 use laws::byte_at;
 use model::Cost;
 use outline::layout::{GUARDS, KINDS, PREPARED_WORDS, STATE_WORDS, TRANSITION_COUNT};
@@ -39,25 +37,24 @@ fn cost_number(
     outline: &[u64; PREPARED_WORDS],
     state: &[u64; STATE_WORDS],
     sums: &mut [u64; SUM_WORDS],
-) -> NumberValue
+) -> Result<Told<i64>, Trouble>
     requires { Outlined model.now outline.now × (at ≤ length model.now) × Remembers model.now outline.now sums.old }
     ensures { NumberSays model.now at state.now result × NumberWithin (length model.now - at) result × Remembers model.now outline.now sums.new }
 {
     if is_entry(model, at) {
-        return NumberValue::Value(entry_at(model, at, outline, state), 6);
+        let value = entry_at(model, at, outline, state);
+        return Ok(Told { value, used: 6 });
     }
     let whole = model;
     let mut near = at;
-    let short = literal(&whole, &mut near, outline, state);
-    if short < SILENT {
+    if let Some(z) = literal(&whole, &mut near, outline, state) {
         let used = near - at;
-        return NumberValue::Value(short, used);
+        return Ok(Told { value: z, used });
     }
     let mut end = at;
-    let told = cursor_conditions::terms::number(&whole, &mut end, outline, state);
-    if told < SILENT {
+    if let Some(z) = cursor_conditions::terms::number(&whole, &mut end, outline, state) {
         let used = end - at;
-        return NumberValue::Value(told, used);
+        return Ok(Told { value: z, used });
     }
     number_near(model, at, outline, state, sums)
 }
@@ -70,28 +67,27 @@ fn range_at(
     state: &[u64; STATE_WORDS],
     low: u64,
     sums: &mut [u64; SUM_WORDS],
-) -> CostAnswer
+) -> Result<Told<Cost>, Trouble>
     requires { Outlined model.now outline.now × (at < length model.now) × Remembers model.now outline.now sums.old }
     ensures { RangeSays model.now at state.now low result × CostWithin (length model.now - at) result × Remembers model.now outline.now sums.new }
 {
-    match number_near(model, at + 1, outline, state, sums) {
-        NumberValue::Value(z, used) => {
-            if z < 0 {
-                return CostAnswer::Trouble(HIGH_BELOW_LOW);
-            }
-            let high = z as u64;
-            if high < low {
-                return CostAnswer::Trouble(HIGH_BELOW_LOW);
-            }
-            let cost = Cost {
-                high: high,
-                low: low,
-                moves: 0,
-            };
-            CostAnswer::Costs(cost, used + 1)
-        }
-        NumberValue::Trouble(t) => CostAnswer::Trouble(t),
+    let z = number_near(model, at + 1, outline, state, sums)?;
+    if z.value < 0 {
+        return Err(Trouble::HighBelowLow);
     }
+    let high = z.value as u64;
+    if high < low {
+        return Err(Trouble::HighBelowLow);
+    }
+    let cost = Cost {
+        high,
+        low,
+        moves: 0,
+    };
+    Ok(Told {
+        value: cost,
+        used: z.used + 1,
+    })
 }
 
 // What a step costs, from 09 on: the low cost, then the high one where it is written. A negative number is trouble.
@@ -101,28 +97,28 @@ fn costs_at(
     outline: &[u64; PREPARED_WORDS],
     state: &[u64; STATE_WORDS],
     sums: &mut [u64; SUM_WORDS],
-) -> CostAnswer
+) -> Result<Told<Cost>, Trouble>
     requires { Outlined model.now outline.now × (at < length model.now) × Remembers model.now outline.now sums.old }
     ensures { CostsSay model.now at state.now result × CostWithin (length model.now - at) result × Remembers model.now outline.now sums.new }
 {
-    match cost_number(model, at + 1, outline, state, sums) {
-        NumberValue::Value(z, used) => {
-            if z < 0 {
-                return CostAnswer::Trouble(NEGATIVE_COST);
-            }
-            let low = z as u64;
-            let next = at + 1 + used;
-            if byte_at(model, next) == 0x10 {
-                return match range_at(model, next, outline, state, low, sums) {
-                    CostAnswer::Costs(cost, more) => CostAnswer::Costs(cost, used + 1 + more),
-                    CostAnswer::Trouble(t) => CostAnswer::Trouble(t),
-                };
-            }
-            let cost = fixed(low);
-            CostAnswer::Costs(cost, used + 1)
-        }
-        NumberValue::Trouble(t) => CostAnswer::Trouble(t),
+    let z = cost_number(model, at + 1, outline, state, sums)?;
+    if z.value < 0 {
+        return Err(Trouble::NegativeCost);
     }
+    let low = z.value as u64;
+    let next = at + 1 + z.used;
+    if byte_at(model, next) == 0x10 {
+        let ranged = range_at(model, next, outline, state, low, sums)?;
+        return Ok(Told {
+            value: ranged.value,
+            used: z.used + 1 + ranged.used,
+        });
+    }
+    let cost = fixed(low);
+    Ok(Told {
+        value: cost,
+        used: z.used + 1,
+    })
 }
 
 // The word for a number variable.
@@ -132,14 +128,15 @@ fn number_word(
     outline: &[u64; PREPARED_WORDS],
     state: &[u64; STATE_WORDS],
     sums: &mut [u64; SUM_WORDS],
-) -> WordAnswer
+) -> Result<Told<u64>, Trouble>
     requires { Outlined model.now outline.now × (at ≤ length model.now) × Remembers model.now outline.now sums.old }
     ensures { NumberWordSays model.now at state.now result × WordWithin (length model.now - at) result × Remembers model.now outline.now sums.new }
 {
-    match number_short(model, at, outline, state, sums) {
-        NumberValue::Value(z, used) => WordAnswer::Word(biased(z), used),
-        NumberValue::Trouble(t) => WordAnswer::Trouble(t),
-    }
+    let z = number_short(model, at, outline, state, sums)?;
+    Ok(Told {
+        value: biased(z.value),
+        used: z.used,
+    })
 }
 
 // The word for variable v, by its kind; a set variable with an element added or taken out, or joined to a literal, in place.
@@ -150,7 +147,7 @@ fn word_for(
     state: &[u64; STATE_WORDS],
     v: usize,
     sums: &mut [u64; SUM_WORDS],
-) -> WordAnswer
+) -> Result<Told<u64>, Trouble>
     requires { Outlined model.now outline.now × (at ≤ length model.now) × (v < most_variables) × Remembers model.now outline.now sums.old }
     ensures { WordSays model.now at state.now v result × WordWithin (length model.now - at) result × Remembers model.now outline.now sums.new }
 {
@@ -160,16 +157,28 @@ fn word_for(
     }
     if kind <= MOST_OBJECTS {
         let e = element_at(model, at, outline, state);
-        return WordAnswer::Word(e.object, e.used);
+        return Ok(Told {
+            value: e.object,
+            used: e.used,
+        });
     }
     if is_changed(model, at) {
-        return WordAnswer::Word(changed(model, at, state), 5);
+        return Ok(Told {
+            value: changed(model, at, state),
+            used: 5,
+        });
     }
     if is_joined(model, at) {
-        return WordAnswer::Word(joined(model, at, state), 13);
+        return Ok(Told {
+            value: joined(model, at, state),
+            used: 13,
+        });
     }
     let s = set_at(model, at, outline, state);
-    WordAnswer::Word(s.members, s.used)
+    Ok(Told {
+        value: s.members,
+        used: s.used,
+    })
 }
 
 // Writes the effects 0A from a place on into the child; each reads the old state.
@@ -180,22 +189,19 @@ fn effects(
     state: &[u64; STATE_WORDS],
     child: &mut [u64; STATE_WORDS],
     sums: &mut [u64; SUM_WORDS],
-) -> EffectsAnswer
+) -> Result<(), Trouble>
     requires { Outlined model.now outline.now × EffectsRead model.now at × StateRoom child.old × Remembers model.now outline.now sums.old }
     ensures { EffectsSays model.now at state.now child.old child.new result × Remembers model.now outline.now sums.new }
 {
     let mut next = at;
+    // an effect tells where the next one is: no range gives its places
     while byte_at(model, next) == 10 {
         let v = byte_at(model, next + 1) as usize;
-        match word_for(model, next + 2, outline, state, v, sums) {
-            WordAnswer::Word(w, used) => {
-                child[v] = w;
-                next = next + 2 + used;
-            }
-            WordAnswer::Trouble(t) => return EffectsAnswer::Trouble(t),
-        }
+        let word = word_for(model, next + 2, outline, state, v, sums)?;
+        child[v] = word.value;
+        next = next + 2 + word.used;
     }
-    EffectsAnswer::Done
+    Ok(())
 }
 
 // Costs and effects of a step whose conditions hold, from 09 on.
@@ -206,20 +212,14 @@ fn take(
     state: &[u64; STATE_WORDS],
     child: &mut [u64; STATE_WORDS],
     sums: &mut [u64; SUM_WORDS],
-) -> AttemptAnswer
+) -> Result<Cost, Trouble>
     requires { Outlined model.now outline.now × TakenRead model.now at × StateRoom state.now × Remembers model.now outline.now sums.old }
     ensures { TakenSays model.now at state.now child.new result × Remembers model.now outline.now sums.new }
 {
-    match costs_at(model, at, outline, state, sums) {
-        CostAnswer::Costs(cost, used) => {
-            *child = *state;
-            match effects(model, at + used, outline, state, child, sums) {
-                EffectsAnswer::Done => AttemptAnswer::Taken(cost),
-                EffectsAnswer::Trouble(t) => AttemptAnswer::Trouble(t),
-            }
-        }
-        CostAnswer::Trouble(t) => AttemptAnswer::Trouble(t),
-    }
+    let cost = costs_at(model, at, outline, state, sums)?;
+    *child = *state;
+    effects(model, at + cost.used, outline, state, child, sums)?;
+    Ok(cost.value)
 }
 
 // Conditions, costs and effects of the transition at a place.
@@ -235,7 +235,10 @@ fn attempt(
     ensures { AttemptSays model.now at state.now child.new result × Remembers model.now outline.now sums.new }
 {
     match rest_holds(model, at, outline, state) {
-        HeldAnswer::All(next) => take(model, next, outline, state, child, sums),
+        HeldAnswer::All(next) => match take(model, next, outline, state, child, sums) {
+            Ok(cost) => AttemptAnswer::Taken(cost),
+            Err(t) => AttemptAnswer::Trouble(t),
+        },
         HeldAnswer::Fails => AttemptAnswer::NotTaken,
         HeldAnswer::Trouble(t) => AttemptAnswer::Trouble(t),
     }
@@ -252,9 +255,14 @@ fn constrained(
     ensures { result ≡ move_answer (steps.constrained range_end (model_of model.now) cost (state_in model.now child.now) ((system_in model.now).admits (state_in model.now child.now))) }
 {
     match child_holds(model, outline, child) {
-        HeldAnswer::All(_) => MoveAnswer::Moved(cost),
-        HeldAnswer::Fails => MoveAnswer::Blocked,
-        HeldAnswer::Trouble(t) => MoveAnswer::After(cost, t),
+        Ok(holds) => {
+            if holds {
+                MoveAnswer::Moved(cost)
+            } else {
+                MoveAnswer::Blocked
+            }
+        }
+        Err(t) => MoveAnswer::After(cost, t),
     }
 }
 
@@ -289,7 +297,7 @@ pub fn transitions(model: &[u8], outline: &[u64; PREPARED_WORDS]) -> usize
 fn digit(b: bool) -> u64
     ensures { result ≡ cond b 1 0 }
 {
-    if b { 1 } else { 0 }
+    u64::from(b)
 }
 
 // Which transitions from `first` to `end` have guards that pass in a state: bit k for transition first + k. The others are blocked.
@@ -298,9 +306,7 @@ pub fn allowed(outline: &[u64; PREPARED_WORDS], state: &[u64], first: usize, end
     ensures { result ≡ allowed_from outline.now state.now (end - first) first }
 {
     let mut mask: u64 = 0;
-    let mut t = end;
-    while first < t {
-        t -= 1;
+    for t in (first..end).rev() {
         mask = mask + mask + digit(passes(outline, GUARDS + 4 * t, state));
     }
     mask

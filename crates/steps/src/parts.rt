@@ -8,11 +8,12 @@ ghost use Rattle.quick.specs.Sums.{Remembers};
 ghost use Rattle.steps.specs.InBytes.{Outlined};
 ghost use Rattle.steps.specs.Says.{ConditionSays, NumberSays, ElementSays, SetSays};
 
-use cursor::numbers::{SILENT, literal, shifted};
+use cursor::numbers::{literal, shifted};
 use cursor_conditions::conditions::short_comparison;
 use eval_numbers::number;
-use eval_sets::answers::{ConditionValue, ElementValue, NumberValue, SetValue};
+use eval_sets::answers::{ConditionValue, ElementValue, SetValue, Told};
 use eval_sets::sets::{element, set};
+use eval_sets::troubles::Trouble;
 use eval_tests::test;
 use nested::rounded::rounded;
 use outline::layout::{PREPARED_WORDS, STATE_WORDS};
@@ -51,21 +52,19 @@ pub fn condition_near(
     }
     let whole = model;
     let mut near = at;
-    let short = short_comparison(&whole, &mut near, outline, state);
-    if short == 1 {
-        let used = near - at;
-        return ConditionValue::Holds(true, used);
-    }
-    if short == 0 {
+    if let Some(holds) = short_comparison(&whole, &mut near, outline, state) {
+        if holds {
+            let used = near - at;
+            return ConditionValue::Holds(true, used);
+        }
         return ConditionValue::Holds(false, 0);
     }
     let mut end = at;
-    let told = cursor_conditions::conditions::test(&whole, &mut end, outline, state);
-    if told == 1 {
-        let used = end - at;
-        return ConditionValue::Holds(true, used);
-    }
-    if told == 0 {
+    if let Some(holds) = cursor_conditions::conditions::test(&whole, &mut end, outline, state) {
+        if holds {
+            let used = end - at;
+            return ConditionValue::Holds(true, used);
+        }
         return ConditionValue::Holds(false, 0);
     }
     condition_at(model, at, outline, state)
@@ -77,7 +76,7 @@ pub fn number_at(
     at: usize,
     outline: &[u64; PREPARED_WORDS],
     state: &[u64; STATE_WORDS],
-) -> NumberValue
+) -> Result<Told<i64>, Trouble>
     requires { Outlined model.now outline.now × (at ≤ length model.now) }
     ensures { NumberSays model.now at state.now result × NumberWithin (length model.now - at) result }
 {
@@ -93,16 +92,15 @@ fn number_with(
     place: usize,
     sum: i64,
     sums: &mut [u64; SUM_WORDS],
-) -> NumberValue
+) -> Result<Told<i64>, Trouble>
     requires { Outlined model.now outline.now × (at ≤ length model.now) × KnownAt model.now outline.now state.now place sum × Remembers model.now outline.now sums.old }
     ensures { NumberSays model.now at state.now result × NumberWithin (length model.now - at) result × Remembers model.now outline.now sums.new }
 {
     let whole = model;
     let mut end = at;
-    let told = nested::number(&whole, &mut end, outline, state, place, sum, sums);
-    if told < SILENT {
+    if let Some(z) = nested::number(&whole, &mut end, outline, state, place, sum, sums) {
         let used = end - at;
-        return NumberValue::Value(told, used);
+        return Ok(Told { value: z, used });
     }
     number_at(model, at, outline, state)
 }
@@ -116,17 +114,16 @@ pub fn number_knowing(
     place: usize,
     sum: i64,
     sums: &mut [u64; SUM_WORDS],
-) -> NumberValue
+) -> Result<Told<i64>, Trouble>
     requires { Outlined model.now outline.now × (at ≤ length model.now) × KnownAt model.now outline.now state.now place sum × Remembers model.now outline.now sums.old }
     ensures { NumberSays model.now at state.now result × NumberWithin (length model.now - at) result × Remembers model.now outline.now sums.new }
 {
     if place < model.len() {
         let whole = model;
         let mut end = at;
-        let told = rounded(&whole, &mut end, outline, state, place, sum);
-        if told < SILENT {
+        if let Some(z) = rounded(&whole, &mut end, outline, state, place, sum) {
             let used = end - at;
-            return NumberValue::Value(told, used);
+            return Ok(Told { value: z, used });
         }
     }
     number_with(model, at, outline, state, place, sum, sums)
@@ -139,7 +136,7 @@ pub fn number_near(
     outline: &[u64; PREPARED_WORDS],
     state: &[u64; STATE_WORDS],
     sums: &mut [u64; SUM_WORDS],
-) -> NumberValue
+) -> Result<Told<i64>, Trouble>
     requires { Outlined model.now outline.now × (at ≤ length model.now) × Remembers model.now outline.now sums.old }
     ensures { NumberSays model.now at state.now result × NumberWithin (length model.now - at) result × Remembers model.now outline.now sums.new }
 {
@@ -153,22 +150,20 @@ pub fn number_short(
     outline: &[u64; PREPARED_WORDS],
     state: &[u64; STATE_WORDS],
     sums: &mut [u64; SUM_WORDS],
-) -> NumberValue
+) -> Result<Told<i64>, Trouble>
     requires { Outlined model.now outline.now × (at ≤ length model.now) × Remembers model.now outline.now sums.old }
     ensures { NumberSays model.now at state.now result × NumberWithin (length model.now - at) result × Remembers model.now outline.now sums.new }
 {
     let whole = model;
     let mut near = at;
-    let short = literal(&whole, &mut near, outline, state);
-    if short < SILENT {
+    if let Some(z) = literal(&whole, &mut near, outline, state) {
         let used = near - at;
-        return NumberValue::Value(short, used);
+        return Ok(Told { value: z, used });
     }
     let mut end = at;
-    let told = shifted(&whole, &mut end, outline, state);
-    if told < SILENT {
+    if let Some(z) = shifted(&whole, &mut end, outline, state) {
         let used = end - at;
-        return NumberValue::Value(told, used);
+        return Ok(Told { value: z, used });
     }
     number_near(model, at, outline, state, sums)
 }
@@ -198,14 +193,14 @@ pub fn set_at(
 {
     let whole = model;
     let mut end = at;
-    let told = cursor::sets::set(&whole, &mut end, outline, state);
+    let members = cursor::sets::set(&whole, &mut end, outline, state);
     if end == at {
         return set(&model[at..], state, outline, 32);
     }
     let used = end - at;
     SetValue {
-        members: told,
+        members,
         objects: 0,
-        used: used,
+        used,
     }
 }

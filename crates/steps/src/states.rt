@@ -59,11 +59,8 @@ pub fn dominates(model: &[u8], outline: &[u64; PREPARED_WORDS], t: &[u64], s: &[
     ensures { result ≡ (system_in model.now).dominates (state_in model.now t.now) (state_in model.now s.now) }
 {
     let count = word_at(outline, VARIABLE_COUNT) as usize;
-    let mut v: usize = 0;
-    while v < count {
-        if no_worse_at(outline, v, t, s) {
-            v += 1;
-        } else {
+    for v in 0..count {
+        if !no_worse_at(outline, v, t, s) {
             return false;
         }
     }

@@ -3,53 +3,45 @@
 
 #![tactic(auto)]
 
-ghost use Rattle.std.specs.Prelude.{◌≤◌, ◌<◌, length, IfOk};
+ghost use Rattle.std.specs.Prelude.{◌≤◌, ◌<◌, length, IfOk, IfSome};
 
 use std::io;
 use std::io::Read;
 
-// The number of two bytes, the least first.
-fn number(low: u8, high: u8) -> usize
-    ensures { result < 65536 }
-{
-    laws::wide(low) as usize + 256 * (laws::wide(high) as usize)
-}
-
 // Checks one plan and writes its line.
 fn write_check(rt: &impl Print, model: &[u8], plan: &[u8]) -> io::Result<()> {
     let checked = plan_check::check(model, plan);
-    let answer = checked.answer;
-    let cost = checked.cost;
-    let high = cost.high;
-    let low = cost.low;
-    println!(rt; "{answer} {high} {low}")
+    println!(rt;
+        "{} {} {}",
+        checked.answer, checked.cost.high, checked.cost.low
+    )
 }
 
-// Writes the line of the case at the front, and answers how many bytes the case has, or 0 where there is no whole case.
-fn write_first(rt: &impl Print, cases: &[u8]) -> io::Result<usize>
-    ensures { IfOk result (λ n. n ≤ length cases.now) }
+// A case, and what is behind it.
+#[derive(Clone, Copy)]
+struct Case<'a> {
+    model: &'a [u8],
+    plan: &'a [u8],
+    rest: &'a [u8],
+}
+
+// The case at the front; none where there is no whole case.
+fn first_case(cases: &[u8]) -> Option<Case<'_>>
+    ensures { IfSome result (λ x. length x.rest.now < length cases.now) }
 {
-    if cases.len() < 4 {
-        return Ok(0);
-    }
-    let plan_from = 4 + number(cases[0], cases[1]);
-    let end = plan_from + number(cases[2], cases[3]);
-    if cases.len() < end {
-        return Ok(0);
-    }
-    write_check(rt, &cases[4..plan_from], &cases[plan_from..end])?;
-    Ok(end)
+    let (lengths, behind) = cases.split_first_chunk::<4>()?;
+    let [a, b, c, d] = *lengths;
+    let (model, behind) = behind.split_at_checked(usize::from(u16::from_le_bytes([a, b])))?;
+    let (plan, rest) = behind.split_at_checked(usize::from(u16::from_le_bytes([c, d])))?;
+    Some(Case { model, plan, rest })
 }
 
 // Writes the lines of all cases.
 fn write_all(rt: &impl Print, cases: &[u8]) -> io::Result<()> {
-    let mut at: usize = 0;
-    while at < cases.len() {
-        let n = write_first(rt, &cases[at..])?;
-        if n == 0 {
-            return Ok(());
-        }
-        at += n;
+    let mut left = cases;
+    while let Some(case) = first_case(left) {
+        write_check(rt, case.model, case.plan)?;
+        left = case.rest;
     }
     Ok(())
 }
@@ -64,7 +56,7 @@ fn write_longest(rt: &impl Print) -> io::Result<()> {
     write_check(rt, &model[..65536], &plan)
 }
 
-// Reads until the buffer is full or the input ends; answers how many bytes came.
+// Reads until the buffer is full or the input ends; answers how many bytes came. crates/program has the same loop, but stands on the search.
 fn read_full<R: Read>(input: &mut R, buffer: &mut [u8]) -> io::Result<usize>
     ensures { IfOk result (λ n. n ≤ length buffer.new) }
 {
@@ -72,7 +64,7 @@ fn read_full<R: Read>(input: &mut R, buffer: &mut [u8]) -> io::Result<usize>
     while at < buffer.len() {
         let n = input.read(&mut buffer[at..])?;
         if n == 0 {
-            return Ok(at);
+            break;
         }
         at += n;
     }

@@ -6,9 +6,10 @@
 
 ghost use Rattle.std.specs.Prelude.{◌≤◌, ◌<◌, ◌^◌, length, IfOk};
 
-use line::{write_answer, write_fields};
+use line::{AllFields, Line};
 use program::read_file;
-use search_report::answers::{Answer, Outcome};
+use search_report::answers::{Answer, Refusal};
+use solver::buffers::plan_part;
 use solver::entry::search;
 use solver::lists::{load_widths, search_widths};
 use solver::load::load;
@@ -22,23 +23,14 @@ const ARGUMENTS: usize = 7;
 // The bytes that an argument may have.
 const ROOM: usize = 4096;
 
-// The lesser number.
-fn least(a: usize, b: usize) -> usize
-    ensures { (result ≤ a) × (result ≤ b) }
-{
-    if a < b { a } else { b }
-}
-
 // The number of these digits, as far as it is below 2^33.
 fn number(digits: &[u8]) -> u64 {
     let mut n: u64 = 0;
-    let mut i: usize = 0;
-    while i < digits.len() {
+    for digit in digits {
         if 429496729 < n {
             return n;
         }
-        n = 10 * n + laws::wide(digits[i]) % 16;
-        i += 1;
+        n = 10 * n + u64::from(*digit % 16);
     }
     n
 }
@@ -54,43 +46,19 @@ fn argument_bytes(rt: &impl Env, i: usize, text: &mut [u8]) -> usize
 fn argument(rt: &impl Env, i: usize) -> u32 {
     let mut text = [0u8; ROOM];
     let digits = argument_bytes(rt, i, &mut text);
-    let n = number(&text[..digits]);
-    if n < 4294967296 { n as u32 } else { 4294967295 }
+    number(&text[..digits]).min(4294967295) as u32
 }
 
 // The number with one digit more, at most 65,535.
 fn with_digit(n: u16, digit: u8) -> u16 {
-    let m = 10 * (n as u32) + (digit as u32) % 16;
-    if m < 65536 { m as u16 } else { 65535 }
+    (10 * u32::from(n) + u32::from(digit % 16)).min(65535) as u16
 }
 
-// The place of the first comma from this one on; the text's end where there is none.
-fn comma_from(text: &[u8], from: usize) -> usize
-    requires { from ≤ length text.now }
-    ensures { (from ≤ result) × (result ≤ length text.now) }
-{
-    let mut k = from;
-    while k < text.len() {
-        if text[k] == 44 {
-            return k;
-        }
-        k += 1;
-    }
-    k
-}
-
-// The number that stands from this place on, up to a comma or the end.
-fn entry_at(text: &[u8], from: usize) -> u16
-    requires { from ≤ length text.now }
-{
+// The number of these digits, at most 65,535.
+fn entry(digits: &[u8]) -> u16 {
     let mut n: u16 = 0;
-    let mut k = from;
-    while k < text.len() {
-        if text[k] == 44 {
-            return n;
-        }
-        n = with_digit(n, text[k]);
-        k += 1;
+    for digit in digits {
+        n = with_digit(n, *digit);
     }
     n
 }
@@ -100,14 +68,12 @@ fn entries(text: &[u8], widths: &mut [u16]) -> usize
     ensures { result ≤ length widths.new }
 {
     let mut count: usize = 0;
-    let mut at = comma_from(text, 0);
-    while at < text.len() {
+    for digits in text.split(|byte| *byte == b',').skip(1) {
         if count == widths.len() {
-            return count;
+            break;
         }
-        widths[count] = entry_at(text, at + 1);
+        widths[count] = entry(digits);
         count += 1;
-        at = comma_from(text, at + 1);
     }
     count
 }
@@ -121,15 +87,15 @@ fn read_widths(rt: &impl Env, i: usize, widths: &mut [u16]) -> usize
     entries(&text[..n], widths)
 }
 
-// Reads the file of this name; answers how many bytes it has, 0 where it cannot be opened.
+// Reads the file of this name; answers how many bytes came, 0 where it cannot be opened.
 fn read_named<R: Files + Eprint>(rt: &R, path: &str, model: &mut [u8]) -> io::Result<usize>
     ensures { IfOk result (λ n. n ≤ length model.new) }
 {
     match File::open(rt, path) {
-        Ok(mut file) => {
-            let came = read_file(&mut file, model);
-            Ok(came.count)
-        }
+        Ok(mut file) => match read_file(&mut file, model) {
+            Ok(n) => Ok(n),
+            Err(failed) => Ok(failed.count),
+        },
         Err(error) => {
             eprintln!(rt; "{path}: {error}")?;
             Ok(0)
@@ -173,16 +139,12 @@ fn is_there(rt: &impl Env, i: usize) -> bool {
 
 // Writes an answer's line; a second one gives the fields and the path at a refusal by the state.
 fn write_lines(rt: &impl Print, answer: Answer, plan: &mut [u8]) -> io::Result<()> {
-    write_answer(rt, answer, plan)?;
-    let outcome = answer.outcome;
-    match outcome {
-        Outcome::ByState(_) => {
-            print!(rt; "  at ")?;
-            write_fields(rt, answer, plan)
-        }
-        Outcome::Verdict(_) => Ok(()),
-        Outcome::ByInput(_) => Ok(()),
+    let steps = plan_part(plan, answer.length);
+    println!(rt; "{}", Line { answer, steps })?;
+    if let Err(Refusal::ByState(_)) = answer.outcome {
+        println!(rt; "  at {}", AllFields { answer, steps })?;
     }
+    Ok(())
 }
 
 // Plans a model with these buffers, and writes its lines.
@@ -278,8 +240,8 @@ fn write_case(
 ) -> io::Result<()>
     requires { i < 2 ^ 32 }
 {
-    let bytes = least(argument(rt, i + 5) as usize, plan.len());
-    let lent = least(argument(rt, i + 6) as usize, words.len());
+    let bytes = plan.len().min(argument(rt, i + 5) as usize);
+    let lent = words.len().min(argument(rt, i + 6) as usize);
     write_with(rt, i, model, &mut plan[..bytes], &mut words[..lent])
 }
 
@@ -306,13 +268,11 @@ fn write_longest(rt: &impl Print, words: &mut [u64]) -> io::Result<()> {
 
 fn main(rt: HostRuntime) -> io::Result<()> {
     let mut words = [0u64; 300000];
-    let mut i: usize = 1;
-    while i < 65536 {
+    for i in (1..65536).step_by(ARGUMENTS) {
         if !is_there(&rt, i) {
             break;
         }
         run_case(&rt, i, &mut words)?;
-        i += ARGUMENTS;
     }
     write_longest(&rt, &mut words)
 }

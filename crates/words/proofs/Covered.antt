@@ -2,23 +2,21 @@
 use mathlib.Core.Path.{◌≡◌, ap, ◌∙◌}
 use mathlib.Core.List.{List}
 use Prim.Native.Nat.{ℕ, suc, ◌+◌, ◌*◌, ◌<◌, ◌≤◌}
-use native.Mathlib.Nat.{add-mul, mul_assoc, mul_comm, mul-le-mul_left, mul-le-mul_right, lt_of_le_of_lt}
+use native.Mathlib.Nat.{add-mul, mul_assoc, mul_comm, mul-le-mul_left, mul-le-mul_right}
 use native.Mathlib.Omega.{arith}
-use lib.Count.{count_trailing_zeros}
 use lib.ListN.{length}
+use Rattle.laws.specs.Lists.{All}
 use Rattle.model.specs.Sets.{members}
 use Rattle.model.specs.Meaning.{sum_over}
 use Rattle.words.specs.Tables.{integer_at, cell_at, entry_in, columns_of, cells_of, at_of, Spaced, Covered}
 use Rattle.words.proofs.Entries.{entry_there}
-use Rattle.words.proofs.Members.{zeros_below}
+use Rattle.words.proofs.Members.{members_all}
 use Rattle.words.proofs.Sums.{sum_agrees}
 
--- the integer of the least member that is left
-pub spaced_there : {bytes : List ℕ} {s first stride : ℕ} → Spaced bytes s first stride → (left : ℕ) → left ≤ s → 0 < left → first + stride * count_trailing_zeros 64 left + 4 ≤ length bytes
-spaced_there {stride = stride} p left h more =
-    let below : count_trailing_zeros 64 left < suc p.last = zeros_below 64 (suc p.last) left (lt_of_le_of_lt h p.members_to) more in
-    let upto : count_trailing_zeros 64 left ≤ p.last = omega arith in
-    omega (arith, mul-le-mul_left stride upto, p.bytes_to)
+-- the integer of each member is there
+pub spaced_all : {bytes : List ℕ} {s first stride : ℕ} → Spaced bytes s first stride → All (λ i. first + stride * i + 4 ≤ length bytes) (members s)
+spaced_all {s = s} {stride = stride} p =
+    members_all _ (suc p.last) s p.members_to (λ i h. let upto : i ≤ p.last = omega arith in omega (arith, mul-le-mul_left stride upto, p.bytes_to))
 
 -- a column's integers stand at equal steps
 step : (at columns from j i : ℕ) → at + 5 * (from * columns + j) + 1 + 5 * columns * i ≡ at + 5 * ((from + i) * columns + j) + 1

@@ -11,6 +11,7 @@ use lib.Bits.{bit_and, and_step, and_self, and_le_r}
 use lib.Count.{ones, ones_step, ones-le, count_leading_zeros, leading_top, count_trailing_zeros}
 use lib.Pow.{pow_mono}
 use mathlib.Core.Bool.{false}
+use Rattle.laws.specs.Lists.{All}
 use Rattle.model.specs.Sets.{is_member, cons_if, members_from, members}
 
 pub half_lt : (n s : ℕ) → s < 2 ^ suc n → s / 2 < 2 ^ n
@@ -69,7 +70,28 @@ members_count n s h = rw (members_within n s h) (from_count n 0 s h)
 pub members_most : (n s : ℕ) → s < 2 ^ n → length (members s) ≤ n
 members_most n s h = rw (members_count n s h) (ones-le n s h)
 
+-- ---- each member is below n
+
+cons_below : (P : ℕ → Type 0) (d k : ℕ) (l : List ℕ) → P k → All P l → All P (cons_if d k l)
+unfolding cons_if
+cons_below P zero k l h a = a
+cons_below P (suc d) k l h a = (h, a)
+
+from_below : (P : ℕ → Type 0) (n k s : ℕ) → ((i : ℕ) → i < k + n → P i) → All P (members_from n k s)
+unfolding members_from
+from_below P zero k s h = tt
+from_below P (suc n) k s h = rw (from_step n k s) (cons_below P (s % 2) k (members_from n (suc k) (s / 2)) (h k (omega arith)) (from_below P n (suc k) (s / 2) (λ i l. h i (omega arith))))
+
+-- what holds of each object below n holds of each member of a set of n objects
+pub members_all : (P : ℕ → Type 0) (n s : ℕ) → s < 2 ^ n → ((i : ℕ) → i < n → P i) → All P (members s)
+members_all P n s h each = rw (members_within n s h) (from_below P n 0 s (λ i l. each i (omega arith)))
+
 -- ---- the walk, least member first
+
+-- no member of the empty set
+pub members_none : members 0 ≡ []
+unfolding members members_from
+members_none = refl
 
 even_and : (s : ℕ) → s % 2 ≡ 0 → 0 < s → bit_and s (s - 1) ≡ bit_and (s / 2) (s / 2 - 1) * 2
 even_and s e p =
@@ -98,17 +120,6 @@ from_lowest (suc n) k s h p =
     ∙ ap (λ (j : ℕ). j ∷ members_from n (suc k) (bit_and (s / 2) (s / 2 - 1))) (omega arith)))
     (λ e. rw (from_step n k s, from_step n k (bit_and s (s - 1)), odd_and s e, double_half, double_even, e)
     (ap (λ (j : ℕ). j ∷ members_from n (suc k) (s / 2)) (omega arith)))
-    (two_cases (s % 2) (mod-lt s (omega arith)))
-
--- a number below 2^m that is not 0 has fewer than m zeros at its end, however many digits are looked at
-pub zeros_below : (n m s : ℕ) → s < 2 ^ m → 0 < s → count_trailing_zeros n s < m
-unfolding count_trailing_zeros
-zeros_below n zero s h p = let z : ⊥ = omega arith in absurd z
-zeros_below zero (suc m) s h p = omega arith
-zeros_below (suc n) (suc m) s h p =
-    ⊎_elim
-    (λ e. rw e (omega (arith, zeros_below n m (s / 2) (half_lt m s h) (omega arith))))
-    (λ e. rw e (omega arith))
     (two_cases (s % 2) (mod-lt s (omega arith)))
 
 pub and_falls : (s : ℕ) → 0 < s → bit_and s (s - 1) < s

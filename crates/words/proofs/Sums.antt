@@ -1,54 +1,45 @@
--- The sum over a set's members, as a loop makes it that takes the least member off each time, and from two halves.
+-- The sum over a set's members, as a loop makes it that goes through them, and from two halves.
 use mathlib.Core.Path.{◌≡◌, refl, ap, sym, ◌∙◌}
-use mathlib.Core.List.{List, ◌∷◌}
-use Prim.Native.Nat.{ℕ, zero, suc, ◌+◌, ◌-◌, ◌*◌, ◌/◌, ◌%◌, ◌^◌, ◌<◌, ◌≤◌}
-use native.Mathlib.Nat.{zero-add, lt_of_lt_of_le}
+use mathlib.Core.List.{List, [], ◌∷◌}
+use Prim.Native.Nat.{ℕ, zero, suc, ◌+◌, ◌*◌, ◌/◌, ◌%◌, ◌^◌, ◌<◌, ◌≤◌}
+use native.Mathlib.Nat.{zero-add}
 use native.Mathlib.Omega.{arith}
 use lib.ListN.{length}
 use lib.IntN.{ℤ, pos, ◌+ℤ◌, +ℤ_assoc, +ℤ_idl, +ℤ_idr}
 use lib.Signed.{mag}
-use lib.Bits.{bit_and}
-use lib.Pow.{pow_mono}
-use lib.Count.{count_trailing_zeros}
 use mir.Syntax.{w64}
 use mir.Val.{SFits}
 use Rattle.model.specs.Numbers.{range_end}
 use Rattle.model.specs.Sets.{cons_if, members_from, members}
 use Rattle.model.specs.Meaning.{sum_over}
 use Rattle.words.proofs.Integers.{mag_sum}
-use Rattle.words.proofs.Members.{from_step, members_within, members_most, members_lowest, and_falls}
+use Rattle.words.proofs.Members.{from_step, members_within, members_most}
 use Rattle.words.proofs.Parts.{sum_by_parts}
 
 -- z and the sum over what is left make the sum over s, a set of n objects; each member that is left adds less than the range's end
-pub record Sofar (n : ℕ) (f : ℕ → ℤ) (s left : ℕ) (z : ℤ) : Type 0 where
-  pub word : left < 2 ^ n
-  pub total : z +ℤ sum_over f (members left) ≡ sum_over f (members s)
-  pub size : mag z + range_end * length (members left) ≤ n * range_end
+pub record Sofar (n : ℕ) (f : ℕ → ℤ) (s : ℕ) (left : List ℕ) (z : ℤ) : Type 0 where
+  pub total : z +ℤ sum_over f left ≡ sum_over f (members s)
+  pub size : mag z + range_end * length left ≤ n * range_end
 
-pub begin : (n : ℕ) (f : ℕ → ℤ) (s : ℕ) → s < 2 ^ n → Sofar n f s s (pos 0)
-begin n f s h = record { word = h; total = +ℤ_idl _; size = omega (arith, members_most n s h) }
+pub begin : (n : ℕ) (f : ℕ → ℤ) (s : ℕ) → s < 2 ^ n → Sofar n f s (members s) (pos 0)
+begin n f s h = record { total = +ℤ_idl _; size = omega (arith, members_most n s h) }
 
--- one turn: e is what the least member that is left adds
-module _ {n : ℕ} {f : ℕ → ℤ} {s left : ℕ} {z e : ℤ} (few : n ≤ 64) (so : Sofar n f s left z) (more : 0 < left) (is : e ≡ f (count_trailing_zeros 64 left)) (small : mag e < range_end) where
-  split : members left ≡ count_trailing_zeros 64 left ∷ members (bit_and left (left - 1))
-  split = members_lowest 64 left (lt_of_lt_of_le so.word (pow_mono few)) more
-
+-- one turn: e is what the next member adds
+module _ {n : ℕ} {f : ℕ → ℤ} {s k : ℕ} {left rest : List ℕ} {z e : ℤ} (few : n ≤ 64) (so : Sofar n f s left z) (split : left ≡ k ∷ rest) (is : e ≡ f k) (small : mag e < range_end) where
   pub more_fits : SFits w64 (z +ℤ e)
   more_fits = record { sfits = omega (arith, so.size, mag_sum z e) }
 
-  pub one_further : Sofar n f s (bit_and left (left - 1)) (z +ℤ e)
+  pub one_further : Sofar n f s rest (z +ℤ e)
   unfolding sum_over
   one_further =
-      let rest = sum_over f (members (bit_and left (left - 1))) in
       record {
-        word = omega (arith, so.word, and_falls left more);
-        total = +ℤ_assoc z e rest ∙ ap (λ (x : ℤ). z +ℤ (x +ℤ rest)) is ∙ (rw split at so.total);
+        total = +ℤ_assoc z e (sum_over f rest) ∙ ap (λ (x : ℤ). z +ℤ (x +ℤ sum_over f rest)) is ∙ (rw split at so.total);
         size = omega (arith, so.size, ap length split, mag_sum z e);
       }
 
-pub done : (n : ℕ) (f : ℕ → ℤ) (s : ℕ) (z : ℤ) → Sofar n f s 0 z → (z ≡ sum_over f (members s)) × (mag z ≤ n * range_end)
-unfolding sum_over members members_from
-done n f s z so = (sym (+ℤ_idr z) ∙ so.total, omega (arith, so.size))
+pub done : (n : ℕ) (f : ℕ → ℤ) (s : ℕ) (left : List ℕ) (z : ℤ) → left ≡ [] → Sofar n f s left z → (z ≡ sum_over f (members s)) × (mag z ≤ n * range_end)
+unfolding sum_over
+done n f s left z none so = (sym (+ℤ_idr z) ∙ (rw none at so.total), omega (arith, so.size))
 
 -- ---- two functions that agree on the members
 

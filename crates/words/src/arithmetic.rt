@@ -12,10 +12,7 @@ use crate::sizes::{RANGE_END, RANGE_SIZE, RANGE_START};
 pub fn in_range(z: i64) -> bool
     ensures { result ≡ ltb (mag z) range_end }
 {
-    if z < RANGE_START {
-        return false;
-    }
-    z < RANGE_END
+    RANGE_START <= z && z < RANGE_END
 }
 
 // The sum of two numbers in range.

@@ -1,6 +1,7 @@
 // Sets of the objects below 64, a word each: bit k for object k.
 
 ghost use Rattle.std.specs.Prelude.{◌≡◌, ◌≤◌, ◌<◌, ◌^◌, length};
+ghost use Rattle.std.specs.Iterator.{YieldsFirst, item_count};
 ghost use Rattle.model.specs.Numbers.{most_objects};
 ghost use Rattle.model.specs.Sets as Sets;
 ghost use Rattle.words.specs.FullSets.{full_of};
@@ -18,10 +19,7 @@ pub fn count(s: u64) -> u64
 pub fn is_member(k: u64, s: u64) -> bool
     ensures { result ≡ Sets.is_member k s }
 {
-    if MOST_OBJECTS <= k {
-        return false;
-    }
-    (s >> k) % 2 == 1
+    k < MOST_OBJECTS && (s >> k) % 2 == 1
 }
 
 // The set of object k alone.
@@ -33,6 +31,7 @@ pub fn single(k: u64) -> u64
 }
 
 // The members of s or of t.
+#[tactic(auto, unfolding(model::specs::Sets::union))]
 pub fn union(s: u64, t: u64) -> u64
     ensures { result ≡ Sets.union s t }
 {
@@ -40,6 +39,7 @@ pub fn union(s: u64, t: u64) -> u64
 }
 
 // The members of both s and t.
+#[tactic(auto, unfolding(model::specs::Sets::intersection))]
 pub fn intersection(s: u64, t: u64) -> u64
     ensures { result ≡ Sets.intersection s t }
 {
@@ -47,6 +47,7 @@ pub fn intersection(s: u64, t: u64) -> u64
 }
 
 // The members of s that are not in t.
+#[tactic(auto, unfolding(model::specs::Sets::difference))]
 pub fn difference(s: u64, t: u64) -> u64
     ensures { result ≡ Sets.difference s t }
 {
@@ -54,10 +55,42 @@ pub fn difference(s: u64, t: u64) -> u64
 }
 
 // Whether every member of s is in t.
+#[tactic(auto, unfolding(model::specs::Sets::is_subset))]
 pub fn is_subset(s: u64, t: u64) -> bool
     ensures { result ≡ Sets.is_subset s t }
 {
     s & t == s
+}
+
+// The members of a set that are still to come, the least first.
+#[derive(Drop)]
+pub struct LeastFirst {
+    left: u64,
+}
+
+impl Iterator for LeastFirst {
+    type Item = u64;
+
+    ghost next_gives = { YieldsFirst (λ i. Sets.members i.left) };
+
+    ghost remaining = { item_count (λ i. Sets.members i.left) };
+
+    // The least member, which is taken off.
+    fn next(&mut self) -> Option<u64> {
+        if self.left == 0 {
+            return None;
+        }
+        let k = u64::trailing_zeros(self.left) as u64;
+        self.left = self.left & (self.left - 1);
+        Some(k)
+    }
+}
+
+// The members of s, one after the other.
+pub fn members(s: u64) -> LeastFirst
+    ensures { result.left ≡ s }
+{
+    LeastFirst { left: s }
 }
 
 // The full sets: entry n is the set of the first n objects.

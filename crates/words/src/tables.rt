@@ -3,12 +3,12 @@
 ghost use Rattle.std.specs.Prelude.{◌≡◌, true, ◌+◌, ◌*◌, ◌^◌, ◌≤◌, ◌<◌};
 ghost use Rattle.std.specs.Int.Signed.{mag};
 ghost use Rattle.model.specs.Numbers.{most_objects, range_end};
-ghost use Rattle.model.specs.Sets.{members};
+ghost use Rattle.model.specs.Sets as Sets;
 ghost use Rattle.model.specs.Meaning.{sum_over};
 ghost use Rattle.words.specs.Tables.{integer_at, cell_at, entry_in, columns_of, cells_of, at_of, column_sum, half, Spaced, SomeOfHalf, Covered};
 
 use crate::literals::integer;
-use crate::sets::difference;
+use crate::sets::{difference, members};
 use crate::sizes::{HALF, HALF_SETS};
 
 // The entry in cell k of the table whose entries begin at `at`.
@@ -38,14 +38,11 @@ pub fn entry(model: &[u8], table: u64, i: u64, j: u64) -> i64
 // The sum of the integers at first + stride * i, for the members i of s, with no test on the way. It may leave the range.
 fn summed(model: &[u8], s: u64, first: usize, stride: usize) -> i64
     requires { (s < 2 ^ half) × (Spaced model.now s first stride) }
-    ensures { (result ≡ sum_over (λ i. integer_at model.now (first + stride * i)) (members s)) × (mag result ≤ half * range_end) }
+    ensures { (result ≡ sum_over (λ i. integer_at model.now (first + stride * i)) (Sets.members s)) × (mag result ≤ half * range_end) }
 {
-    let mut left = s;
     let mut sum: i64 = 0;
-    while left != 0 {
-        let i = u64::trailing_zeros(left) as usize;
-        sum += integer(&model[first + stride * i..]);
-        left = left & (left - 1);
+    for i in members(s) {
+        sum += integer(&model[first + stride * i as usize..]);
     }
     sum
 }
@@ -57,17 +54,16 @@ fn covers(model: &[u8], table: u64, s: u64, from: u64, j: u64) -> bool
 {
     let last = 63 - (u64::leading_zeros(s) as u64);
     let cells = table / 128 % 8192;
-    if (from + last) * (table % 128) + j < cells {
-        return table / 1048576 % 131072 + 5 * cells <= model.len() as u64;
-    }
-    false
+    (from + last) * (table % 128) + j < cells
+        && table / 1048576 % 131072 + 5 * cells <= model.len() as u64
 }
 
 // The sum of the entries in column j at the rows from + i, for the members i of s, each asked for. It may leave the range.
 fn walked_far(model: &[u8], table: u64, s: u64, from: u64, j: u64) -> i64
     requires { (s < 2 ^ half) × (from ≤ half) × (j < most_objects) }
-    ensures { (result ≡ sum_over (λ i. entry_in model.now (at_of table) (columns_of table) (cells_of table) (from + i) j) (members s)) × (mag result ≤ half * range_end) }
+    ensures { (result ≡ sum_over (λ i. entry_in model.now (at_of table) (columns_of table) (cells_of table) (from + i) j) (Sets.members s)) × (mag result ≤ half * range_end) }
 {
+    // A `for` over members(s), as in `summed` and `few`, takes a tenth longer here.
     let mut left = s;
     let mut sum: i64 = 0;
     while left != 0 {
@@ -81,7 +77,7 @@ fn walked_far(model: &[u8], table: u64, s: u64, from: u64, j: u64) -> i64
 // The sum of the entries in column j at the rows from + i, for the members i of s. It may leave the range.
 fn walked(model: &[u8], table: u64, s: u64, from: u64, j: u64) -> i64
     requires { (s < 2 ^ half) × (from ≤ half) × (j < most_objects) }
-    ensures { (result ≡ sum_over (λ i. entry_in model.now (at_of table) (columns_of table) (cells_of table) (from + i) j) (members s)) × (mag result ≤ half * range_end) }
+    ensures { (result ≡ sum_over (λ i. entry_in model.now (at_of table) (columns_of table) (cells_of table) (from + i) j) (Sets.members s)) × (mag result ≤ half * range_end) }
 {
     if s == 0 {
         return 0;
@@ -110,11 +106,9 @@ fn few(model: &[u8], table: u64, s: u64, j: u64) -> i64
     requires { j < most_objects }
     ensures { (result ≡ column_sum model.now table s j) × (mag result ≤ most_objects * range_end) }
 {
-    let mut left = s;
     let mut sum: i64 = 0;
-    while left != 0 {
-        sum += entry(model, table, u64::trailing_zeros(left) as u64, j);
-        left = left & (left - 1);
+    for i in members(s) {
+        sum += entry(model, table, i, j);
     }
     sum
 }

@@ -13,4 +13,4 @@ pub loop-i-preserved : goal.loop-i-preserved
 loop-i-preserved c =
     let l = c.loop-i in
     let e : length l.order ≡ length c.args.order.now = l.invariant.1.0 in
-    (simp length-set (omega arith), (simp length-set l.invariant.1.0, fill_more l.order l.i c.loop-i-test.true l.invariant.1.1))
+    (simp length-set (omega arith), (simp length-set l.invariant.1.0, fill_more l.order l.i (omega arith) l.invariant.1.1))

@@ -2,7 +2,7 @@
 use mathlib.Core.Path.{◌∙◌}
 use native.Mathlib.Omega.{arith}
 use lib.ListN.{length-set}
-use Rattle.beam_order.proofs.Arrays.{insert_more, insert_end}
+use Rattle.beam_order.proofs.Shifts.{insert_more, insert_end}
 use Rattle.beam_order.proofs.insert_at.Goals as goal
 
 pub loop-j-preserved : goal.loop-j-preserved

@@ -2,7 +2,7 @@
 use mathlib.Core.Path.{refl, ◌∙◌}
 use native.Mathlib.Omega.{arith}
 use lib.ListN.{length-set}
-use Rattle.beam_order.proofs.Arrays.{remove_start, remove_more, remove_end}
+use Rattle.beam_order.proofs.Shifts.{remove_start, remove_more, remove_end}
 use Rattle.beam_order.proofs.remove_at.Goals as goal
 
 pub loop-j-init : goal.loop-j-init

@@ -3,7 +3,7 @@ use Prim.Native.Nat.{◌-◌, ◌≤◌, ◌<◌}
 use mathlib.Core.Path.{◌≡◌}
 use lib.ListN.{length}
 use Rattle.beam_order.specs.Order.{removed}
-use Rattle.beam_order.proofs.Arrays.{removing}
+use Rattle.beam_order.proofs.Shifts.{removing}
 use Rattle.beam_order.proofs.remove_at.Given as goal
 
 abbrev pub invariant-loop-j : goal.invariant-loop-j

@@ -1,5 +1,5 @@
 -- `beam_widths::built_in` meets its contract. The invariant: W is not among the widths passed.
-use Prim.Native.Nat.{◌-◌, ◌≤◌}
+use Prim.Native.Nat.{◌≤◌}
 use mathlib.Core.Path.{◌≡◌}
 use lib.ListN.{drop}
 use Rattle.search.specs.Run.{is_width}
@@ -8,6 +8,3 @@ use Rattle.beam_widths.proofs.built_in.Given as goal
 
 abbrev pub invariant-loop-place : goal.invariant-loop-place
 invariant-loop-place l = (l.place ≤ 13) × (is_width l.width ≡ among l.width (drop l.place widths))
-
-abbrev pub decreases-loop-place : goal.decreases-loop-place
-decreases-loop-place l = 13 - l.place

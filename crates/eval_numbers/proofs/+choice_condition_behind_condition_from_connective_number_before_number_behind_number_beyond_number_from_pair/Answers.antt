@@ -1,7 +1,7 @@
 -- The evaluators of numbers and conditions, which call each other, meet their contracts.
-use Rattle.std.proofs.Common.{◌≡◌, ◌+◌, ◌-◌, ◌^◌, ◌<◌, ◌≤◌, drop, length, length-drop, refl, sym, ◌∙◌, arith, rules, w64}
+use Rattle.std.proofs.Common.{◌≡◌, ◌+◌, ◌-◌, ◌^◌, ◌<◌, ◌≤◌, drop, length, length-drop, refl, sym, ◌∙◌, arith, rules, w64, Ok}
+use Rattle.std.proofs.lemmas.Result.{err_from_is_err_and}
 use mir.Val.{SFits}
-use Rattle.eval_sets.specs.declared.answers.NumberValue.TheVariants as N
 use Rattle.eval_sets.specs.declared.answers.ConditionValue.TheVariants as C
 use Rattle.eval_sets.specs.Forms.{number_form, condition_form}
 use Rattle.eval_sets.specs.Runs.{Environment, environment, run_number, run_condition, number_at, condition_at, number_behind, condition_behind, run_pair, pair_first, pair_second, number_before, chosen, run_choice, choice_first, run_connective, connective_first, decided}
@@ -164,37 +164,39 @@ connective-returns-in-Trouble t c = rw (← c.condition_from.ensures, c.in-Troub
 
 pub number_before-overflow_add-k : goal.number_before-overflow_add-k
 number_before-overflow_add-k t c =
-    let read : run_number c.args.depth (environment c.args.model.now c.args.state.now c.args.outline.now) (drop (c.args.at + c.args.n) c.args.e.now) ≡ N.Value c.in-Value.z c.in-Value.m = sym c.number_from.ensures ∙ c.in-Value.is in
-    let ends : c.args.n + c.in-Value.m ≤ length c.args.e.now - c.args.at = omega (arith, c.requires, length-drop c.args.at c.args.e.now, number_past _ _ (c.args.at + c.args.n) c.args.e.now _ _ read) in
+    let read : run_number c.args.depth (environment c.args.model.now c.args.state.now c.args.outline.now) (drop (c.args.at + c.args.n) c.args.e.now) ≡ Ok c.in_ok-z.z = sym c.number_from.ensures ∙ c.in_ok-z.was in
+    let ends : c.args.n + c.in_ok-z.z.used ≤ length c.args.e.now - c.args.at = omega (arith, c.requires, length-drop c.args.at c.args.e.now, number_past _ _ (c.args.at + c.args.n) c.args.e.now read) in
     omega arith
 
-pub number_before-overflow_add-at-in-Value : goal.number_before-overflow_add-at-in-Value
-number_before-overflow_add-at-in-Value t c =
-    let read : run_number c.args.depth (environment c.args.model.now c.args.state.now c.args.outline.now) (drop (c.args.at + c.args.n) c.args.e.now) ≡ N.Value c.in-Value.z c.in-Value.m = sym c.number_from.ensures ∙ c.in-Value.is in
-    let ends : c.args.n + c.in-Value.m ≤ length c.args.e.now - c.args.at = omega (arith, c.requires, length-drop c.args.at c.args.e.now, number_past _ _ (c.args.at + c.args.n) c.args.e.now _ _ read) in
+pub number_before-overflow_add-at-2 : goal.number_before-overflow_add-at-2
+number_before-overflow_add-at-2 t c =
+    let read : run_number c.args.depth (environment c.args.model.now c.args.state.now c.args.outline.now) (drop (c.args.at + c.args.n) c.args.e.now) ≡ Ok c.in_ok-z.z = sym c.number_from.ensures ∙ c.in_ok-z.was in
+    let ends : c.args.n + c.in_ok-z.z.used ≤ length c.args.e.now - c.args.at = omega (arith, c.requires, length-drop c.args.at c.args.e.now, number_past _ _ (c.args.at + c.args.n) c.args.e.now read) in
     omega arith
 
 pub number_before-overflow_add-used : goal.number_before-overflow_add-used
 number_before-overflow_add-used t c =
-    let read : run_number c.args.depth (environment c.args.model.now c.args.state.now c.args.outline.now) (drop (c.args.at + c.args.n) c.args.e.now) ≡ N.Value c.in-Value.z c.in-Value.m = sym c.number_from.ensures ∙ c.in-Value.is in
-    let ends : c.args.n + c.in-Value.m ≤ length c.args.e.now - c.args.at = omega (arith, c.requires, length-drop c.args.at c.args.e.now, number_past _ _ (c.args.at + c.args.n) c.args.e.now _ _ read) in
+    let read : run_number c.args.depth (environment c.args.model.now c.args.state.now c.args.outline.now) (drop (c.args.at + c.args.n) c.args.e.now) ≡ Ok c.in_ok-z.z = sym c.number_from.ensures ∙ c.in_ok-z.was in
+    let ends : c.args.n + c.in_ok-z.z.used ≤ length c.args.e.now - c.args.at = omega (arith, c.requires, length-drop c.args.at c.args.e.now, number_past _ _ (c.args.at + c.args.n) c.args.e.now read) in
     omega (
       arith,
       rw c.after.ensures at c.skip.ensures,
-      span_within (drop (c.args.at + (c.args.n + c.in-Value.m)) c.args.e.now) 0 1,
-      length-drop (c.args.at + (c.args.n + c.in-Value.m)) c.args.e.now,
+      span_within (drop (c.args.at + (c.args.n + c.in_ok-z.z.used)) c.args.e.now) 0 1,
+      length-drop (c.args.at + (c.args.n + c.in_ok-z.z.used)) c.args.e.now,
     )
 
-pub number_before-returns-in-Value : goal.number_before-returns-in-Value
+pub number_before-returns : goal.number_before-returns
 unfolding number_before
-number_before-returns-in-Value t c =
-    let read : run_number c.args.depth (environment c.args.model.now c.args.state.now c.args.outline.now) (drop (c.args.at + c.args.n) c.args.e.now) ≡ N.Value c.in-Value.z c.in-Value.m = sym c.number_from.ensures ∙ c.in-Value.is in
-    let f : SFits w64 c.in-Value.z = search rules in
-    rw (back f, ← behind c.args.at c.args.n c.args.e.now, read, c.skip.ensures, c.after.ensures, behind c.args.at (c.args.n + c.in-Value.m) c.args.e.now)
+number_before-returns t c =
+    let read : run_number c.args.depth (environment c.args.model.now c.args.state.now c.args.outline.now) (drop (c.args.at + c.args.n) c.args.e.now) ≡ Ok c.in_ok-z.z = sym c.number_from.ensures ∙ c.in_ok-z.was in
+    let f : SFits w64 c.in_ok-z.z.value = search rules in
+    rw (back f, ← behind c.args.at c.args.n c.args.e.now, read, c.skip.ensures, c.after.ensures, behind c.args.at (c.args.n + c.in_ok-z.z.used) c.args.e.now)
 
-pub number_before-returns-in-Trouble : goal.number_before-returns-in-Trouble
+pub number_before-returns-in_err-z : goal.number_before-returns-in_err-z
 unfolding number_before
-number_before-returns-in-Trouble t c = rw (← behind c.args.at c.args.n c.args.e.now, ← c.number_from.ensures, c.in-Trouble.is)
+number_before-returns-in_err-z t c =
+    let p = err_from_is_err_and c.from_residual.result c.from_residual.ensures.1 in
+    rw (p.1, p.2, ← behind c.args.at c.args.n c.args.e.now, ← c.number_from.ensures, c.in_err-z.was)
 
 -- ---- `number_behind`
 
@@ -340,30 +342,33 @@ number_from-returns t c =
 
 pub pair-overflow_add-at : goal.pair-overflow_add-at
 pair-overflow_add-at t c =
-    let read : run_number c.args.depth (environment c.args.model.now c.args.state.now c.args.outline.now) (drop c.args.at c.args.e.now) ≡ N.Value c.in-Value.x c.in-Value.n = sym c.number_from.ensures ∙ c.in-Value.is in
-    let ends : c.in-Value.n ≤ length c.args.e.now - c.args.at = number_past _ _ c.args.at c.args.e.now _ _ read in
+    let read : run_number c.args.depth (environment c.args.model.now c.args.state.now c.args.outline.now) (drop c.args.at c.args.e.now) ≡ Ok c.in_ok-x.x = sym c.number_from.ensures ∙ c.in_ok-x.was in
+    let ends : c.in_ok-x.x.used ≤ length c.args.e.now - c.args.at = number_past _ _ c.args.at c.args.e.now read in
     omega arith
 
-pub pair-overflow_add-used : goal.pair-overflow_add-used
-pair-overflow_add-used t c =
-    let read : run_number c.args.depth (environment c.args.model.now c.args.state.now c.args.outline.now) (drop c.args.at c.args.e.now) ≡ N.Value c.in-Value.x c.in-Value.n = sym c.number_from.ensures ∙ c.in-Value.is in
-    let ends : c.in-Value.n ≤ length c.args.e.now - c.args.at = number_past _ _ c.args.at c.args.e.now _ _ read in
-    omega (arith, number_past _ _ (c.args.at + c.in-Value.n) c.args.e.now _ _ (sym c.number_from-in-Value.ensures ∙ c.in-Value-number_from.is))
+pub pair-overflow_add-result : goal.pair-overflow_add-result
+pair-overflow_add-result t c =
+    let read : run_number c.args.depth (environment c.args.model.now c.args.state.now c.args.outline.now) (drop c.args.at c.args.e.now) ≡ Ok c.in_ok-x.x = sym c.number_from.ensures ∙ c.in_ok-x.was in
+    let ends : c.in_ok-x.x.used ≤ length c.args.e.now - c.args.at = number_past _ _ c.args.at c.args.e.now read in
+    omega (arith, number_past _ _ (c.args.at + c.in_ok-x.x.used) c.args.e.now (sym c.number_from-2.ensures ∙ c.in_ok-y.was))
 
-pub pair-returns-in-Value-number_from : goal.pair-returns-in-Value-number_from
+pub pair-returns : goal.pair-returns
 unfolding run_pair pair_first pair_second
-pair-returns-in-Value-number_from t c =
-    let read : run_number c.args.depth (environment c.args.model.now c.args.state.now c.args.outline.now) (drop c.args.at c.args.e.now) ≡ N.Value c.in-Value.x c.in-Value.n = sym c.number_from.ensures ∙ c.in-Value.is in
-    let f : SFits w64 c.in-Value.x = search rules in
-    let g : SFits w64 c.in-Value-number_from.y = search rules in
-    rw (back f, back g, read, ← behind _ _ _, ← c.number_from-in-Value.ensures, c.in-Value-number_from.is)
+pair-returns t c =
+    let read : run_number c.args.depth (environment c.args.model.now c.args.state.now c.args.outline.now) (drop c.args.at c.args.e.now) ≡ Ok c.in_ok-x.x = sym c.number_from.ensures ∙ c.in_ok-x.was in
+    let f : SFits w64 c.in_ok-x.x.value = search rules in
+    let g : SFits w64 c.in_ok-y.y.value = search rules in
+    rw (back f, back g, read, ← behind _ _ _, ← c.number_from-2.ensures, c.in_ok-y.was)
 
-pub pair-returns-in-Trouble-number_from : goal.pair-returns-in-Trouble-number_from
+pub pair-returns-in_err-y : goal.pair-returns-in_err-y
 unfolding run_pair pair_first pair_second
-pair-returns-in-Trouble-number_from t c =
-    let read : run_number c.args.depth (environment c.args.model.now c.args.state.now c.args.outline.now) (drop c.args.at c.args.e.now) ≡ N.Value c.in-Value.x c.in-Value.n = sym c.number_from.ensures ∙ c.in-Value.is in
-    rw (read, ← behind _ _ _, ← c.number_from-in-Value.ensures, c.in-Trouble-number_from.is)
+pair-returns-in_err-y t c =
+    let read : run_number c.args.depth (environment c.args.model.now c.args.state.now c.args.outline.now) (drop c.args.at c.args.e.now) ≡ Ok c.in_ok-x.x = sym c.number_from.ensures ∙ c.in_ok-x.was in
+    let p = err_from_is_err_and c.from_residual-in_err-y.result c.from_residual-in_err-y.ensures.1 in
+    rw (p.1, p.2, read, ← behind _ _ _, ← c.number_from-2.ensures, c.in_err-y.was)
 
-pub pair-returns-in-Trouble : goal.pair-returns-in-Trouble
+pub pair-returns-in_err-x : goal.pair-returns-in_err-x
 unfolding run_pair pair_first
-pair-returns-in-Trouble t c = rw (← c.number_from.ensures, c.in-Trouble.is)
+pair-returns-in_err-x t c =
+    let p = err_from_is_err_and c.from_residual.result c.from_residual.ensures.1 in
+    rw (p.1, p.2, ← c.number_from.ensures, c.in_err-x.was)

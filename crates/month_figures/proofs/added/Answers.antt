@@ -9,4 +9,4 @@ overflow_add-result-9 c =
 
 pub returns : goal.returns
 returns c =
-    added_figures _ _ _ _ c.share_of-one.ensures c.greater-gap.ensures
+    added_figures _ _ _ _ c.share_of-one.ensures c.max.ensures

@@ -1,5 +1,4 @@
 -- `nested::leading` meets its contract. The invariant: what waits, and the part that comes next.
-use Prim.Native.Nat.{◌+◌}
 use mathlib.Core.Path.{refl, sym, ◌∙◌}
 use native.Mathlib.Omega.{arith}
 use borrow.Author.Rules.{rules}
@@ -7,9 +6,7 @@ use mir.Syntax.{w64}
 use mir.Val.{SFits}
 use Rattle.words.proofs.Integers.{back}
 use Rattle.cursor.specs.Places.{Begins}
-use Rattle.cursor.specs.Told.{NumberTo}
 use Rattle.cursor.proofs.NumberLaws.{operation_some}
-use Rattle.cursor_conditions.proofs.SumLaws.{below_silent}
 use Rattle.nested.proofs.Waiting.{operation_low, reads_start, reads_led}
 use Rattle.nested.proofs.leading.Goals as goal
 
@@ -29,6 +26,5 @@ overflow_add-waiting c =
 pub loop-n-preserved : goal.loop-n-preserved
 loop-n-preserved c =
     let begins : (Begins c.args.m.now.now c.loop-n.at c.first_byte-b.result) = c.first_byte-b.ensures.begins (operation_some c.first_byte-b.result (sym c.is_operation.ensures ∙ c.if-is_operation.true)) in
-    let part-is : (NumberTo c.args.m.now.now c.args.outline.now c.args.state.now (c.loop-n.at + 1) c.short_part-x.result c.short_part-x.new.at) = let f : SFits w64 c.short_part-x.result = search rules in c.short_part-x.ensures (below_silent c.short_part-x.result _ (rw (back f) at c.if-x-ge-SILENT.false)) in
-    let f : SFits w64 c.short_part-x.result = search rules in
-    reads_led _ _ _ _ _ _ _ _ _ c.loop-n.invariant refl (begins) (sym c.is_operation.ensures ∙ c.if-is_operation.true) c.if-n-eq-MOST_WAITING.false (part-is) (rw (back f) at c.biased.ensures.0) c.biased.ensures.1
+    let f : SFits w64 c.in-Some.x = search rules in
+    reads_led _ _ _ _ _ _ _ _ _ c.loop-n.invariant refl (begins) (sym c.is_operation.ensures ∙ c.if-is_operation.true) c.if-n-eq-MOST_WAITING.false c.in-Some.ensures (rw (back f) at c.biased.ensures.0) c.biased.ensures.1

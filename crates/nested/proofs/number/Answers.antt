@@ -6,9 +6,7 @@ use mir.Syntax.{w64}
 use mir.Val.{SFits}
 use Rattle.words.proofs.Integers.{back}
 use Rattle.cursor.specs.Places.{Begins}
-use Rattle.cursor.specs.Told.{NumberTo}
 use Rattle.cursor.proofs.NumberLaws.{operation_some}
-use Rattle.cursor_conditions.proofs.SumLaws.{below_silent}
 use Rattle.nested.proofs.Waiting.{some_used, reads_first, reads_second, reads_operation}
 use Rattle.nested.proofs.number.Goals as goal
 
@@ -19,9 +17,8 @@ loop-told-preserved-then-o-lt128 c =
 pub loop-told-preserved-else-o-lt128 : goal.loop-told-preserved-else-o-lt128
 loop-told-preserved-else-o-lt128 c =
     let f : SFits w64 c.signed_word.result = record { sfits = omega (arith, c.signed_word.ensures.1) } in
-    let g : SFits w64 c.operation-z.result = search rules in
-    let tells = rw (back f) at c.operation-z.ensures in
-    rw (back g) (reads_second _ _ _ _ _ _ c.loop-told.invariant.0 c.if-told.true c.if-n-eq0.false (λ l. absurd (omega (arith, l, c.if-o-lt128.false))) c.signed_word.ensures.0 tells (below_silent c.operation-z.result _ (rw (back g) at c.if-z-ge-SILENT.false)), c.loop-told.invariant.1)
+    let g : SFits w64 c.in_ok-z.z = search rules in
+    rw (back g) (reads_second _ _ _ _ _ _ c.loop-told.invariant.0 c.if-told.true c.if-n-eq0.false (λ l. absurd (omega (arith, l, c.if-o-lt128.false))) c.signed_word.ensures.0 (rw (back f, c.in_ok-z.was) at c.operation.ensures), c.loop-told.invariant.1)
 
 pub overflow_add-q : goal.overflow_add-q
 overflow_add-q c =
@@ -40,6 +37,5 @@ loop-told-preserved-then-is_operation c =
 
 pub loop-told-smaller : goal.loop-told-smaller
 loop-told-smaller c =
-    let part-is : (NumberTo c.args.m.now.now c.args.outline.now c.args.state.now c.loop-told.q c.part-z.result c.part-z.new.at) = let f : SFits w64 c.part-z.result = search rules in c.part-z.ensures.0 (below_silent c.part-z.result _ (rw (back f) at c.if-z-ge-SILENT-2.false)) in
-    let number = part-is in
+    let number = c.in_ok-z-2.ensures.0 in
     omega (arith, number.ends, number.is.there.inside, some_used _ _ _ _ _ _ number.is)

@@ -16,5 +16,5 @@ returns-then-stands c =
     let there : (Stands c.args.m.now.now c.args.at.now 2) = c.stands.ensures c.if-stands.true in
     let f : SFits w64 c.signed_word.result = record { sfits = omega (arith, c.signed_word.ensures.1) } in
     rw (back f)
-    (λ l. variable_is c.args.m.now.now c.args.outline.now c.args.state.now c.args.at.now c.signed_word.result (there) c.requires.byte
+    (variable_is c.args.m.now.now c.args.outline.now c.args.state.now c.args.at.now c.signed_word.result (there) c.requires.byte
     (c.signed_word.ensures.0 ∙ ap (λ (w : ℕ). pos (w % range_size) -ℤ pos range_end) c.word_at.ensures) c.signed_word.ensures.1)

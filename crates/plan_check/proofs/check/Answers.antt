@@ -1,11 +1,11 @@
 -- `plan_check::check` is the plan check's definition, test by test.
-use mathlib.Core.Path.{◌≡◌, sym, ◌∙◌}
+use mathlib.Core.Path.{sym, ◌∙◌}
 use native.Mathlib.Omega.{arith}
 use Prim.Native.Nat.{◌≤◌}
 use lib.ListN.{length}
 use borrow.Author.Tests.{leb-true, leb-false}
 use Rattle.model.specs.Numbers.{most_model_bytes}
-use Rattle.steps.specs.InBytes.{refusal_in}
+use Rattle.read_model.proofs.Refusals.{number_positive}
 use Rattle.plan_check.proofs.Tests.{check_long_model, check_long_plan, check_refused, check_read, told_same}
 use Rattle.plan_check.proofs.check.Goals as goal
 
@@ -14,16 +14,15 @@ returns-then-plan-gt-MOST_STEPS c =
     let short : length c.args.model.now ≤ most_model_bytes = leb-true (length c.args.model.now) most_model_bytes (sym c.length_fits.ensures ∙ c.if-length_fits.true) in
     told_same _ (check_long_plan _ _ (short) c.if-plan-gt-MOST_STEPS.true) c.refused_plan.ensures
 
-pub returns-then-refusal-eq0 : goal.returns-then-refusal-eq0
-returns-then-refusal-eq0 c =
+pub returns-in-Ok : goal.returns-in-Ok
+returns-in-Ok c =
     let short : length c.args.model.now ≤ most_model_bytes = leb-true (length c.args.model.now) most_model_bytes (sym c.length_fits.ensures ∙ c.if-length_fits.true) in
-    let none : 0 ≡ refusal_in c.args.model.now = sym c.if-refusal-eq0.true ∙ c.read_and_prepare-refusal.ensures.number in
-    told_same _ (check_read _ _ (short) c.if-plan-gt-MOST_STEPS.false none) c.follow.ensures
+    told_same _ (check_read _ _ (short) c.if-plan-gt-MOST_STEPS.false c.in-Ok.ensures.number) c.follow.ensures
 
-pub returns-then-length_fits : goal.returns-then-length_fits
-returns-then-length_fits c =
+pub returns-in-Err : goal.returns-in-Err
+returns-in-Err c =
     let short : length c.args.model.now ≤ most_model_bytes = leb-true (length c.args.model.now) most_model_bytes (sym c.length_fits.ensures ∙ c.if-length_fits.true) in
-    told_same _ (check_refused _ _ _ (short) c.if-plan-gt-MOST_STEPS.false c.read_and_prepare-refusal.ensures.number (omega (arith, c.if-refusal-eq0.false))) c.refused_plan-then-length_fits.ensures
+    told_same _ (check_refused _ _ _ (short) c.if-plan-gt-MOST_STEPS.false (c.number.ensures ∙ c.in-Err.ensures.number) (omega (arith, c.number.ensures, number_positive c.in-Err.refusal))) c.refused_plan-in-Err.ensures
 
 pub returns : goal.returns
 returns c =

@@ -9,12 +9,7 @@ use Rattle.outline.specs.Outline.{model_of}
 use Rattle.profile.proofs.Outlined.{length_told}
 use Rattle.profile.proofs.loading_length.Goals as goal
 
-pub returns-then-members-eq0 : goal.returns-then-members-eq0
-returns-then-members-eq0 c =
-    let counted : (loading_length (model_of c.args.model.now) ≡ max 1 c.count-members.result) = length_told _ _ c.requires.0 c.requires.1 ∙ ap (λ (w : ℕ). max 1 (length (members w))) (sym c.word_at.ensures) ∙ ap (max 1) (sym c.count-members.ensures.0) in
-    omega (arith, counted, c.if-members-eq0.true)
-
 pub returns : goal.returns
 returns c =
     let counted : (loading_length (model_of c.args.model.now) ≡ max 1 c.count-members.result) = length_told _ _ c.requires.0 c.requires.1 ∙ ap (λ (w : ℕ). max 1 (length (members w))) (sym c.word_at.ensures) ∙ ap (max 1) (sym c.count-members.ensures.0) in
-    omega (arith, counted, c.if-members-eq0.false)
+    omega (arith, counted, c.max.ensures)

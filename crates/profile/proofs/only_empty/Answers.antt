@@ -18,8 +18,8 @@ returns-then-asks_for_empty c =
 pub returns-else-asks_for_empty : goal.returns-else-asks_for_empty
 returns-else-asks_for_empty c =
     let here : get_or c.args.model.now c.args.at 0 ≡ 8 = sym c.byte_at.ensures ∙ c.if-byte_at-eq8.true in
-    another_condition _ _ (here) (rw (← c.after-e.ensures) (sym c.asks_for_empty.ensures ∙ c.if-asks_for_empty.false))
+    rw c.if-asks_for_empty.false (another_condition _ _ (here) (rw (← c.after-e.ensures) (sym c.asks_for_empty.ensures ∙ c.if-asks_for_empty.false)))
 
-pub returns-else-byte_at-eq8 : goal.returns-else-byte_at-eq8
-returns-else-byte_at-eq8 c =
+pub returns : goal.returns
+returns c =
     no_condition _ _ (λ e. c.if-byte_at-eq8.false (c.byte_at.ensures ∙ e))

@@ -1,4 +1,4 @@
--- `read_transitions::high_cost` meets its contract. 10 and a number, or the byte of another command.
+-- `high_cost` meets its contract. 10 and a number, or the byte of another command.
 use mathlib.Core.Path.{◌≡◌, sym, ap, ◌∙◌}
 use native.Mathlib.Omega.{arith}
 use lib.ListN.{get_or}

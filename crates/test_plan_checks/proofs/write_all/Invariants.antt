@@ -1,9 +1,6 @@
--- `test_plan_checks::write_all` walks the cases: the place is within the input, and what is left falls.
-use Rattle.std.proofs.Common.{length, ◌-◌, ◌≤◌}
+-- `test_plan_checks::write_all` walks the cases: what is left falls.
+use Rattle.std.proofs.Common.{length}
 use Rattle.test_plan_checks.proofs.write_all.Given as goal
 
-abbrev pub invariant-loop-at : goal.invariant-loop-at
-invariant-loop-at g l = l.at ≤ length l.cases
-
-abbrev pub decreases-loop-at : goal.decreases-loop-at
-decreases-loop-at g l = length l.cases - l.at
+abbrev pub decreases-loop-case : goal.decreases-loop-case
+decreases-loop-case g l = length l.left

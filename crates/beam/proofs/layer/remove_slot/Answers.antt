@@ -14,13 +14,13 @@ use Rattle.beam.proofs.layer.remove_slot.Goals as goal
 
 pub position_in-end-requires : goal.position_in-end-requires
 position_in-end-requires c =
-    (layer_of c.requires.held, c.copy_words.auto.to)
+    (layer_of c.requires.held, c.copy_from_slice.auto.self)
 
 pub remove_position-requires : goal.remove_position-requires
 remove_position-requires c =
-    let own : (c.copy_words.new.to ≡ take header_words (drop (c.args.s * slot_words) c.args.layer.now)) = let e : c.args.s * slot_words + header_words - c.args.s * slot_words ≡ header_words = omega arith in
-    rw e at c.copy_words.ensures in
-    let there : ((c.find_below-p.result < c.args.n) × (get_or (order_of c.args.w c.args.layer.now) c.find_below-p.result 0 ≡ c.args.s)) = slot_found_in c.requires.held c.args.s c.position_in-end.result c.find_below-p.result c.copy_words.new.to (own) c.copy_words.auto.to c.requires.slot c.requires.in_use
+    let own : (c.copy_from_slice.new.self ≡ take header_words (drop (c.args.s * slot_words) c.args.layer.now)) = let e : c.args.s * slot_words + header_words - c.args.s * slot_words ≡ header_words = omega arith in
+    rw e at c.copy_from_slice.ensures.after in
+    let there : ((c.find_below-p.result < c.args.n) × (get_or (order_of c.args.w c.args.layer.now) c.find_below-p.result 0 ≡ c.args.s)) = slot_found_in c.requires.held c.args.s c.position_in-end.result c.find_below-p.result c.copy_from_slice.new.self (own) c.copy_from_slice.auto.self c.requires.slot c.requires.in_use
     (c.position_in-end.ensures.1 (rising c.requires.held.parts _)) c.find_below-p.ensures in
     record {
       held = c.requires.held;
@@ -31,9 +31,9 @@ remove_position-requires c =
 
 pub returns : goal.returns
 returns c =
-    let own : (c.copy_words.new.to ≡ take header_words (drop (c.args.s * slot_words) c.args.layer.now)) = let e : c.args.s * slot_words + header_words - c.args.s * slot_words ≡ header_words = omega arith in
-    rw e at c.copy_words.ensures in
-    let there : ((c.find_below-p.result < c.args.n) × (get_or (order_of c.args.w c.args.layer.now) c.find_below-p.result 0 ≡ c.args.s)) = slot_found_in c.requires.held c.args.s c.position_in-end.result c.find_below-p.result c.copy_words.new.to (own) c.copy_words.auto.to c.requires.slot c.requires.in_use
+    let own : (c.copy_from_slice.new.self ≡ take header_words (drop (c.args.s * slot_words) c.args.layer.now)) = let e : c.args.s * slot_words + header_words - c.args.s * slot_words ≡ header_words = omega arith in
+    rw e at c.copy_from_slice.ensures.after in
+    let there : ((c.find_below-p.result < c.args.n) × (get_or (order_of c.args.w c.args.layer.now) c.find_below-p.result 0 ≡ c.args.s)) = slot_found_in c.requires.held c.args.s c.position_in-end.result c.find_below-p.result c.copy_from_slice.new.self (own) c.copy_from_slice.auto.self c.requires.slot c.requires.in_use
     (c.position_in-end.ensures.1 (rising c.requires.held.parts _)) c.find_below-p.ensures in
     record {
       held = c.remove_position.ensures.held;

@@ -13,4 +13,4 @@ unfolding written
 returns c =
     let e : c.args.s * slot_words + state_at - c.args.s * slot_words ≡ header_words = omega arith in
     let f : c.args.s * slot_words + slot_words - (c.args.s * slot_words + state_at) ≡ most_variables = omega arith in
-    rw (e, f, c.copy_words.ensures, c.copy_words-2.ensures) (two_parts_lem c.args.slots.now c.args.header.now c.args.state.now (c.args.s * slot_words) (omega arith) c.requires.1.header_long)
+    rw (e, f, c.copy_from_slice.ensures.after, c.copy_from_slice-2.ensures.after) (two_parts_lem c.args.slots.now c.args.header.now c.args.state.now (c.args.s * slot_words) (omega arith) c.requires.1.header_long)

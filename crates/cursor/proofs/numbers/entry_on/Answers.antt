@@ -22,5 +22,5 @@ returns-then-begins_element-2 c =
     } in
     let f : SFits w64 c.entry.result = record { sfits = omega (arith, c.entry.ensures.1) } in
     let is : c.entry.result ≡ entry_at c.args.m.now.now c.args.at.now c.args.outline.now c.args.state.now =
-    c.entry.ensures.0 ∙ rw (c.object-then-begins_element-2.ensures.0, c.object.ensures.0, c.word_at-table.ensures) in
-    rw (back f) (λ l. entry_is c.args.m.now.now c.args.outline.now c.args.state.now c.args.at.now c.entry.result (there) (form) is c.entry.ensures.1)
+    c.entry.ensures.0 ∙ rw (c.object-column.ensures.0, c.object-row.ensures.0, c.word_at-table.ensures) in
+    rw (back f) (entry_is c.args.m.now.now c.args.outline.now c.args.state.now c.args.at.now c.entry.result (there) (form) is c.entry.ensures.1)

@@ -19,9 +19,8 @@ returns-in-34 c =
     let y = c.args.y in
     let z = c.sum.result in
     let f : SFits w64 z = search rules in
-    let r : SFits w64 c.ranged.result = search rules in
     let sum : z ≡ x +ℤ y = rw (back c.ranges.x, back c.ranges.y) at c.sum.ensures in
-    rw (back r, c.in-34.is) (operation_told 0x22 Op.Sum x y z c.ranged.result refl (rw sum) (rw (back f) at c.ranged.ensures))
+    rw c.in-34.is (operation_told 0x22 Op.Sum x y z c.ranged.result refl (rw sum) (rw (back f) at c.ranged.ensures))
 
 pub returns-in-35 : goal.returns-in-35
 unfolding number_form arithmetic
@@ -30,9 +29,8 @@ returns-in-35 c =
     let y = c.args.y in
     let z = c.difference.result in
     let f : SFits w64 z = search rules in
-    let r : SFits w64 c.ranged-in-35.result = search rules in
     let difference : z ≡ x -ℤ y = rw (back c.ranges.x, back c.ranges.y) at c.difference.ensures in
-    rw (back r, c.in-35.is) (operation_told 0x23 Op.Difference x y z c.ranged-in-35.result refl (rw difference) (rw (back f) at c.ranged-in-35.ensures))
+    rw c.in-35.is (operation_told 0x23 Op.Difference x y z c.ranged-in-35.result refl (rw difference) (rw (back f) at c.ranged-in-35.ensures))
 
 pub returns-in-36 : goal.returns-in-36
 unfolding number_form arithmetic
@@ -41,9 +39,8 @@ returns-in-36 c =
     let y = c.args.y in
     let z = c.product.result in
     let f : SFits w64 z = search rules in
-    let r : SFits w64 c.ranged-in-36.result = search rules in
     let product : z ≡ x *ℤ y = rw (back c.ranges.x, back c.ranges.y) at c.product.ensures in
-    rw (back r, c.in-36.is) (operation_told 0x24 Op.Product x y z c.ranged-in-36.result refl (rw product) (rw (back f) at c.ranged-in-36.ensures))
+    rw c.in-36.is (operation_told 0x24 Op.Product x y z c.ranged-in-36.result refl (rw product) (rw (back f) at c.ranged-in-36.ensures))
 
 pub returns-then-x-y : goal.returns-then-x-y
 returns-then-x-y c =
@@ -68,3 +65,6 @@ returns-else-x-y-2 c =
     let fx = back c.ranges.x in
     let t = rw (fx, back c.ranges.y) at c.if-x-y-2.false in
     rw fx (greater_told c.args.b c.args.x c.args.y c.args.x (omega (arith, c.ranges.b)) c.in_default.in_default-own.rest c.requires.0 c.requires.1 (rw t))
+
+pub returns-in-37 : goal.returns-in-37
+returns-in-37 c = rw c.in-37.is (rw (back c.ranges.x, back c.ranges.y) at c.quotient.ensures)

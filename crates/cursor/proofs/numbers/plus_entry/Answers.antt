@@ -34,6 +34,5 @@ returns-then-is_entry c =
     let y = c.entry_at-y.result in
     let z = c.sum.result in
     let h : SFits w64 z = search rules in
-    let r : SFits w64 c.ranged.result = search rules in
     let sum : z ≡ x +ℤ y = rw (back (fits-first), back (fits-second)) at c.sum.ensures in
-    rw (back r) (two_told _ _ _ (begins) refl (first_is) (second_is) (operation_told 0x22 Op.Sum x y z c.ranged.result refl (rw sum) (rw (back h) at c.ranged.ensures)))
+    (two_told _ _ _ (begins) refl (first_is) (second_is) _ (operation_told 0x22 Op.Sum x y z c.ranged.result refl (rw sum) (rw (back h) at c.ranged.ensures)))

@@ -31,10 +31,9 @@ returns-then-e-p-eq34 c =
     let y = c.literal_at-y.result in
     let z = c.sum.result in
     let f : SFits w64 z = search rules in
-    let r : SFits w64 c.ranged.result = search rules in
     let sum : z ≡ x +ℤ y = rw (back (fits-first), back (fits-second)) at c.sum.ensures in
     let begins : Begins c.args.m.now.now c.args.at.now 0x22 = record { there = record { inside = omega (arith, (there).inside); near = omega (arith, (there).near) }; byte = search rules } in
-    rw (back r) (two_told _ _ _ begins refl (first_is) (second_is) (operation_told 0x22 Op.Sum x y z c.ranged.result refl (rw sum) (rw (back f) at c.ranged.ensures)))
+    (two_told _ _ _ begins refl (first_is) (second_is) _ (operation_told 0x22 Op.Sum x y z c.ranged.result refl (rw sum) (rw (back f) at c.ranged.ensures)))
 
 pub returns-then-e-p-eq35 : goal.returns-then-e-p-eq35
 unfolding number_form arithmetic
@@ -52,7 +51,6 @@ returns-then-e-p-eq35 c =
     let y = c.literal_at-y.result in
     let z = c.difference.result in
     let f : SFits w64 z = search rules in
-    let r : SFits w64 c.ranged-then-e-p-eq35.result = search rules in
     let difference : z ≡ x -ℤ y = rw (back (fits-first), back (fits-second)) at c.difference.ensures in
     let begins : Begins c.args.m.now.now c.args.at.now 0x23 = record { there = record { inside = omega (arith, (there).inside); near = omega (arith, (there).near) }; byte = c.if-e-p-eq35.true } in
-    rw (back r) (two_told _ _ _ begins refl (first_is) (second_is) (operation_told 0x23 Op.Difference x y z c.ranged-then-e-p-eq35.result refl (rw difference) (rw (back f) at c.ranged-then-e-p-eq35.ensures)))
+    (two_told _ _ _ begins refl (first_is) (second_is) _ (operation_told 0x23 Op.Difference x y z c.ranged-then-e-p-eq35.result refl (rw difference) (rw (back f) at c.ranged-then-e-p-eq35.ensures)))

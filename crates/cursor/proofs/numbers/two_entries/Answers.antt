@@ -31,6 +31,5 @@ returns-then-is_entry-2 c =
     let f : SFits w64 x = search rules in
     let g : SFits w64 y = search rules in
     let h : SFits w64 z = search rules in
-    let r : SFits w64 c.ranged.result = search rules in
     let sum : z ≡ x +ℤ y = rw (back f, back g) at c.sum.ensures in
-    rw (back r) (two_told _ _ _ c.requires refl (first_is) (second_is) (operation_told 0x22 Op.Sum x y z c.ranged.result refl (rw sum) (rw (back h) at c.ranged.ensures)))
+    (two_told _ _ _ c.requires refl (first_is) (second_is) _ (operation_told 0x22 Op.Sum x y z c.ranged.result refl (rw sum) (rw (back h) at c.ranged.ensures)))

@@ -1,6 +1,6 @@
 -- `cursor::places::behind` meets its contract.
-use Prim.Native.Nat.{◌+◌, ◌-◌, ◌≤◌}
-use mathlib.Core.Path.{◌≡◌, ap, ◌∙◌}
+use Prim.Native.Nat.{◌+◌, ◌≤◌}
+use mathlib.Core.Path.{◌≡◌, sym, ap, ◌∙◌}
 use native.Mathlib.Omega.{arith}
 use lib.ListN.{length, drop, length-drop}
 use lib.Seq.{drop-drop}
@@ -9,33 +9,29 @@ use Rattle.eval_sets.proofs.Spans.{span_none, span_within}
 use Rattle.cursor.proofs.NumberLaws.{span_parts}
 use Rattle.cursor.proofs.places.behind.Goals as goal
 
+pub loop-init : goal.loop-init
+loop-init c = (omega (arith, c.requires.inside), omega (arith, span_none (drop c.args.at c.args.e.now)))
+
 pub overflow_add-q : goal.overflow_add-q
 overflow_add-q c =
-    let ends : (c.loop-due.q + c.skip-q.result ≤ length c.args.e.now) = let e = c.args.e.now in
-    let q = c.loop-due.q in
-    let l : c.skip-q.result ≤ length (drop q e) = rw (c.skip-q.ensures, c.after.ensures) (span_within (drop q e) 0 1) in
-    omega (arith, l, length-drop q e, c.loop-due.invariant.0) in
-    omega (arith, ends, c.well_formed)
-
-pub loop-due-preserved : goal.loop-due-preserved
-loop-due-preserved c =
-    let ends : (c.loop-due.q + c.skip-q.result ≤ length c.args.e.now) = let e = c.args.e.now in
-    let q = c.loop-due.q in
-    let l : c.skip-q.result ≤ length (drop q e) = rw (c.skip-q.ensures, c.after.ensures) (span_within (drop q e) 0 1) in
-    omega (arith, l, length-drop q e, c.loop-due.invariant.0) in
     let e = c.args.e.now in
-    let q = c.loop-due.q in
-    let due = c.loop-due.due in
-    let one : due ≡ 1 + (due - 1) = omega (arith, c.loop-due-test) in
-    let used : c.skip-q.result ≡ span (drop q e) 0 1 = c.skip-q.ensures ∙ ap (λ l. span l 0 1) c.after.ensures in
-    let parted : span (drop q e) 0 due ≡ c.skip-q.result + span (drop (q + c.skip-q.result) e) 0 (due - 1) =
-    ap (span (drop q e) 0) one ∙ span_parts (drop q e) 0 1 (due - 1) ∙ rw (← used, drop-drop c.skip-q.result q e) in
-    (ends, omega (arith, parted, c.loop-due.invariant.1))
+    let q = c.loop.q in
+    let l : c.skip-q.result ≤ length (drop q e) = rw (c.skip-q.ensures, c.after.ensures) (span_within (drop q e) 0 1) in
+    omega (arith, l, length-drop q e, c.loop.invariant.0, c.well_formed)
+
+pub loop-preserved : goal.loop-preserved
+loop-preserved c =
+    let e = c.args.e.now in
+    let at = c.args.at in
+    let q = c.loop.q in
+    let l : c.skip-q.result ≤ length (drop q e) = rw (c.skip-q.ensures, c.after.ensures) (span_within (drop q e) 0 1) in
+    let so_far = span (drop at e) 0 c.loop.counter in
+    let place : so_far + at ≡ q = omega (arith, c.loop.invariant.1) in
+    let rest : drop so_far (drop at e) ≡ drop q e = drop-drop so_far at e ∙ ap (λ k. drop k e) (omega (arith, place)) in
+    let used : c.skip-q.result ≡ span (drop so_far (drop at e)) 0 1 = c.skip-q.ensures ∙ ap (λ l. span l 0 1) (c.after.ensures ∙ sym rest) in
+    (omega (arith, l, length-drop q e, c.loop.invariant.0), omega (arith, c.loop.invariant.1, span_parts (drop at e) 0 c.loop.counter 1, used))
 
 pub returns : goal.returns
 returns c =
-    let e = c.args.e.now in
-    let none = span_none (drop c.loop-due.q e) in
-    let over : c.loop-due.due ≡ 0 = omega (arith, c.loop-due-test) in
-    let whole = rw over at c.loop-due.invariant.1 in
-    record { ends = omega (arith, none, whole); there = record { inside = omega (arith, c.loop-due.invariant.0); near = omega (arith, c.loop-due.invariant.0, c.well_formed) } }
+    let all : c.loop.counter ≡ c.args.parts = omega (arith, c.loop-test.false, c.loop.auto.counter-end) in
+    record { ends = rw all at c.loop.invariant.1; there = record { inside = omega (arith, c.loop.invariant.0); near = omega (arith, c.loop.invariant.0, c.well_formed) } }

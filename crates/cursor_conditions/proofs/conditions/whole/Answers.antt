@@ -41,5 +41,5 @@ loop-waiting-preserved-then-is_connective c =
 
 pub loop-waiting-smaller : goal.loop-waiting-smaller
 loop-waiting-smaller c =
-    let part-is : (Read c.args.m.now.now c.args.outline.now c.args.state.now c.loop-waiting.q c.plain-c.new.at) = read_part _ _ _ c.plain-c.ensures (omega (arith, c.if-c-ge-UNTOLD.false)) in
-    omega (arith, (part-is).past, (part-is).there.inside, c.settled-d.ensures.further)
+    let part-is : (Read c.args.m.now.now c.args.outline.now c.args.state.now c.loop-waiting.q c.plain.new.at) = read_part _ _ _ c.in_ok-c.ensures in
+    omega (arith, (part-is).past, (part-is).there.inside, c.settled.ensures.further)

@@ -6,15 +6,14 @@ use Rattle.eval_sets.specs.Answers.{condition_of_two}
 use Rattle.words.proofs.Integers.{back}
 use Rattle.eval_sets.proofs.leaves.comparison.Goals as goal
 
-pub returns-in-Values : goal.returns-in-Values
+pub returns-in-Ok : goal.returns-in-Ok
 unfolding condition_of_two
-returns-in-Values c =
-    let f : SFits w64 c.in-Values.a = search rules in
-    let g : SFits w64 c.in-Values.b = search rules in
+returns-in-Ok c =
+    let f : SFits w64 c.in-Ok.p.value.0 = search rules in
+    let g : SFits w64 c.in-Ok.p.value.1 = search rules in
     let q = rw (back f, back g) at c.relation.ensures in
-    rw (q, c.in-Values.is)
+    rw (q, c.in-Ok.is)
 
-pub returns-in-Trouble : goal.returns-in-Trouble
+pub returns-in-Err : goal.returns-in-Err
 unfolding condition_of_two
-returns-in-Trouble c =
-    rw c.in-Trouble.is
+returns-in-Err c = rw c.in-Err.is

@@ -18,6 +18,5 @@ returns c =
     let y = c.args.y in
     let z = c.difference.result in
     let f : SFits w64 z = search rules in
-    let r : SFits w64 c.ranged.result = search rules in
     let is : z ≡ x -ℤ y = rw (back c.ranges.x, back c.ranges.y) at c.difference.ensures in
-    rw (back r) (operation_told 0x23 Op.Difference x y z c.ranged.result refl (rw is) (rw (back f) at c.ranged.ensures))
+    operation_told 0x23 Op.Difference x y z c.ranged.result refl (rw is) (rw (back f) at c.ranged.ensures)

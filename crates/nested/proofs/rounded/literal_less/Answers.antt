@@ -1,6 +1,5 @@
 -- `nested::rounded::literal_less` meets its contract.
 use native.Mathlib.Omega.{arith}
-use borrow.Author.Rules.{rules}
 use mir.Val.{SFits}
 use mir.Syntax.{w64}
 use Rattle.words.proofs.Integers.{back}
@@ -11,5 +10,4 @@ pub returns : goal.returns
 returns c =
     let first = c.literal_at-z.ensures in
     let f : SFits w64 c.literal_at-z.result = record { sfits = omega (arith, first.is.fits) } in
-    let r : SFits w64 c.less.result = search rules in
-    rw (back r) (literal_less_told _ _ _ c.requires.0 first c.requires.1 (rw (back f, back c.ranges.x) at c.less.ensures))
+    literal_less_told _ _ _ c.requires.0 first c.requires.1 _ (rw (back f, back c.ranges.x) at c.less.ensures)

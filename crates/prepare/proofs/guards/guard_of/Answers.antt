@@ -11,4 +11,4 @@ loop-t-init c =
 pub loop-t-preserved : goal.loop-t-preserved
 unfolding union
 loop-t-preserved c =
-    guarding_more _ _ _ _ _ _ _ c.loop-t.invariant (sym c.byte_at.ensures ∙ c.loop-t-test.true) c.test_at-t.ensures.says c.test_at-t.ensures.within (c.joins.ensures c.if-joins.true)
+    guarding_more _ _ _ _ _ _ _ c.loop-t.invariant (sym c.byte_at.ensures ∙ c.loop-t-test.true) c.in-Some.ensures.says c.in-Some.ensures.within (c.joins.ensures c.if-joins.true)

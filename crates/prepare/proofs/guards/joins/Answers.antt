@@ -7,4 +7,4 @@ use Rattle.prepare.proofs.guards.joins.Goals as goal
 pub returns-then-variable-t : goal.returns-then-variable-t
 unfolding intersection
 returns-then-variable-t c e =
-    record { some_used = c.if-t-eq0.false; apart = inr (c.if-variable-t.true, eqb-true _ _ e) }
+    record { apart = inr (c.if-variable-t.true, eqb-true _ _ e) }

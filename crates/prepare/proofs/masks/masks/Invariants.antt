@@ -1,10 +1,6 @@
 -- `prepare::masks::masks` meets its contract. The invariant: the masks of the variables passed are put.
-use Prim.Native.Nat.{◌-◌}
 use Rattle.prepare.proofs.Loops.{MasksTo}
 use Rattle.prepare.proofs.masks.masks.Given as goal
 
 abbrev pub invariant-loop-v : goal.invariant-loop-v
 invariant-loop-v l = MasksTo l.initial.outline l.outline l.v
-
-abbrev pub decreases-loop-v : goal.decreases-loop-v
-decreases-loop-v l = 16 - l.v

@@ -8,7 +8,7 @@ use Rattle.model.specs.Numbers.{most_objects}
 use Rattle.model.specs.Sets.{intersection}
 use Rattle.prepare.specs.Forms.{AbsentForm, SameForm}
 use Rattle.prepare.proofs.Bits.{element_bits}
-use Rattle.prepare.proofs.Tested.{absent_says, same_says, nothing_says}
+use Rattle.prepare.proofs.Tested.{absent_says, same_says}
 use Rattle.prepare.proofs.tests.other_test.Goals as goal
 
 pub returns-then-is_absent : goal.returns-then-is_absent
@@ -24,8 +24,3 @@ returns-then-is_same c =
     let byte = c.wide-then-is_same.ensures.0 ∙ c.byte_at-then-is_same-2.ensures in
     let small : k % most_objects % most_objects ≡ k % most_objects = mod-eq_of_lt (omega arith) in
     record { says = same_says c.args.model.now c.args.at _ k (same) (sym c.byte_at-then-is_same.ensures) (sym byte); within = record { bits = element_bits (k % most_objects) ∙ small; short = omega arith } }
-
-pub returns : goal.returns
-unfolding intersection
-returns c =
-    record { says = nothing_says c.args.model.now c.args.at 0 0 0; within = record { bits = and_zero_l 0; short = omega arith } }

@@ -30,8 +30,8 @@ returns-then-in_range c =
     let word : pos c.biased.result ≡ c.total_from-z.result +ℤ pos range_end = rw (back f) at c.biased.ensures.0 in
     rw (back f) (is ∙ ap (sum_of a.model.now a.at a.outline.now) c.summed_set-s.ensures, remembers_total c.requires c.summed_set-s.result c.biased.result c.total_from-z.result word c.biased.ensures.1 is)
 
-pub returns : goal.returns
-returns c =
+pub returns-else-in_range : goal.returns-else-in_range
+returns-else-in_range c =
     let table_is : c.word_at-table.result ≡ table_in c.args.outline.now (get_or c.args.model.now (c.args.at + 1) 0) = rw c.byte_at.ensures at c.word_at-table.ensures in
     let a = c.args in
     let f : SFits w64 c.total_from-z.result = record { sfits = c.total_from-z.type_inv } in

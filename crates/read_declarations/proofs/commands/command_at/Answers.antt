@@ -6,12 +6,12 @@ use Rattle.read_declarations.proofs.commands.command_at.Goals as goal
 
 pub returns-then-model-at : goal.returns-then-model-at
 returns-then-model-at c =
-    sym (ap position_of (command_there c.args.c c.args.at c.args.model.now c.if-at-model.true c.if-model-at.true))
+    sym (ap position_of (command_early c.args.c c.args.at c.args.model.now c.if-model-at.true))
 
-pub returns-else-model-at : goal.returns-else-model-at
-returns-else-model-at c =
-    sym (ap position_of (command_other c.args.c c.args.at c.args.model.now c.if-at-model.true c.if-model-at.false))
+pub returns-then-model-at-2 : goal.returns-then-model-at-2
+returns-then-model-at-2 c =
+    sym (ap position_of (command_there c.args.c c.args.at c.args.model.now c.if-model-at.false c.if-model-at-2.true))
 
-pub returns-else-at-model : goal.returns-else-at-model
-returns-else-at-model c =
-    sym (ap position_of (command_early c.args.c c.args.at c.args.model.now c.if-at-model.false))
+pub returns-else-model-at-2 : goal.returns-else-model-at-2
+returns-else-model-at-2 c =
+    sym (ap position_of (command_other c.args.c c.args.at c.args.model.now c.if-model-at.false c.if-model-at-2.false))

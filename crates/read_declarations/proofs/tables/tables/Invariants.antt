@@ -3,8 +3,8 @@ use Prim.Native.Nat.{◌-◌}
 use Rattle.read_declarations.proofs.Declarations.{TablesSoFar}
 use Rattle.read_declarations.proofs.tables.tables.Given as goal
 
-abbrev pub invariant-loop-behind : goal.invariant-loop-behind
-invariant-loop-behind l = TablesSoFar l.model l.start l.rows l.columns l.words l.at l.n
+abbrev pub invariant-loop-start : goal.invariant-loop-start
+invariant-loop-start l = TablesSoFar l.model l.start l.rows l.columns l.words l.at l.n
 
-abbrev pub decreases-loop-behind : goal.decreases-loop-behind
-decreases-loop-behind l = 32 - l.n
+abbrev pub decreases-loop-start : goal.decreases-loop-start
+decreases-loop-start l = 32 - l.n

@@ -8,14 +8,14 @@ pub returns-then-element_fits : goal.returns-then-element_fits
 returns-then-element_fits c =
     let e = c.args.e.now in
     let t = sym c.element_fits.ensures ∙ c.if-element_fits.true in
-    element_declares _ (get_or e 0 0) (get_or e 1 0) (get_or e 2 0) _ (element_good e c.if-e-ge3.true t) t
+    element_declares _ (get_or e 0 0) (get_or e 1 0) (get_or e 2 0) _ (element_good e c.if-e-lt3.false t) t
     refl refl refl c.wide.ensures.0
 
 pub returns-else-element_fits : goal.returns-else-element_fits
 returns-else-element_fits c =
-    element_beyond c.args.e.now c.if-e-ge3.true
+    element_beyond c.args.e.now c.if-e-lt3.false
     (sym c.element_fits.ensures ∙ c.if-element_fits.false)
 
-pub returns-else-e-ge3 : goal.returns-else-e-ge3
-returns-else-e-ge3 c =
-    element_cut c.args.e.now c.if-e-ge3.false
+pub returns-then-e-lt3 : goal.returns-then-e-lt3
+returns-then-e-lt3 c =
+    element_cut c.args.e.now c.if-e-lt3.true

@@ -10,14 +10,14 @@ pub returns-then-p-lt3 : goal.returns-then-p-lt3
 returns-then-p-lt3 c =
     let e = c.args.e.now in
     number_declares _ (get_or e 0 0) c.integer.result _
-    (number_good e c.if-e-ge5.true (rw (suffix 1 e) at c.integer.ensures.0) c.if-p-lt3.true)
+    (number_good e c.if-e-lt5.false (rw (suffix 1 e) at c.integer.ensures.0) c.if-p-lt3.true)
     c.if-p-lt3.true refl refl refl (rw (back {z = c.integer.result} (record { sfits = c.integer.type_inv })) at c.biased.ensures.0)
     c.biased.ensures.1
 
 pub returns-else-p-lt3 : goal.returns-else-p-lt3
 returns-else-p-lt3 c =
-    number_beyond c.args.e.now c.if-e-ge5.true c.if-p-lt3.false
+    number_beyond c.args.e.now c.if-e-lt5.false c.if-p-lt3.false
 
-pub returns-else-e-ge5 : goal.returns-else-e-ge5
-returns-else-e-ge5 c =
-    number_cut c.args.e.now c.if-e-ge5.false
+pub returns-then-e-lt5 : goal.returns-then-e-lt5
+returns-then-e-lt5 c =
+    number_cut c.args.e.now c.if-e-lt5.true

@@ -20,14 +20,14 @@ returns-then-members_fit c =
     let t = sym c.members_fit.ensures ∙ c.if-members_fit.true in
     let h = and_both (is_count (get_or e 0 0)) (ltb c.long-members.result (2 ^ get_or e 0 0)) t in
     set_declares _ (get_or e 0 0) c.long-members.result _
-    (set_good e c.if-e-ge9.true (rw (suffix 1 e) at c.long-members.ensures) t) h.0 refl refl refl refl
+    (set_good e c.if-e-lt9.false (rw (suffix 1 e) at c.long-members.ensures) t) h.0 refl refl refl refl
 
 pub returns-else-members_fit : goal.returns-else-members_fit
 returns-else-members_fit c =
     let e = c.args.e.now in
-    set_beyond e c.if-e-ge9.true (rw (suffix 1 e) at c.long-members.ensures)
+    set_beyond e c.if-e-lt9.false (rw (suffix 1 e) at c.long-members.ensures)
     (sym c.members_fit.ensures ∙ c.if-members_fit.false)
 
-pub returns-else-e-ge9 : goal.returns-else-e-ge9
-returns-else-e-ge9 c =
-    set_cut c.args.e.now c.if-e-ge9.false
+pub returns-then-e-lt9 : goal.returns-then-e-lt9
+returns-then-e-lt9 c =
+    set_cut c.args.e.now c.if-e-lt9.true

@@ -1,15 +1,16 @@
--- `members_fit` meets its contract: 0, 1 to 64 and above.
-use Rattle.read_forms.proofs.Operands.{no_count_lem, full_fits, beyond_64}
+-- `members_fit` meets its contract, by the test of the count.
+use mathlib.Core.Path.{◌≡◌, sym, ◌∙◌}
+use mathlib.Core.Bool.{true, false}
+use Rattle.model.specs.Expressions.{is_count}
+use Rattle.read_forms.proofs.Operands.{full_fits}
 use Rattle.read_forms.proofs.bytes.members_fit.Goals as goal
 
-pub returns-then-n-eq0 : goal.returns-then-n-eq0
-returns-then-n-eq0 c =
-    no_count_lem c.args.n c.args.members c.if-n-eq0.true
+pub returns-then-is_count : goal.returns-then-is_count
+returns-then-is_count c =
+    let counted : is_count c.args.n ≡ true = sym c.is_count.ensures ∙ c.if-is_count.true in
+    rw (c.full.ensures, counted) (full_fits c.args.n c.args.members counted)
 
-pub returns-then-n-le-MOST_OBJECTS : goal.returns-then-n-le-MOST_OBJECTS
-returns-then-n-le-MOST_OBJECTS c =
-    rw c.full.ensures (full_fits c.args.n c.args.members c.if-n-eq0.false c.if-n-le-MOST_OBJECTS.true)
-
-pub returns : goal.returns
-returns c =
-    beyond_64 c.args.n c.args.members c.if-n-le-MOST_OBJECTS.false
+pub returns-else-is_count : goal.returns-else-is_count
+returns-else-is_count c =
+    let uncounted : is_count c.args.n ≡ false = sym c.is_count.ensures ∙ c.if-is_count.false in
+    rw (c.is_count.ensures, uncounted)

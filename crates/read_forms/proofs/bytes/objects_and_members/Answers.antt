@@ -10,13 +10,13 @@ use Rattle.read_forms.proofs.bytes.objects_and_members.Goals as goal
 pub returns-then-members_fit : goal.returns-then-members_fit
 returns-then-members_fit c =
     let members : word 8 (drop 1 c.args.e.now) ≡ read c.long.result 8 = rw suffix at c.long.ensures in
-    members_read c.args.e.now c.if-e-ge9.true c.long.result (members) true (sym c.if-members_fit.true ∙ c.members_fit.ensures)
+    members_read c.args.e.now c.if-e-lt9.false c.long.result (members) true (sym c.if-members_fit.true ∙ c.members_fit.ensures)
 
 pub returns-else-members_fit : goal.returns-else-members_fit
 returns-else-members_fit c =
     let members : word 8 (drop 1 c.args.e.now) ≡ read c.long.result 8 = rw suffix at c.long.ensures in
-    members_read c.args.e.now c.if-e-ge9.true c.long.result (members) false (sym c.if-members_fit.false ∙ c.members_fit.ensures)
+    members_read c.args.e.now c.if-e-lt9.false c.long.result (members) false (sym c.if-members_fit.false ∙ c.members_fit.ensures)
 
-pub returns-else-e-ge9 : goal.returns-else-e-ge9
-returns-else-e-ge9 c =
-    members_short c.args.e.now c.if-e-ge9.false
+pub returns-then-e-lt9 : goal.returns-then-e-lt9
+returns-then-e-lt9 c =
+    members_short c.args.e.now c.if-e-lt9.true

@@ -3,7 +3,7 @@ use mathlib.Core.Path.{◌≡◌, sym, ap, ◌∙◌}
 use mathlib.Core.Bool.{true}
 use native.Mathlib.Omega.{arith}
 use Rattle.read_forms.specs.Layouts.{layouts}
-use Rattle.read_forms.specs.declared.Layout.TheVariants.{Unknown}
+use Rattle.std.specs.Prelude.{Err}
 use Rattle.read_forms.proofs.Rows.{of_kind, all_layouts, row_at, in_no_row, row_inside}
 use Rattle.read_forms.proofs.layouts.layout.Goals as goal
 
@@ -26,5 +26,5 @@ returns-then-is_among c =
 
 pub returns-else-is_among : goal.returns-else-is_among
 returns-else-is_among c =
-    ap Unknown c.refusal.ensures ∙ in_no_row c.args.due c.args.b (omega (arith, c.ranges.b))
+    ap Err c.refusal.ensures ∙ in_no_row c.args.due c.args.b (omega (arith, c.ranges.b))
     (rw c.rows_of-rows.ensures at (sym c.is_among.ensures ∙ c.if-is_among.false))

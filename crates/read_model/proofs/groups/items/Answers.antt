@@ -4,13 +4,13 @@ use mathlib.Core.Path.{◌≡◌, sym, ◌∙◌}
 use native.Mathlib.Omega.{arith}
 use lib.ListN.{length, get_or}
 use Rattle.model.specs.Readers.{Reader}
-use Rattle.words.specs.Signature.{variables_of, tables_of}
+use Rattle.read_forms.specs.Parts.{variables_in, tables_in}
 use Rattle.read_model.specs.Groups.{Item, code_of, item_of}
 use Rattle.read_declarations.specs.Positions.{read_at}
-use Rattle.read_model.proofs.Outlining.{code_positive}
+use Rattle.read_model.proofs.Outlining.{code_positive, item_fair}
 use Rattle.read_declarations.proofs.Items.{item_too_many, item_refused, items_early}
 use Rattle.read_model.proofs.Offsets.{no_offsets, offset_more, offsets_end}
-use Rattle.read_declarations.proofs.Positions.{position_read, position_refused}
+use Rattle.read_declarations.proofs.Positions.{passed_on, fair_refusal, position_read}
 use Rattle.read_model.proofs.groups.items.Goals as goal
 
 pub returns-then-n-offsets : goal.returns-then-n-offsets
@@ -24,18 +24,18 @@ loop-group-preserved c =
     let positive : 0 < code_of c.args.group = code_positive c.args.group in
     let due : get_or c.args.model.now c.loop-group.at 0 ≡ code_of c.args.group = sym c.byte_at.ensures ∙ (c.loop-group-test.true ∙ c.code-c.ensures) in
     let room : (c.loop-group.n < length c.args.offsets.now) = omega (arith, c.loop-group.invariant.so_far.few, c.if-n-offsets.false, c.loop-group.invariant.size) in
-    let reader : Reader (Item c.args.group) = item_of (variables_of c.args.kinds.now) (tables_of c.args.rows.now c.args.columns.now) c.args.group in
+    let reader : Reader (Item c.args.group) = item_of (variables_in c.args.names) (tables_in c.args.names) c.args.group in
     offset_more c.loop-group.invariant (positive) (due) (room)
-    (position_read (read_at (reader) (c.loop-group.at + 1) c.args.model.now) (sym c.in-At.is ∙ c.item.ensures)).1
+    (position_read (read_at (reader) (c.loop-group.at + 1) c.args.model.now) c.in_ok-at.ensures).1
 
-pub returns-in-Refused : goal.returns-in-Refused
-returns-in-Refused c =
+pub returns-in_err-at : goal.returns-in_err-at
+returns-in_err-at c =
     let positive : 0 < code_of c.args.group = code_positive c.args.group in
     let due : get_or c.args.model.now c.loop-group.at 0 ≡ code_of c.args.group = sym c.byte_at.ensures ∙ (c.loop-group-test.true ∙ c.code-c.ensures) in
     let room : (c.loop-group.n < length c.args.offsets.now) = omega (arith, c.loop-group.invariant.so_far.few, c.if-n-offsets.false, c.loop-group.invariant.size) in
-    let reader : Reader (Item c.args.group) = item_of (variables_of c.args.kinds.now) (tables_of c.args.rows.now c.args.columns.now) c.args.group in
-    item_refused c.loop-group.invariant.so_far (positive) (due) (room)
-    (position_refused (read_at (reader) (c.loop-group.at + 1) c.args.model.now) (sym c.in-Refused.is ∙ c.item.ensures))
+    let reader : Reader (Item c.args.group) = item_of (variables_in c.args.names) (tables_in c.args.names) c.args.group in
+    rw (passed_on c.from_residual.result c.from_residual.ensures.1) (item_refused c.loop-group.invariant.so_far (positive) (due) (room)
+    (fair_refusal reader (c.loop-group.at + 1) c.args.model.now (item_fair (variables_in c.args.names) (tables_in c.args.names) c.args.group) c.in_err-at.ensures))
 
 pub returns-then-at-model : goal.returns-then-at-model
 returns-then-at-model c =

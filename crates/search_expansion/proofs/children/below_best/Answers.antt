@@ -1,14 +1,13 @@
 -- `search_expansion::children::below_best` meets its contract.
-use mathlib.Core.Path.{◌∙◌}
 use Rattle.search_expansion.specs.Expansion.{below_cost}
 use Rattle.search_expansion.proofs.children.below_best.Goals as goal
 
-pub returns-then-best : goal.returns-then-best
+pub returns-in-Some : goal.returns-in-Some
 unfolding below_cost
-returns-then-best c =
-    c.less.ensures ∙ rw c.if-best.true
+returns-in-Some c =
+    rw c.in-Some.is c.less.ensures
 
-pub returns : goal.returns
+pub returns-in-None : goal.returns-in-None
 unfolding below_cost
-returns c =
-    rw c.if-best.false
+returns-in-None c =
+    rw c.in-None.is

@@ -1,13 +1,15 @@
 -- `search_expansion::children::expand` meets its contract. The invariant: the transitions whose bits are left wait, those before them are tried or
 use Prim.Native.Nat.{ℕ, zero, suc, ◌-◌, ◌<◌}
 use native.Mathlib.Omega.{arith}
-use mathlib.Core.Path.{◌≡◌, refl}
+use mathlib.Core.Path.{◌≡◌, refl, sym, ◌∙◌}
+use mathlib.Core.Bool.{◌||◌}
 use lib.Bits.{bit_and}
 use Rattle.model.specs.Sets.{members_from, members}
 use Rattle.words.proofs.Members.{and_falls}
 use Rattle.steps.proofs.Promises.{few_transitions}
-use Rattle.search_expansion.proofs.TrialLoop.{none_waits, one_waits, expanding_first, expanding_block, expanding_more, expanded_all, expanded_before, expanded_at, first_allowed}
+use Rattle.search_expansion.proofs.TrialLoop.{none_waits, one_waits, expanding_first, expanding_block, expanding_more, expanded_all, expanded_over, first_allowed}
 use Rattle.search_expansion.proofs.children.expand.Goals as goal
+use Rattle.search_expansion.proofs.children.expand.Goals.{then-cut, else-cut}
 
 some : (n : ℕ) → (n ≡ 0 → ⊥) → 0 < n
 some zero h = absurd (h refl)
@@ -55,20 +57,16 @@ pub loop-left-preserved : goal.loop-left-preserved
 loop-left-preserved c =
     let first-waits : 0 < c.loop-left.left = some c.loop-left.left c.if-left-eq0.false in
     let falls : bit_and c.loop-left.left (c.loop-left.left - 1) < c.loop-left.left = and_falls c.loop-left.left (first-waits) in
-    let waits = one_waits _ _ _ _ _ _ _ _ c.loop-left.invariant.0 c.loop-left.invariant.2 (first-waits) in (
-      expanding_more _ _ _ _ _ _ waits c.try_transition-x.ensures.0 c.either-cut.ensures c.try_transition-x.auto.layer c.in-On.is,
+    let waits = one_waits _ _ _ _ _ _ _ _ c.loop-left.invariant.0 c.loop-left.invariant.2 (first-waits) in
+    let marked : c.if-cut.cut ≡ (c.loop-left.cut || c.try_transition-x.result.cut) = elim c.if-cut.branch [ then-cut w ↦ rw (w.cut-is, w.if-cut.true) refl | else-cut w ↦ rw (w.cut-is, w.if-cut.false) refl ] in (
+      expanding_more _ _ _ _ _ _ waits c.try_transition-x.ensures.0 marked c.try_transition-x.auto.layer (sym c.is_err.ensures.value ∙ c.if-is_err.false),
       c.try_transition-x.ensures.1,
       omega (arith, falls, c.loop-left.invariant.2),
     )
 
-pub returns-in-Before : goal.returns-in-Before
-returns-in-Before c =
+pub returns-then-is_err : goal.returns-then-is_err
+returns-then-is_err c =
     let first-waits : 0 < c.loop-left.left = some c.loop-left.left c.if-left-eq0.false in
     let waits = one_waits _ _ _ _ _ _ _ _ c.loop-left.invariant.0 c.loop-left.invariant.2 (first-waits) in
-    expanded_before _ _ _ _ _ _ waits c.try_transition-x.ensures.0 c.either-cut.ensures c.in-Before.is
-
-pub returns-in-At : goal.returns-in-At
-returns-in-At c =
-    let first-waits : 0 < c.loop-left.left = some c.loop-left.left c.if-left-eq0.false in
-    let waits = one_waits _ _ _ _ _ _ _ _ c.loop-left.invariant.0 c.loop-left.invariant.2 (first-waits) in
-    expanded_at _ _ _ _ _ _ waits c.try_transition-x.ensures.0 c.either-cut.ensures c.in-At.is
+    let marked : c.if-cut.cut ≡ (c.loop-left.cut || c.try_transition-x.result.cut) = elim c.if-cut.branch [ then-cut w ↦ rw (w.cut-is, w.if-cut.true) refl | else-cut w ↦ rw (w.cut-is, w.if-cut.false) refl ] in
+    expanded_over _ _ _ _ _ _ waits c.try_transition-x.ensures.0 marked (sym c.is_err.ensures.value ∙ c.if-is_err.true)

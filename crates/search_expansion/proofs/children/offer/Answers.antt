@@ -13,8 +13,8 @@ returns-then-below_best c =
     ap (below_cost a.parent.best) (f_front a.header.now a.state.now c.requires.1.1 ∙ sym c.f_in-f.ensures) ∙ sym c.below_best.ensures in
     offered_below c.insert.result (tested ∙ c.if-below_best.true) c.insert.ensures
 
-pub returns : goal.returns
-returns c =
+pub returns-else-below_best : goal.returns-else-below_best
+returns-else-below_best c =
     let tested : (let a = c.args in below_cost a.parent.best (f_of (a.header.now ++ a.state.now)) ≡ c.below_best.result) = let a = c.args in
     ap (below_cost a.parent.best) (f_front a.header.now a.state.now c.requires.1.1 ∙ sym c.f_in-f.ensures) ∙ sym c.below_best.ensures in
     offered_not (tested ∙ c.if-below_best.false) c.requires.0

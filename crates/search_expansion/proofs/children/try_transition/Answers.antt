@@ -24,9 +24,9 @@ returns-in-Moved c =
 
 pub returns-in-Before : goal.returns-in-Before
 returns-in-Before c =
-    (tried_before _ _ _ _ _ _ _ c.allowed_step.ensures.0 c.in-Before.is c.requires.0.held, c.allowed_step.ensures.1)
+    (tried_before _ _ _ _ _ _ _ c.allowed_step.ensures.0 c.in-Before.is c.number.ensures.kept c.requires.0.held, c.allowed_step.ensures.1)
 
 pub returns-in-After : goal.returns-in-After
 returns-in-After c =
     let small : c.args.turn.transition < 256 = omega (arith, c.requires.1.declared, few_transitions c.requires.0.outlined) in
-    (tried_after _ _ _ _ _ _ _ c.allowed_step.ensures.0 c.in-After.is (small) c.combine.ensures c.requires.0.held, c.allowed_step.ensures.1)
+    (tried_after _ _ _ _ _ _ _ c.allowed_step.ensures.0 c.in-After.is c.number-in-After.ensures.kept (small) c.combine.ensures c.requires.0.held, c.allowed_step.ensures.1)

@@ -9,4 +9,4 @@ pub returns : goal.returns
 unfolding words_in
 returns c =
     let e : c.args.i * slot_words + slot_words - c.args.i * slot_words ≡ slot_words = omega arith in
-    rw (c.copy_words.ensures, e)
+    rw (c.copy_from_slice.ensures.after, e)

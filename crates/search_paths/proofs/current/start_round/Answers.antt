@@ -4,5 +4,5 @@ use Rattle.search_paths.proofs.current.start_round.Goals as goal
 
 pub returns : goal.returns
 returns c =
-    round_started c.args.root.now c.args.words.now c.copy_words.new.to c.empty.new.layer c.args.w c.requires c.copy_words.ensures
+    round_started c.args.root.now c.args.words.now c.copy_from_slice.new.self c.empty.new.layer c.args.w c.requires c.copy_from_slice.ensures.after
     c.empty.auto.layer c.empty.ensures

@@ -4,5 +4,5 @@ use Rattle.search_paths.proofs.current.take_node.Goals as goal
 
 pub returns : goal.returns
 returns c =
-    node_written c.args.words.now c.copy_node.new.node c.copy_words.new.to c.args.w c.args.k c.args.i
-    c.requires.place c.requires.slot c.requires.room c.copy_node.ensures c.copy_words.ensures
+    node_written c.args.words.now c.copy_node.new.node c.copy_from_slice.new.self c.args.w c.args.k c.args.i
+    c.requires.place c.requires.slot c.requires.room c.copy_node.ensures c.copy_from_slice.ensures.after

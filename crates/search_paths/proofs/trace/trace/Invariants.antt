@@ -8,6 +8,3 @@ use Rattle.search_paths.proofs.trace.trace.Given as goal
 
 abbrev pub invariant-loop-left : goal.invariant-loop-left
 invariant-loop-left l = (l.left ≤ l.k) × ((length l.plan ≡ length l.initial.plan) × (reverse (path_by l.words l.w l.k l.i) ++ drop l.k l.initial.plan ≡ reverse (path_by l.words l.w l.left l.slot) ++ drop l.left l.plan))
-
-abbrev pub decreases-loop-left : goal.decreases-loop-left
-decreases-loop-left l = l.left

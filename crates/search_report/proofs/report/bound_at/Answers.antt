@@ -5,13 +5,13 @@ use Rattle.search.specs.Search.{bound_at}
 use Rattle.search_visits.specs.Work.{verdict_of, progress_of}
 use Rattle.search_report.proofs.report.bound_at.Goals as goal
 
-pub returns-then-best : goal.returns-then-best
-returns-then-best c =
-    bound_cost _ _ c.in-Cheapest.is c.if-best.true
+pub returns-in-Some : goal.returns-in-Some
+returns-in-Some c =
+    bound_cost _ _ c.in-Cheapest.is c.in-Some.is
 
-pub returns-else-best : goal.returns-else-best
-returns-else-best c =
-    rw c.hours-nothing.ensures (bound_without _ _ c.in-Cheapest.is c.if-best.false)
+pub returns-in-None : goal.returns-in-None
+returns-in-None c =
+    rw c.hours-nothing.ensures (bound_without _ _ c.in-Cheapest.is c.in-None.is)
 
 pub returns-in-NoPlan : goal.returns-in-NoPlan
 unfolding verdict_of bound_at progress_of costs_of

@@ -4,4 +4,4 @@ use Rattle.search_rounds.proofs.ends.layer_end.Goals as goal
 
 pub returns : goal.returns
 returns c =
-    layer_ends _ _ c.args.round _ _ c.remaining-left.ensures c.raised-higher.ensures
+    layer_ends _ _ c.args.round _ _ c.remaining-count.ensures c.raised-low.ensures

@@ -8,12 +8,12 @@ layer_end-end-requires c =
     let held = c.layer-x.ensures.held in
     (layer_of held, (width_positive held, c.requires.0.narrow))
 
-pub returns-in-On : goal.returns-in-On
-returns-in-On c =
+pub returns-in-Ok : goal.returns-in-Ok
+returns-in-Ok c =
     let pre = c.requires in
-    passes_on _ pre.0 c.layer-x.ensures c.in-On.is c.layer_end-end.ensures pre.1.0
-    c.layer-x.auto.plan c.enter_next.ensures
+    passes_on _ pre.0 c.layer-x.ensures c.in-Ok.is c.layer_end-end.ensures pre.1.0
+    c.layer-x.auto.plan c.enter_next-follows.ensures
 
-pub returns-in-Over : goal.returns-in-Over
-returns-in-Over c =
-    passes_over _ c.requires.0 c.layer-x.ensures _ c.in-Over.is
+pub returns-in-Err : goal.returns-in-Err
+returns-in-Err c =
+    passes_over _ c.requires.0 c.layer-x.ensures _ c.in-Err.is

@@ -6,14 +6,14 @@ use lib.ListN.{get_or}
 use Rattle.beam_order.specs.Slots.{order_at}
 use Rattle.search_rounds.proofs.Ending.{raises_marked, raises_none, raises_first, raises_not, first_below}
 use Rattle.search_rounds.proofs.ends.raised.Goals as goal
+use Rattle.search_rounds.proofs.ends.raised.Goals.{then-marked-via-then-marked, then-marked-via-else-marked+then-count-eq0}
 
 pub returns-then-marked : goal.returns-then-marked
 returns-then-marked c =
-    raises_marked _ _ _ _ _ c.if-marked.true
-
-pub returns-then-count-eq0 : goal.returns-then-count-eq0
-returns-then-count-eq0 c =
-    raises_none _ _ _ _ _ c.if-count-eq0.true
+    elim c.then-marked.branch [
+      | then-marked-via-then-marked w ↦ raises_marked _ _ _ _ _ w.if-marked.true
+      | then-marked-via-else-marked+then-count-eq0 w ↦ raises_none _ _ _ _ _ w.if-count-eq0.true
+    ]
 
 pub overflow_mul-slot-2 : goal.overflow_mul-slot-2
 overflow_mul-slot-2 c =

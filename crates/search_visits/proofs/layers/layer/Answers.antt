@@ -1,4 +1,6 @@
 -- `search_visits::layers::layer` meets its contract. The invariant: what the definition makes of all the nodes is what it makes of those from `i` on.
+use native.Mathlib.Omega.{arith}
+use mathlib.Core.Path.{sym, ◌∙◌}
 use Rattle.search_visits.proofs.Visiting.{met_at}
 use Rattle.search_visits.proofs.Layering.{halfway_more, layer_over, layer_done}
 use Rattle.search_visits.proofs.layers.layer.Goals as goal
@@ -11,13 +13,13 @@ visit-x-requires c =
 pub loop-i-preserved : goal.loop-i-preserved
 loop-i-preserved c =
     halfway_more c.loop-i.invariant c.loop-i-test.true _ _ c.visit-x.result c.visit-x.ensures c.visit-x.auto.words
-    c.visit-x.auto.plan c.in-On.is
+    c.visit-x.auto.plan (sym c.is_err.ensures.value ∙ c.if-is_err.false)
 
-pub returns-in-Over : goal.returns-in-Over
-returns-in-Over c =
+pub returns-then-is_err : goal.returns-then-is_err
+returns-then-is_err c =
     layer_over c.loop-i.invariant c.loop-i-test.true _ _ c.visit-x.result c.visit-x.ensures c.visit-x.auto.words
-    c.visit-x.auto.plan c.in-Over.is
+    c.visit-x.auto.plan (sym c.is_err.ensures.value ∙ c.if-is_err.true)
 
 pub returns : goal.returns
 returns c =
-    layer_done c.loop-i.invariant c.loop-i-test.false
+    layer_done c.loop-i.invariant (omega (arith, c.loop-i-test.false))

@@ -4,4 +4,4 @@ use Rattle.search_visits.proofs.visits.count_one.Goals as goal
 
 pub returns : goal.returns
 returns c =
-    counted_one c.args.round _ c.counted-more.ensures
+    counted_one c.args.round _ c.counted-tally.ensures

@@ -1,5 +1,5 @@
 -- `solver::entry::search_set` meets its contract: what is lent, the reading, then the search. Each test's fact stands at its place.
-use mathlib.Core.Path.{◌≡◌, refl, sym, ◌∙◌}
+use mathlib.Core.Path.{◌≡◌, refl, ◌∙◌}
 use mathlib.Core.Bool.{true}
 use native.Mathlib.Omega.{arith}
 use lib.ListN.{length}
@@ -9,6 +9,7 @@ use Rattle.search.proofs.Settings.{last_fits, some_entries}
 use Rattle.search.proofs.Source.{set_little_lent, set_unread}
 use Rattle.steps.specs.InBytes.{refusal_in}
 use Rattle.steps.proofs.Promises.{ready, refused_in_lem}
+use Rattle.read_model.proofs.Refusals.{number_positive}
 use Rattle.solver.specs.Searches.{list_settings, lent}
 use Rattle.solver.proofs.Entering.{lent_at, room_lent, set_refused, set_says_lem}
 use Rattle.solver.proofs.entry.search_set.Goals as goal
@@ -26,28 +27,28 @@ search_model-requires c =
     let enough : let a = c.args in lent_fits (widest_of (listed a.widths.now)) a.limit (lent a.plan.now a.words.now) ≡ true = let a = c.args in
     lent_at _ _ a.limit (length a.plan.now) (length a.words.now) c.widest.ensures c.lent_fits.ensures c.if-lent_fits.true in
     record {
-      outlined = ready (c.read_and_prepare-number.ensures.ready c.if-number-eq0.true);
+      outlined = ready (c.in-Ok.ensures.ready);
       room = room_lent c.args.widths.now c.args.plan.now c.args.words.now c.args.limit c.requires.rises c.requires.few_steps (enough);
       rises = c.requires.rises;
       small_budget = search rules;
     }
 
-pub returns-then-number-eq0 : goal.returns-then-number-eq0
-returns-then-number-eq0 c =
-    let read : 0 ≡ refusal_in c.args.model.now = sym c.if-number-eq0.true ∙ c.read_and_prepare-number.ensures.number in
+pub returns-in-Ok : goal.returns-in-Ok
+returns-in-Ok c =
+    let read : 0 ≡ refusal_in c.args.model.now = c.in-Ok.ensures.number in
     let enough : let a = c.args in lent_fits (widest_of (listed a.widths.now)) a.limit (lent a.plan.now a.words.now) ≡ true = let a = c.args in
     lent_at _ _ a.limit (length a.plan.now) (length a.words.now) c.widest.ensures c.lent_fits.ensures c.if-lent_fits.true in
     let a = c.args in
     set_says_lem a.model.now a.plan.now a.words.now a.widths.now (plain a.limit) a.budget (read) refl a.limit refl (enough) _ _ _ c.search_model.ensures
 
-pub returns-then-lent_fits : goal.returns-then-lent_fits
-returns-then-lent_fits c =
+pub returns-in-Err : goal.returns-in-Err
+returns-in-Err c =
     let enough : let a = c.args in lent_fits (widest_of (listed a.widths.now)) a.limit (lent a.plan.now a.words.now) ≡ true = let a = c.args in
     lent_at _ _ a.limit (length a.plan.now) (length a.words.now) c.widest.ensures c.lent_fits.ensures c.if-lent_fits.true in
     let a = c.args in
     set_refused a.model.now a.plan.now a.words.now a.widths.now (plain a.limit) a.budget _ _
     (set_unread a.model.now (list_settings a.widths.now a.limit a.budget) (lent a.plan.now a.words.now) (enough)
-    (refused_in_lem a.model.now _ c.read_and_prepare-number.ensures.number (omega (arith, c.if-number-eq0.false))))
+    (refused_in_lem a.model.now _ (c.number.ensures ∙ c.in-Err.ensures.number) (omega (arith, c.number.ensures, number_positive c.in-Err.refused))))
     c.refusal.ensures
 
 pub returns : goal.returns

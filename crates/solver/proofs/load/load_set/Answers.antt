@@ -12,6 +12,7 @@ use Rattle.search.proofs.Settings.{last_fits, some_entries}
 use Rattle.search.proofs.Source.{set_unread, set_outside}
 use Rattle.steps.specs.InBytes.{refusal_in}
 use Rattle.steps.proofs.Promises.{ready, refused_in_lem}
+use Rattle.read_model.proofs.Refusals.{number_positive}
 use Rattle.solver.specs.Searches.{list_loading_settings, lent}
 use Rattle.solver.proofs.Entering.{reads_in, lent_at, room_lent, few_steps, set_refused, set_unlent, set_says_lem}
 use Rattle.solver.proofs.load.load_set.Goals as goal
@@ -22,7 +23,7 @@ widest-requires c =
 
 pub lent_fits-requires : goal.lent_fits-requires
 lent_fits-requires c =
-    let read : 0 ≡ refusal_in c.args.model.now = sym c.if-number-eq0.true ∙ c.read_and_prepare-number.ensures.number in
+    let read : 0 ≡ refusal_in c.args.model.now = c.in_default.ensures.number in
     let inside : in_profile (model_of c.args.model.now) ≡ true = sym c.in_profile.ensures ∙ c.if-in_profile.true in
     let few : c.loading_length-limit.result ≤ 256 = let a = c.args in
     few_steps a.model.now a.plan.now a.words.now a.widths.now loading a.budget (read) (inside) _ c.loading_length-limit.ensures refl in
@@ -30,14 +31,14 @@ lent_fits-requires c =
 
 pub search_model-requires : goal.search_model-requires
 search_model-requires c =
-    let read : 0 ≡ refusal_in c.args.model.now = sym c.if-number-eq0.true ∙ c.read_and_prepare-number.ensures.number in
+    let read : 0 ≡ refusal_in c.args.model.now = c.in_default.ensures.number in
     let inside : in_profile (model_of c.args.model.now) ≡ true = sym c.in_profile.ensures ∙ c.if-in_profile.true in
     let few : c.loading_length-limit.result ≤ 256 = let a = c.args in
     few_steps a.model.now a.plan.now a.words.now a.widths.now loading a.budget (read) (inside) _ c.loading_length-limit.ensures refl in
     let enough : let a = c.args in lent_fits (widest_of (listed a.widths.now)) c.loading_length-limit.result (lent a.plan.now a.words.now) ≡ true = let a = c.args in
     lent_at _ _ c.loading_length-limit.result (length a.plan.now) (length a.words.now) c.widest.ensures c.lent_fits.ensures c.if-lent_fits.true in
     record {
-      outlined = ready (c.read_and_prepare-number.ensures.ready c.if-number-eq0.true);
+      outlined = ready (c.in_default.ensures.ready);
       room = room_lent c.args.widths.now c.args.plan.now c.args.words.now c.loading_length-limit.result c.requires.1 (few) (enough);
       rises = c.requires.1;
       small_budget = search rules;
@@ -45,7 +46,7 @@ search_model-requires c =
 
 pub returns-then-lent_fits : goal.returns-then-lent_fits
 returns-then-lent_fits c =
-    let read : 0 ≡ refusal_in c.args.model.now = sym c.if-number-eq0.true ∙ c.read_and_prepare-number.ensures.number in
+    let read : 0 ≡ refusal_in c.args.model.now = c.in_default.ensures.number in
     let inside : in_profile (model_of c.args.model.now) ≡ true = sym c.in_profile.ensures ∙ c.if-in_profile.true in
     let enough : let a = c.args in lent_fits (widest_of (listed a.widths.now)) c.loading_length-limit.result (lent a.plan.now a.words.now) ≡ true = let a = c.args in
     lent_at _ _ c.loading_length-limit.result (length a.plan.now) (length a.words.now) c.widest.ensures c.lent_fits.ensures c.if-lent_fits.true in
@@ -54,26 +55,26 @@ returns-then-lent_fits c =
 
 pub returns-then-in_profile : goal.returns-then-in_profile
 returns-then-in_profile c =
-    let read : 0 ≡ refusal_in c.args.model.now = sym c.if-number-eq0.true ∙ c.read_and_prepare-number.ensures.number in
+    let read : 0 ≡ refusal_in c.args.model.now = c.in_default.ensures.number in
     let inside : in_profile (model_of c.args.model.now) ≡ true = sym c.in_profile.ensures ∙ c.if-in_profile.true in
     let a = c.args in
     set_refused a.model.now a.plan.now a.words.now a.widths.now loading a.budget 3 _
     (set_unlent a.model.now a.plan.now a.words.now a.widths.now loading a.budget (read) (inside) _ c.loading_length-limit.ensures
     (lent_at _ _ c.loading_length-limit.result (length a.plan.now) (length a.words.now) c.widest.ensures c.lent_fits.ensures c.if-lent_fits.false) refl)
-    c.refusal.ensures
-
-pub returns-then-number-eq0 : goal.returns-then-number-eq0
-returns-then-number-eq0 c =
-    let read : 0 ≡ refusal_in c.args.model.now = sym c.if-number-eq0.true ∙ c.read_and_prepare-number.ensures.number in
-    let a = c.args in
-    set_refused a.model.now a.plan.now a.words.now a.widths.now loading a.budget 15 _
-    (set_outside a.model.now (list_loading_settings a.widths.now a.budget) (lent a.plan.now a.words.now) refl (reads_in a.model.now (read)).1 (sym c.in_profile.ensures ∙ c.if-in_profile.false))
-    c.refusal-then-number-eq0.ensures
+    c.refusal-then-in_profile.ensures
 
 pub returns : goal.returns
 returns c =
+    let read : 0 ≡ refusal_in c.args.model.now = c.in_default.ensures.number in
+    let a = c.args in
+    set_refused a.model.now a.plan.now a.words.now a.widths.now loading a.budget 15 _
+    (set_outside a.model.now (list_loading_settings a.widths.now a.budget) (lent a.plan.now a.words.now) refl (reads_in a.model.now (read)).1 (sym c.in_profile.ensures ∙ c.if-in_profile.false))
+    c.refusal-2.ensures
+
+pub returns-in-Err : goal.returns-in-Err
+returns-in-Err c =
     let a = c.args in
     set_refused a.model.now a.plan.now a.words.now a.widths.now loading a.budget _ _
     (set_unread a.model.now (list_loading_settings a.widths.now a.budget) (lent a.plan.now a.words.now) refl
-    (refused_in_lem a.model.now _ c.read_and_prepare-number.ensures.number (omega (arith, c.if-number-eq0.false))))
-    c.refusal-2.ensures
+    (refused_in_lem a.model.now _ (c.number.ensures ∙ c.in-Err.ensures.number) (omega (arith, c.number.ensures, number_positive c.in-Err.refused))))
+    c.refusal.ensures

@@ -2,6 +2,7 @@
 use Prim.Native.Nat.{◌<◌}
 use native.Mathlib.Omega.{arith}
 use lib.ListN.{length}
+use Rattle.std.proofs.lemmas.Result.{err_from_is_err_and}
 use Rattle.words.proofs.Integers.{back}
 use Rattle.outline.specs.Outline.{model_of}
 use Rattle.steps.proofs.Signs.{range_fits}
@@ -16,14 +17,15 @@ pub loop-k-preserved : goal.loop-k-preserved
 loop-k-preserved c =
     let more : c.loop-k.k < length (model_of c.args.model.now).bounds = omega (arith, c.loop-k-test.true, c.word_at-count.ensures, c.requires.0.outlines.bound_count) in
     let says = c.bound_number.ensures in
-    rw (c.raise-h.ensures, back (range_fits (value_within _ c.in-Value.is says.0.within).0))
-    (raising_more _ _ _ _ c.loop-k.invariant.0 c.requires.0 (more) _ says.0 c.in-Value.is, says.1)
+    rw (c.raise-h.ensures, back (range_fits (value_within _ c.in_ok-z.was says.0.within).0))
+    (raising_more _ _ _ _ c.loop-k.invariant.0 c.requires.0 (more) _ says.0 c.in_ok-z.was, says.1)
 
-pub returns-in-Trouble : goal.returns-in-Trouble
-returns-in-Trouble c =
+pub returns-in_err-z : goal.returns-in_err-z
+returns-in_err-z c =
     let more : c.loop-k.k < length (model_of c.args.model.now).bounds = omega (arith, c.loop-k-test.true, c.word_at-count.ensures, c.requires.0.outlines.bound_count) in
     let says = c.bound_number.ensures in
-    (raising_troubles _ _ _ _ c.loop-k.invariant.0 c.requires.0 (more) _ says.0 c.in-Trouble.is, says.1)
+    let p = err_from_is_err_and c.from_residual.result c.from_residual.ensures.1 in
+    (rw (p.1, p.2) (raising_troubles _ _ _ _ c.loop-k.invariant.0 c.requires.0 (more) _ says.0 c.in_err-z.was), says.1)
 
 pub returns : goal.returns
 returns c =

@@ -1,15 +1,10 @@
--- `steps::check::follow` meets its contract: the target's constraints, then the steps.
-use Rattle.steps.proofs.Following.{target_meets, target_breaks, target_troubles}
+-- `steps::check::follow` meets its contract: the plan is followed, and a trouble is told by its number.
+use mathlib.Core.Path.{sym, ◌∙◌}
+use Rattle.steps.proofs.Following.{plan_passes, plan_refused}
 use Rattle.steps.proofs.check.follow.Goals as goal
 
-pub returns-in-All : goal.returns-in-All
-returns-in-All c =
-    target_meets _ _ _ c.start.ensures _ _ c.constraints_hold.ensures c.in-All.is _ c.follow_steps.ensures
+pub returns-in-Ok : goal.returns-in-Ok
+returns-in-Ok c = plan_passes _ _ _ (sym c.in-Ok.is ∙ c.follow_from_target.ensures)
 
-pub returns-in-Fails : goal.returns-in-Fails
-returns-in-Fails c =
-    target_breaks _ _ _ c.start.ensures _ _ c.constraints_hold.ensures c.in-Fails.is _ c.refused_plan.ensures
-
-pub returns-in-Trouble : goal.returns-in-Trouble
-returns-in-Trouble c =
-    target_troubles _ _ _ c.start.ensures _ _ c.constraints_hold.ensures c.in-Trouble.is _ c.refused_plan-in-Trouble.ensures
+pub returns-in-Err : goal.returns-in-Err
+returns-in-Err c = plan_refused _ _ _ (sym c.in-Err.is ∙ c.follow_from_target.ensures) c.number.ensures.kept c.refused_plan.ensures

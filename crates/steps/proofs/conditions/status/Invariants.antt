@@ -1,10 +1,6 @@
 -- `steps::conditions::status` meets its contract. The invariant: the base cases passed do not hold.
-use Prim.Native.Nat.{◌-◌}
 use Rattle.steps.proofs.Trials.{Seeking}
 use Rattle.steps.proofs.conditions.status.Given as goal
 
 abbrev pub invariant-loop-k : goal.invariant-loop-k
 invariant-loop-k l = Seeking l.model l.state l.k
-
-abbrev pub decreases-loop-k : goal.decreases-loop-k
-decreases-loop-k l = l.count - l.k

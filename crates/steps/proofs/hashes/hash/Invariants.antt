@@ -6,6 +6,3 @@ use Rattle.steps.proofs.hashes.hash.Given as goal
 
 abbrev pub invariant-loop-v : goal.invariant-loop-v
 invariant-loop-v l = (l.v ≤ l.count) × (mix_from l.outline l.state (l.count - l.v) l.v l.m ≡ mix_from l.outline l.state l.count 0 1)
-
-abbrev pub decreases-loop-v : goal.decreases-loop-v
-decreases-loop-v l = l.count - l.v

@@ -6,6 +6,3 @@ use Rattle.steps.proofs.moves.allowed.Given as goal
 
 abbrev pub invariant-loop-t : goal.invariant-loop-t
 invariant-loop-t l = (l.mask ≡ allowed_from l.outline l.state (l.end - l.t) l.t) × (l.first ≤ l.t) × (l.t ≤ l.end)
-
-abbrev pub decreases-loop-t : goal.decreases-loop-t
-decreases-loop-t l = l.t

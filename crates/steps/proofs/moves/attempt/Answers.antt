@@ -6,9 +6,13 @@ pub take-requires : goal.take-requires
 take-requires c =
     (c.requires.0, rest_read _ _ _ _ c.rest_holds.ensures c.in-All.is c.requires.1, c.requires.2, c.requires.3)
 
-pub returns-in-All : goal.returns-in-All
-returns-in-All c =
-    (attempt_taken _ _ _ _ c.rest_holds.ensures c.in-All.is _ _ c.take.ensures.0, c.take.ensures.1)
+pub returns-in-Ok : goal.returns-in-Ok
+returns-in-Ok c =
+    (rw c.in-Ok.is at (attempt_taken _ _ _ _ c.rest_holds.ensures c.in-All.is _ _ c.take.ensures.0), c.take.ensures.1)
+
+pub returns-in-Err : goal.returns-in-Err
+returns-in-Err c =
+    (rw c.in-Err.is at (attempt_taken _ _ _ _ c.rest_holds.ensures c.in-All.is _ _ c.take.ensures.0), c.take.ensures.1)
 
 pub returns-in-Fails : goal.returns-in-Fails
 returns-in-Fails c =

@@ -3,14 +3,14 @@ use Rattle.steps.proofs.Moving.{constraints_met, constraint_fails, constraint_tr
 use mathlib.Core.Path.{sym, ◌∙◌}
 use Rattle.steps.proofs.moves.constrained.Goals as goal
 
-pub returns-in-All : goal.returns-in-All
-returns-in-All c =
-    constraints_met _ _ _ _ _ (sym c.in-All.is ∙ c.child_holds.ensures)
+pub returns-then-holds : goal.returns-then-holds
+returns-then-holds c =
+    constraints_met _ _ _ _ _ (sym c.in-Ok.is ∙ c.child_holds.ensures) c.if-holds.true
 
-pub returns-in-Fails : goal.returns-in-Fails
-returns-in-Fails c =
-    constraint_fails _ _ _ _ _ (sym c.in-Fails.is ∙ c.child_holds.ensures)
+pub returns-else-holds : goal.returns-else-holds
+returns-else-holds c =
+    constraint_fails _ _ _ _ _ (sym c.in-Ok.is ∙ c.child_holds.ensures) c.if-holds.false
 
-pub returns-in-Trouble : goal.returns-in-Trouble
-returns-in-Trouble c =
-    constraint_troubles _ _ _ _ _ (sym c.in-Trouble.is ∙ c.child_holds.ensures)
+pub returns-in-Err : goal.returns-in-Err
+returns-in-Err c =
+    constraint_troubles _ _ _ _ _ (sym c.in-Err.is ∙ c.child_holds.ensures)

@@ -8,13 +8,13 @@ use Rattle.steps.proofs.moves.cost_number.Goals as goal
 pub returns-then-is_entry : goal.returns-then-is_entry
 returns-then-is_entry c =
     let form = c.is_entry.ensures c.if-is_entry.true in
-    let says = entry_promised _ _ c.requires.0 c.args.at _ form c.entry_at.result c.entry_at.ensures.0 c.entry_at.ensures.1 in
-    rw (back (range_fits {z = c.entry_at.result} c.entry_at.ensures.1)) (says.0, says.1, c.requires.2)
+    let says = entry_promised _ _ c.requires.0 c.args.at _ form c.entry_at-value.result c.entry_at-value.ensures.0 c.entry_at-value.ensures.1 in
+    rw (back (range_fits {z = c.entry_at-value.result} c.entry_at-value.ensures.1)) (says.0, says.1, c.requires.2)
 
-pub returns-then-short-lt-SILENT : goal.returns-then-short-lt-SILENT
-returns-then-short-lt-SILENT c =
-    kept_number_told _ _ c.requires.0 c.args.at _ _ (search rules) c.literal-short.ensures c.if-short-lt-SILENT.true c.requires.2
+pub returns-in-Some : goal.returns-in-Some
+returns-in-Some c =
+    kept_number_told _ _ c.requires.0 c.args.at _ _ (search rules) c.in-Some.ensures c.requires.2
 
-pub returns-then-told-lt-SILENT : goal.returns-then-told-lt-SILENT
-returns-then-told-lt-SILENT c =
-    kept_number_told _ _ c.requires.0 c.args.at _ _ (search rules) c.number-told.ensures c.if-told-lt-SILENT.true c.requires.2
+pub returns-in-Some-number : goal.returns-in-Some-number
+returns-in-Some-number c =
+    kept_number_told _ _ c.requires.0 c.args.at _ _ (search rules) c.in-Some-number.ensures c.requires.2

@@ -3,6 +3,7 @@ use Prim.Native.Nat.{◌+◌, ◌≤◌, ◌<◌}
 use mathlib.Core.Path.{◌≡◌, sym, ◌∙◌}
 use native.Mathlib.Omega.{arith}
 use lib.ListN.{length, get_or}
+use Rattle.std.proofs.lemmas.Result.{err_from_is_err_and}
 use Rattle.steps.proofs.Writing.{writing_first, next_inside, writing_more, writing_troubles, writing_last}
 use Rattle.steps.proofs.moves.effects.Goals as goal
 
@@ -27,14 +28,15 @@ loop-v-preserved c =
     let here : get_or c.args.model.now c.loop-v.next 0 ≡ 10 = sym c.byte_at.ensures ∙ c.loop-v-test.true in
     let named : (let bytes = c.args.model.now in let next = c.loop-v.next in (next + 2 ≤ length bytes) × (get_or bytes (next + 1) 0 < 16)) = next_inside _ _ _ _ _ _ c.loop-v.invariant.0 _ c.requires.0 (here) c.requires.1 in
     let writable : c.byte_at-v.result < length c.loop-v.child = omega (arith, (named).1, c.byte_at-v.ensures, c.loop-v.invariant.0.long, c.requires.2) in
-    let more = writing_more _ _ _ _ _ _ c.loop-v.invariant.0 _ c.requires.0 (here) _ c.byte_at-v.ensures _ c.word_for.ensures.0 (writable) c.in-Word.is in
+    let more = writing_more _ _ _ _ _ _ c.loop-v.invariant.0 _ c.requires.0 (here) _ c.byte_at-v.ensures _ c.word_for.ensures.0 (writable) c.in_ok-word.was in
     (more, c.word_for.ensures.2)
 
-pub returns-in-Trouble : goal.returns-in-Trouble
-returns-in-Trouble c =
+pub returns-in_err-word : goal.returns-in_err-word
+returns-in_err-word c =
     let here : get_or c.args.model.now c.loop-v.next 0 ≡ 10 = sym c.byte_at.ensures ∙ c.loop-v-test.true in
-    let stops = writing_troubles _ _ _ _ _ _ c.loop-v.invariant.0 _ c.requires.0 (here) _ c.byte_at-v.ensures _ c.word_for.ensures.0 c.in-Trouble.is in
-    (stops, c.word_for.ensures.2)
+    let stops = writing_troubles _ _ _ _ _ _ c.loop-v.invariant.0 _ c.requires.0 (here) _ c.byte_at-v.ensures _ c.word_for.ensures.0 c.in_err-word.was in
+    let p = err_from_is_err_and c.from_residual.result c.from_residual.ensures.1 in
+    rw (p.1, p.2) (stops, c.word_for.ensures.2)
 
 pub returns : goal.returns
 returns c =

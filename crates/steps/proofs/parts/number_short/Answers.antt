@@ -4,10 +4,10 @@ use borrow.Author.Rules.{rules}
 use Rattle.steps.proofs.Evaluated.{kept_number_told}
 use Rattle.steps.proofs.parts.number_short.Goals as goal
 
-pub returns-then-short-lt-SILENT : goal.returns-then-short-lt-SILENT
-returns-then-short-lt-SILENT c =
-    kept_number_told _ _ c.requires.0 c.args.at _ _ (search rules) c.literal-short.ensures c.if-short-lt-SILENT.true c.requires.2
+pub returns-in-Some : goal.returns-in-Some
+returns-in-Some c =
+    kept_number_told _ _ c.requires.0 c.args.at _ _ (search rules) c.in-Some.ensures c.requires.2
 
-pub returns-then-told-lt-SILENT : goal.returns-then-told-lt-SILENT
-returns-then-told-lt-SILENT c =
-    kept_number_told _ _ c.requires.0 c.args.at _ _ (search rules) c.shifted-told.ensures c.if-told-lt-SILENT.true c.requires.2
+pub returns-in-Some-shifted : goal.returns-in-Some-shifted
+returns-in-Some-shifted c =
+    kept_number_told _ _ c.requires.0 c.args.at _ _ (search rules) c.in-Some-shifted.ensures c.requires.2

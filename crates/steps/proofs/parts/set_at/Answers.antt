@@ -8,4 +8,4 @@ returns-then-end-at c =
 
 pub returns : goal.returns
 returns c =
-    set_told _ _ c.requires.0 _ _ _ _ c.set-told.ensures c.if-end-at.false 0
+    set_told _ _ c.requires.0 _ _ _ (c.set-members.ensures c.if-end-at.false) 0

@@ -14,12 +14,12 @@ loop-v-init c =
 pub loop-v-preserved : goal.loop-v-preserved
 loop-v-preserved c =
     let declared : c.loop-v.v < length (model_of c.args.model.now).variables = omega (arith, c.loop-v-test.true, c.word_at-count.ensures, c.requires.outlines.variable_count) in
-    comparing_more _ _ c.requires _ _ _ (declared) (sym c.if-no_worse_at.true ∙ c.no_worse_at.ensures) c.loop-v.invariant
+    comparing_more _ _ c.requires _ _ _ (declared) (sym c.if-not-no_worse_at.false ∙ c.no_worse_at.ensures) c.loop-v.invariant
 
-pub returns-else-no_worse_at : goal.returns-else-no_worse_at
-returns-else-no_worse_at c =
+pub returns-then-not-no_worse_at : goal.returns-then-not-no_worse_at
+returns-then-not-no_worse_at c =
     let declared : c.loop-v.v < length (model_of c.args.model.now).variables = omega (arith, c.loop-v-test.true, c.word_at-count.ensures, c.requires.outlines.variable_count) in
-    comparing_fails _ _ c.requires _ _ _ (declared) (sym c.if-no_worse_at.false ∙ c.no_worse_at.ensures) c.loop-v.invariant
+    comparing_fails _ _ c.requires _ _ _ (declared) (sym c.if-not-no_worse_at.true ∙ c.no_worse_at.ensures) c.loop-v.invariant
 
 pub returns : goal.returns
 returns c =

@@ -4,12 +4,13 @@ use native.Mathlib.Omega.{arith}
 use Rattle.words.specs.Tables.{Covered}
 use Rattle.words.proofs.Covered.{covered_sum}
 use Rattle.words.proofs.Integers.{back}
+use Rattle.words.proofs.Members.{members_none}
 use Rattle.words.proofs.Sums.{begin, done}
 use Rattle.words.proofs.tables.walked.Goals as goal
 
 pub returns-then-s-eq0 : goal.returns-then-s-eq0
 returns-then-s-eq0 c =
-    rw c.if-s-eq0.true (done 32 _ 0 _ (begin 32 _ 0 (omega arith)))
+    rw c.if-s-eq0.true (done 32 _ 0 _ _ members_none (begin 32 _ 0 (omega arith)))
 
 pub returns-then-covers : goal.returns-then-covers
 returns-then-covers c =

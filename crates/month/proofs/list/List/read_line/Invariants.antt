@@ -1,0 +1,6 @@
+-- `month::list::List::read_line`: what came is in the line; what is left of the input lies in the buffer.
+use Rattle.month.specs.Taking.{LineSays}
+use Rattle.month.proofs.list.List.read_line.Given as goal
+
+abbrev pub invariant-loop : goal.invariant-loop
+invariant-loop g l = LineSays l.line

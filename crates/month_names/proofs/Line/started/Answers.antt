@@ -1,0 +1,7 @@
+-- `month_names::Line::started`: a line before its first byte.
+use Rattle.month_names.proofs.Pushing.{line_started}
+use Rattle.month_names.proofs.Line.started.Goals as goal
+
+pub returns : goal.returns
+returns c =
+    line_started _

@@ -1,7 +1,0 @@
--- `month_names::started`: a line before its first byte.
-use Rattle.month_names.proofs.Pushing.{line_started}
-use Rattle.month_names.proofs.started.Goals as goal
-
-pub returns : goal.returns
-returns c =
-    line_started
