@@ -1,7 +1,7 @@
 // The troubles of evaluation, of steps and of plans.
 
 ghost use Rattle.std.specs.Prelude.{◌≡◌, ℕ};
-ghost use Rattle.model.proofs.Troubles.{PlanTrouble};
+ghost use Rattle.model.specs.Troubles.{PlanTrouble};
 ghost use Rattle.eval_sets.specs.Troubles.{number_of, named};
 
 // Why there is no value. Nothing: the bytes hold no such expression.

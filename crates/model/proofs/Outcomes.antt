@@ -13,7 +13,8 @@ use lib.IntN.{ℤ, pos, negsuc}
 use lib.Signed.{mag}
 use borrow.Author.Tests.{leb-true, ltb-true}
 use Rattle.laws.proofs.Bools.{by_cond}
-use Rattle.model.specs.Numbers.{divisor_zero, negative_cost, high_below_low}
+use Rattle.model.specs.Numbers.{divisor_zero, negative_cost}
+use Rattle.model.specs.Troubles.{StateTrouble, by_value, by_range}
 use Rattle.model.specs.Values.{Value, value, trouble, ◌>>=◌, in_range, floor_quotient}
 use Rattle.model.specs.System.{Status, base, unfinished, no_status, Move, blocked, moved, trouble_before, trouble_after}
 use Rattle.model.specs.Syntax.{Number, literal, number_variable, plus, minus, times, quotient, lesser, greater, entry, size, total, choice, Condition, equal, less, at_most, same, member, is_empty, subset, negation, both, either, Expression, of_set, of_element, of_number, Table, Effect, StepCosts, Transition, Model}
@@ -28,11 +29,6 @@ module _ {A : Type 0} (P : A → Type 0) (Q : ℕ → Type 0) where
   pub data Outcome : Value A → Type 0 where
     a_value : {a : A} → P a → Outcome (value a)
     a_trouble : {t : ℕ} → Q t → Outcome (trouble t)
-
--- the numbers of the troubles that a state gives: 11 to 13, and 17
-pub data StateTrouble (t : ℕ) : Type 0 where
-  by_value : 11 ≤ t → t ≤ 13 → StateTrouble t
-  by_range : t ≡ high_below_low → StateTrouble t
 
 abbrev pub Anything : {A : Type 0} → A → Type 0
 Anything a = Unit {0}

@@ -39,11 +39,11 @@ no_depth_fair : (A : Type 0) → Fair (no_depth {A = A})
 unfolding no_depth
 no_depth_fair A = next_fair byte_fair (refuse_fair too_deep (omega arith))
 
-objects_and_members_fair : Fair objects_and_members
+pub objects_and_members_fair : Fair objects_and_members
 unfolding objects_and_members
 objects_and_members_fair = then_fair (word_fair 1) (λ n. then_fair (word_fair 8) (λ s. require_give_fair _ off_limits _ (omega arith)))
 
-object_number_fair : Fair object_number
+pub object_number_fair : Fair object_number
 unfolding object_number
 object_number_fair = then_fair (word_fair 1) (λ k. require_give_fair _ off_limits _ (omega arith))
 
@@ -114,7 +114,7 @@ module _ (vs : List Variable) (ts : List Table) where
 
 -- ---- commands
 
-cost_rule_fair : Fair cost_rule
+pub cost_rule_fair : Fair cost_rule
 unfolding cost_rule
 cost_rule_fair = next_fair (command_fair 0x01) (then_fair (word_fair 1) (λ r. require_give_fair _ off_limits _ (omega arith)))
 

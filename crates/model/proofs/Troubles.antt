@@ -9,6 +9,7 @@ use lib.ListN.{length}
 use lib.Dec.{ltb}
 use Rattle.laws.proofs.Bools.{by_cond}
 use Rattle.model.specs.Numbers.{model_too_long, bad_setting, not_a_plan, most_model_bytes, most_steps, range_end}
+use Rattle.model.specs.Troubles.{StateTrouble, by_value, by_range, PlanTrouble, is_no_plan, of_state}
 use Rattle.model.specs.Values.{Value, trouble}
 use Rattle.model.specs.System.{Costs, Status, no_status, Move, trouble_before, trouble_after}
 use Rattle.model.specs.Syntax.{Number, Condition, Table, Model}
@@ -18,7 +19,7 @@ use Rattle.model.specs.Costs.{free, costs_of}
 use Rattle.model.specs.declared.Cost.{Cost}
 use Rattle.model.specs.Steps.{target, system_of}
 use Rattle.model.specs.Check.{final, after_move, after_status, follow, after_constraints, follow_from, check_model, check}
-use Rattle.model.proofs.Outcomes.{Outcome, a_value, a_trouble, StateTrouble, by_value, by_range, Anything, outcome_trouble, trouble_outcome, number_outcome, condition_outcome, StatusOutcome, is_base, is_unfinished_lem, no_status_lem, status_outcome, admits_outcome, MoveOutcome, no_move, a_move, trouble_before_lem, trouble_after_lem, move_outcome, bound_outcome}
+use Rattle.model.proofs.Outcomes.{Outcome, a_value, a_trouble, Anything, outcome_trouble, trouble_outcome, number_outcome, condition_outcome, StatusOutcome, is_base, is_unfinished_lem, no_status_lem, status_outcome, admits_outcome, MoveOutcome, no_move, a_move, trouble_before_lem, trouble_after_lem, move_outcome, bound_outcome}
 use Rattle.model.proofs.Fair.{ReadBy, reads, refuses}
 use Rattle.model.proofs.Reading.{model_full}
 
@@ -64,11 +65,6 @@ module _ (end : ℕ) (m : Model) where
   bound_trouble s e = outcome_trouble (bound_outcome end m s) e
 
 -- ---- following a plan
-
--- the state's troubles and "not a plan"
-pub data PlanTrouble (t : ℕ) : Type 0 where
-  is_no_plan : t ≡ not_a_plan → PlanTrouble t
-  of_state : StateTrouble t → PlanTrouble t
 
 abbrev PlanOutcome : Value Cost → Type 0
 PlanOutcome = Outcome Anything PlanTrouble

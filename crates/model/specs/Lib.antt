@@ -1,5 +1,6 @@
 -- The lower layer's definitions, in the order to read them. docs/FORMAT.md says them in words; each file names its headings there.
 pub mod Numbers
+pub mod Troubles
 pub mod Values
 pub mod Sets
 pub mod System

@@ -13,8 +13,10 @@ use borrow.Author.Tests.{eq-eqb, ne_eqb, eqb-true, eqb_apart, ltb-true, ltb-fals
 use Rattle.std.specs.Prelude.{Result, Ok, Err, IsErrAnd}
 use Rattle.model.specs.Numbers.{ends_early, not_due, off_limits}
 use Rattle.model.specs.Readers.{Read, read, refused, Reader, after, continue, ◌>>=◌, ◌>>◌, give, require, byte, command, many}
+use Rattle.model.specs.Commands.{cost_rule}
 use Rattle.model.proofs.Chains.{after_read}
-use Rattle.model.proofs.Fair.{Fair, ReadBy, refused_by}
+use Rattle.model.proofs.Fair.{Fair, ReadBy, refused_by, command_fair}
+use Rattle.model.proofs.Reading.{cost_rule_fair}
 use Rattle.model.proofs.Loops.{after_after, many_more, many_end, many_full, many_early, many_head_refused, many_body_refused}
 use Rattle.read_forms.specs.Refusals.{number_of, named}
 use Rattle.read_forms.specs.declared.refusals.Refusal.{Refusal}
@@ -76,6 +78,7 @@ module _ {A : Type 0} where
     pub fair_number : Fair r → {t : ℕ} → read_at r at bytes ≡ refused t → number_of (named t) ≡ t
     fair_number fair {t} e = let h = refused_by (subst (ReadBy ◌≤◌ (drop at bytes)) (at_refuses e) (fair (drop at bytes))) in number_named t h.0 h.1
 
+    -- so a refusal that is told has the number that was read; the readers of a model are fair by number_fair, transition_fair and so on
     pub fair_refusal : Fair r → {x : Refusal} → Err x ≡ position_of (read_at r at bytes) → read_at r at bytes ≡ refused (number_of x)
     fair_refusal fair q = let h = position_refused (read_at r at bytes) q in h.1 ∙ ap refused (sym (ap number_of h.2 ∙ fair_number fair h.1))
 
@@ -147,6 +150,9 @@ module _ (c at : ℕ) (bytes : List ℕ) where
   unfolding command ◌>>=◌ continue byte
   command_early h = refuses_at (command c) at bytes (rw (nothing bytes at h))
 
+  pub command_numbered : {x : Refusal} → Err x ≡ position_of (read_at (command c) at bytes) → read_at (command c) at bytes ≡ refused (number_of x)
+  command_numbered q = fair_refusal (command c) at bytes (command_fair c) q
+
   -- the byte that is read stands at the position
   pub record There (m : ℕ) : Type 0 where
     pub inside : at < length bytes
@@ -165,6 +171,9 @@ module _ (c at : ℕ) (bytes : List ℕ) where
           record { inside = i; is = k; behind = l }
       go true h false e = let k = q ∙ ap position_of (command_other (ltb-true at (length bytes) h) (eqb_apart (get_or bytes at 0) c e)) in let z : ◌≡◌ {A = ℕ} 0 1 = cc in absurd (omega arith)
       go false h u e = let k = q ∙ ap position_of (command_early (ltb-false at (length bytes) h)) in let z : ◌≡◌ {A = ℕ} 0 1 = cc in absurd (omega arith)
+
+pub cost_rule_numbered : (at : ℕ) (bytes : List ℕ) {x : Refusal} → Err x ≡ position_of (read_at cost_rule at bytes) → read_at cost_rule at bytes ≡ refused (number_of x)
+cost_rule_numbered at bytes q = fair_refusal cost_rule at bytes cost_rule_fair q
 
 -- ---- a loop of commands, at a position, with the items read before it in their order
 

@@ -1,7 +1,8 @@
 // The refusals by the input that a reader gives.
 
-ghost use Rattle.std.specs.Prelude.{◌≡◌};
-ghost use Rattle.read_forms.specs.Refusals.{number_of};
+ghost use Rattle.std.specs.Prelude.{◌≡◌, ◌≤◌, ℕ};
+ghost use Rattle.model.specs.Numbers.{ends_early, bytes_after_end};
+ghost use Rattle.read_forms.specs.Refusals.{number_of, named};
 
 // Why bytes are refused: they end early, a byte begins nothing that is due, a kind or a count does not fit, a value or one part more is
 // off the limits, expressions are nested too deep, bytes stand behind the end.
@@ -18,7 +19,8 @@ pub enum Refusal {
 impl Refusal {
     // The refusal's number in the format.
     pub fn number(self) -> u8
-        ensures { result ≡ number_of self }
+        ensures number { result ≡ number_of self }
+        ensures kept { (t : ℕ) → ends_early ≤ t → t ≤ bytes_after_end → self ≡ named t → result ≡ t }
     {
         match self {
             Refusal::EndsEarly => 4,

@@ -13,6 +13,7 @@ use borrow.Author.Tests.{leb-true, le-leb}
 use Rattle.laws.proofs.Bools.{and_both}
 use Rattle.model.specs.declared.Cost.{Cost}
 use Rattle.model.specs.Numbers.{range_end, most_model_bytes, most_steps, model_too_long, bad_setting, bad_widths, too_little_lent, not_a_plan}
+use Rattle.model.specs.Troubles.{StateTrouble, by_value, by_range}
 use Rattle.model.specs.Values.{Value, value, trouble}
 use Rattle.model.specs.Readers.{Read, read, refused}
 use Rattle.model.specs.Syntax.{Model}
@@ -22,7 +23,6 @@ use Rattle.model.specs.Steps.{target, system_of, origin_of}
 use Rattle.model.proofs.Costs.{cost_laws, at_most_hours}
 use Rattle.model.specs.Check.{check, cost_given, answer_cost, answer_low, CheckedPlan}
 use Rattle.model.proofs.Dominance.{dominates_self}
-use Rattle.model.proofs.Outcomes.{StateTrouble, by_value, by_range}
 use Rattle.model.proofs.Ranges.{trouble_priced}
 use Rattle.model.specs.Real.{RealHours, TrueOfRanges, NoRanges}
 use Rattle.model.proofs.Real.{joined_no_moves, plan_no_moves, path_no_moves, no_ranges_one_figure, real_cost_between, declared_true}

@@ -23,7 +23,8 @@ use Rattle.costs.specs.Costs.{Joinable}
 use Rattle.model.specs.Check.{final, after_move, after_status, follow, after_constraints, follow_from, answer_number, cost_given}
 use Rattle.outline.specs.Outline.{model_of, rule_number}
 use Rattle.std.specs.Prelude.{Result, Ok, Err}
-use Rattle.model.proofs.Troubles.{PlanTrouble, follow_from_trouble}
+use Rattle.model.specs.Troubles.{PlanTrouble}
+use Rattle.model.proofs.Troubles.{follow_from_trouble}
 use Rattle.eval_sets.specs.declared.troubles.Trouble.{Trouble}
 use Rattle.eval_sets.specs.declared.troubles.Trouble.TheVariants.{NotAPlan}
 use Rattle.eval_sets.specs.Troubles.{named}

@@ -22,7 +22,7 @@ returns-in-Ok c =
 pub returns-in-Err : goal.returns-in-Err
 returns-in-Err c =
     let short : length c.args.model.now ≤ most_model_bytes = leb-true (length c.args.model.now) most_model_bytes (sym c.length_fits.ensures ∙ c.if-length_fits.true) in
-    told_same _ (check_refused _ _ _ (short) c.if-plan-gt-MOST_STEPS.false (c.number.ensures ∙ c.in-Err.ensures.number) (omega (arith, c.number.ensures, number_positive c.in-Err.refusal))) c.refused_plan-in-Err.ensures
+    told_same _ (check_refused _ _ _ (short) c.if-plan-gt-MOST_STEPS.false (c.number.ensures.number ∙ c.in-Err.ensures.number) (omega (arith, c.number.ensures.number, number_positive c.in-Err.refusal))) c.refused_plan-in-Err.ensures
 
 pub returns : goal.returns
 returns c =

@@ -48,7 +48,7 @@ returns-in-Err c =
     let a = c.args in
     set_refused a.model.now a.plan.now a.words.now a.widths.now (plain a.limit) a.budget _ _
     (set_unread a.model.now (list_settings a.widths.now a.limit a.budget) (lent a.plan.now a.words.now) (enough)
-    (refused_in_lem a.model.now _ (c.number.ensures ∙ c.in-Err.ensures.number) (omega (arith, c.number.ensures, number_positive c.in-Err.refused))))
+    (refused_in_lem a.model.now _ (c.number.ensures.number ∙ c.in-Err.ensures.number) (omega (arith, c.number.ensures.number, number_positive c.in-Err.refused))))
     c.refusal.ensures
 
 pub returns : goal.returns

@@ -76,5 +76,5 @@ returns-in-Err c =
     let a = c.args in
     set_refused a.model.now a.plan.now a.words.now a.widths.now loading a.budget _ _
     (set_unread a.model.now (list_loading_settings a.widths.now a.budget) (lent a.plan.now a.words.now) refl
-    (refused_in_lem a.model.now _ (c.number.ensures ∙ c.in-Err.ensures.number) (omega (arith, c.number.ensures, number_positive c.in-Err.refused))))
+    (refused_in_lem a.model.now _ (c.number.ensures.number ∙ c.in-Err.ensures.number) (omega (arith, c.number.ensures.number, number_positive c.in-Err.refused))))
     c.refusal.ensures
