@@ -4,19 +4,20 @@
 
 use search_report::answers::Answer;
 use search_report::figures::{numbers, refusal_number};
-use std::fmt;
+use std::{fmt, io};
 
 // Numbers in a row, with one space before each but the first.
 #[derive(Clone, Copy)]
 pub struct Row<'a>(pub &'a [u64]);
 
-impl fmt::Display for Row<'_> {
-    fn fmt<W: fmt::Write>(&self, f: &mut fmt::Formatter<W>) -> fmt::Result {
+impl Row<'_> {
+    // Each number is written by itself: what came before one that cannot be written has come out.
+    pub fn print(self, rt: &impl Print) -> io::Result<()> {
         for (i, number) in self.0.iter().enumerate() {
             if 0 < i {
-                write!(f, " ")?;
+                print!(rt; " ")?;
             }
-            write!(f, "{number}")?;
+            print!(rt; "{number}")?;
         }
         Ok(())
     }
@@ -32,20 +33,22 @@ impl fmt::Display for Refused {
     }
 }
 
-// All fields of an answer, a colon and its steps.
+// All fields of an answer, a colon and its steps, which are at the front of the plan buffer.
 #[derive(Clone, Copy)]
 pub struct AllFields<'a> {
     pub answer: Answer,
     pub steps: &'a [u8],
 }
 
-impl fmt::Display for AllFields<'_> {
-    fn fmt<W: fmt::Write>(&self, f: &mut fmt::Formatter<W>) -> fmt::Result {
-        write!(f, "{} :", Row(&numbers(self.answer)))?;
+impl AllFields<'_> {
+    // Field by field and step by step, then the end of the line.
+    pub fn print(self, rt: &impl Print) -> io::Result<()> {
+        Row(&numbers(self.answer)).print(rt)?;
+        print!(rt; " :")?;
         for step in self.steps {
-            write!(f, " {step}")?;
+            print!(rt; " {step}")?;
         }
-        Ok(())
+        println!(rt)
     }
 }
 
@@ -56,12 +59,13 @@ pub struct Line<'a> {
     pub steps: &'a [u8],
 }
 
-impl fmt::Display for Line<'_> {
-    fn fmt<W: fmt::Write>(&self, f: &mut fmt::Formatter<W>) -> fmt::Result {
-        let Line { answer, steps } = *self;
+impl Line<'_> {
+    // The fields and the steps at a verdict, "refused" and the number at a refusal.
+    pub fn print(self, rt: &impl Print) -> io::Result<()> {
+        let Line { answer, steps } = self;
         match answer.outcome {
-            Ok(_) => write!(f, "{}", AllFields { answer, steps }),
-            Err(refusal) => write!(f, "{}", Refused(refusal_number(refusal))),
+            Ok(_) => AllFields { answer, steps }.print(rt),
+            Err(refusal) => println!(rt; "{}", Refused(refusal_number(refusal))),
         }
     }
 }

@@ -53,7 +53,7 @@ fn plan_bytes(rt: &impl Print, model: &[u8]) -> io::Result<Fields>
     let mut plan = [0u8; 64];
     let answer = plan_model(model, &mut plan);
     let steps = plan_part(&mut plan, answer.length);
-    println!(rt; "{}", line::Line { answer, steps })?;
+    line::Line { answer, steps }.print(rt)?;
     Ok(fields(answer))
 }
 
@@ -133,6 +133,9 @@ pub fn run(rt: &(impl Input + Files + Print + Eprint)) -> io::Result<()> {
     let month = take_names(rt)?;
     match month.end {
         End::Unread => eprintln!(rt; "monthly: the list cannot be read"),
-        End::Full | End::Over => println!(rt; "{}", Row(&closing(month.figures))),
+        End::Full | End::Over => {
+            Row(&closing(month.figures)).print(rt)?;
+            println!(rt)
+        }
     }
 }

@@ -1,4 +1,4 @@
--- The scan of a part of a list: what was taken so far stands between the place where it began and the place reached.
+-- The scan of a part of a list: what was taken so far stands before the place reached.
 use Rattle.std.specs.Prelude.{Some, None}
 use Rattle.std.proofs.lemmas.List.{drop_all}
 use Prim.Native.Nat.{ℕ, ◌+◌, ◌≤◌, ◌<◌}

@@ -6,11 +6,11 @@ ghost use Rattle.std.specs.Prelude.{◌≡◌, eqb, MatchOption};
 ghost use Rattle.month_names.specs.Lines.{Started, Pushed, Scanned, Usable, Unusable, NameIs};
 
 // A line as far as it came: its bytes as far as a name may go; how many there are, 256 where a name may not have so many; whether one of them is 0.
-#[derive(Drop)]
+#[derive(Clone, Copy)]
 pub struct Line {
     bytes: [u8; 255],
-    length: usize,
-    zero: bool,
+    pub length: usize,
+    pub zero: bool,
 }
 
 impl Line {

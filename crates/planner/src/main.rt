@@ -12,7 +12,7 @@ fn write_plan(rt: &impl Print, model: &[u8]) -> io::Result<()> {
     let mut plan = [0u8; 64];
     let answer = plan_model(model, &mut plan);
     let steps = plan_part(&mut plan, answer.length);
-    println!(rt; "{}", Line { answer, steps })
+    Line { answer, steps }.print(rt)
 }
 
 // A byte more than a model may have here tells one that is too long.

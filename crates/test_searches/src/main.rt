@@ -140,9 +140,10 @@ fn is_there(rt: &impl Env, i: usize) -> bool {
 // Writes an answer's line; a second one gives the fields and the path at a refusal by the state.
 fn write_lines(rt: &impl Print, answer: Answer, plan: &mut [u8]) -> io::Result<()> {
     let steps = plan_part(plan, answer.length);
-    println!(rt; "{}", Line { answer, steps })?;
+    Line { answer, steps }.print(rt)?;
     if let Err(Refusal::ByState(_)) = answer.outcome {
-        println!(rt; "  at {}", AllFields { answer, steps })?;
+        print!(rt; "  at ")?;
+        return AllFields { answer, steps }.print(rt);
     }
     Ok(())
 }

@@ -1,4 +1,4 @@
--- `month::list::List::read_line`: what came is in the line; what is left of the input lies in the buffer.
+-- `month::list::List::read_line`: what came so far is in the line.
 use Rattle.month.specs.Taking.{LineSays}
 use Rattle.month.proofs.list.List.read_line.Given as goal
 
