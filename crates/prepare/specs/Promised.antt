@@ -21,7 +21,7 @@ use Rattle.prepare.specs.Prepared.{MasksAt, PlaceAt, TransitionAt, ConjunctAt, C
 
 -- ---- a test that a condition's own bytes make
 
--- a condition of r's bytes, none where it is no test: its value is whether the word is as needed under the mask
+-- a condition of r's bytes: its value is whether the word is as needed under the mask
 pub record TestIs (m : Model) (r : Test) (x : Condition) (n : ℕ) : Type 0 where
   pub used : n ≡ r.used
   pub decides : (state : List ℕ) → condition_value range_end m.tables x (state_of m.variables state)

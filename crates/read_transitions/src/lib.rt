@@ -73,7 +73,7 @@ pub fn condition_at(model: &[u8], at: usize, names: Names) -> Result<usize, Refu
     Ok(condition.end)
 }
 
-// Any conditions, 08 each. The loop ends at another byte, and counts positions.
+// Any conditions, 08 each. The loop ends at another byte: no range gives the positions.
 pub fn conditions(model: &[u8], start: usize, names: Names) -> Result<usize, Refusal>
     ensures { result ≡ position_of (read_at (commands.conditions (variables_in names.entry) (tables_in names.entry)) start model.now) }
 {
@@ -151,7 +151,7 @@ fn effect(
     Ok(Change { variable, end })
 }
 
-// Any effects, one for a variable. The loop ends at another byte, and counts positions.
+// Any effects, one for a variable. The loop ends at another byte: no range gives the positions.
 fn effects(model: &[u8], start: usize, names: Names) -> Result<usize, Refusal>
     requires { length names.kinds.now ≤ most_variables }
     ensures { result ≡ position_of (read_at (effects_behind (variables_in names.entry) (tables_in names.entry) most_variables []) start model.now) }

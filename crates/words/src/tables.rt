@@ -63,7 +63,7 @@ fn walked_far(model: &[u8], table: u64, s: u64, from: u64, j: u64) -> i64
     requires { (s < 2 ^ half) × (from ≤ half) × (j < most_objects) }
     ensures { (result ≡ sum_over (λ i. entry_in model.now (at_of table) (columns_of table) (cells_of table) (from + i) j) (Sets.members s)) × (mag result ≤ half * range_end) }
 {
-    // A `for` over members(s), as in `summed` and `few`, takes a tenth longer here.
+    // A `for` over members(s), as in `summed` and `few`, takes 7 in a hundred longer here.
     let mut left = s;
     let mut sum: i64 = 0;
     while left != 0 {

@@ -1,4 +1,4 @@
--- `cursor::numbers::plus_entry` meets its contract: a number variable, a table's entry behind it, and the code of their sum.
+-- `cursor::numbers::plus_entry` meets its contract: a number variable, a table's entry behind it, and their sum where it is told.
 -- Nine bytes stand at the cursor; the variable is from the second of them on, the entry from the fourth on.
 use Prim.Native.Nat.{◌+◌}
 use mathlib.Core.Path.{◌≡◌, refl}

@@ -1,4 +1,4 @@
--- `cursor::numbers::two_entries` meets its contract: two entries in range, one behind the other, and the code of their sum.
+-- `cursor::numbers::two_entries` meets its contract: two entries in range, one behind the other, and their sum where it is told.
 -- Thirteen bytes stand at the cursor; the first entry is from the second of them on, the second from the eighth on.
 use Prim.Native.Nat.{◌+◌}
 use mathlib.Core.Path.{◌≡◌, refl}
