@@ -11,7 +11,7 @@ use std::{fmt, io};
 pub struct Row<'a>(pub &'a [u64]);
 
 impl Row<'_> {
-    // Each number is written by itself: what came before one that cannot be written has come out.
+    // Number by number: where one cannot be written, those before it have been.
     pub fn print(self, rt: &impl Print) -> io::Result<()> {
         for (i, number) in self.0.iter().enumerate() {
             if 0 < i {
@@ -33,7 +33,7 @@ impl fmt::Display for Refused {
     }
 }
 
-// All fields of an answer, a colon and its steps, which are at the front of the plan buffer.
+// All fields of an answer, a colon and its steps, which `plan_part` of solver cuts out of the plan buffer.
 #[derive(Clone, Copy)]
 pub struct AllFields<'a> {
     pub answer: Answer,

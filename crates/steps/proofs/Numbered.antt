@@ -7,24 +7,20 @@ use Rattle.model.specs.Numbers.{range_end}
 use Rattle.model.specs.Troubles.{PlanTrouble, of_state}
 use Rattle.model.specs.Values.{trouble}
 use Rattle.model.specs.System.{no_status, trouble_before, trouble_after}
-use Rattle.model.specs.Syntax.{Number, Condition}
-use Rattle.model.specs.Meaning.{State, number_value, condition_value, all_hold}
+use Rattle.model.specs.Syntax.{Condition}
+use Rattle.model.specs.Meaning.{State, all_hold}
 use Rattle.model.specs.declared.Cost.{Cost}
 use Rattle.model.proofs.Outcomes.{outcome_trouble, all_hold_outcome}
-use Rattle.model.proofs.Troubles.{number_trouble, condition_trouble, admits_trouble, status_trouble, move_trouble_before, move_trouble_after, bound_trouble}
+use Rattle.model.proofs.Troubles.{admits_trouble, status_trouble, move_trouble_before, move_trouble_after, bound_trouble}
 use Rattle.outline.specs.Outline.{model_of}
-use Rattle.eval_sets.specs.declared.answers.ConditionValue.TheVariants as C
 use Rattle.eval_sets.specs.declared.troubles.Trouble.{Trouble}
-use Rattle.eval_sets.specs.Answers.{number_answer, condition_answer}
 use Rattle.eval_sets.specs.Troubles.{named}
-use Rattle.eval_tests.specs.Stopped.{stopped}
 use Rattle.steps.specs.declared.answers.HeldAnswer.TheVariants as H
 use Rattle.steps.specs.declared.answers.MoveAnswer.TheVariants as M
 use Rattle.steps.specs.InBytes.{system_in, bound_in}
 use Rattle.steps.specs.Answers.{result_of, held_answer, status_answer, move_answer}
-use Rattle.steps.proofs.Holding.{condition_troubles}
 use Rattle.steps.proofs.Promises.{bound_troubles}
-use Rattle.steps.proofs.Trials.{one_troubles, number_troubles, result_troubles}
+use Rattle.steps.proofs.Trials.{one_troubles, result_troubles}
 use Rattle.steps.proofs.Following.{no_status_lem, is_before, is_after}
 
 -- n is the number of the trouble
@@ -32,18 +28,7 @@ abbrev pub Numbers : Trouble → ℕ → Type 0
 Numbers t n = (k : ℕ) → PlanTrouble k → t ≡ named k → n ≡ k
 
 module _ (bytes : List ℕ) (s : State) {t : Trouble} {n : ℕ} where
-  pub number_numbered : (x : Number) (used : ℕ) → number_answer (number_value range_end (model_of bytes).tables x s) used ≡ Err t → Numbers t n
-      → number_value range_end (model_of bytes).tables x s ≡ trouble n
-  number_numbered x used e numbers =
-      let p = number_troubles (number_value range_end (model_of bytes).tables x s) used e in
-      p.1 ∙ ap (λ (k : ℕ). trouble k) (sym (numbers p.0 (of_state (number_trouble range_end (model_of bytes).tables x s p.1)) p.2))
-
-  pub condition_numbered : (c : Condition) (used : ℕ) → stopped (condition_answer (condition_value range_end (model_of bytes).tables c s) used) ≡ C.Trouble t → Numbers t n
-      → condition_value range_end (model_of bytes).tables c s ≡ trouble n
-  condition_numbered c used e numbers =
-      let p = condition_troubles (condition_value range_end (model_of bytes).tables c s) used e in
-      p.1 ∙ ap (λ (k : ℕ). trouble k) (sym (numbers p.0 (of_state (condition_trouble range_end (model_of bytes).tables c s p.1)) p.2))
-
+  -- of one number and of one condition eval_sets' number_trouble_kept and eval_tests' test_trouble_kept say it
   pub held_numbered : (cs : List Condition) (next : ℕ) → held_answer (all_hold range_end (model_of bytes).tables cs s) next ≡ H.Trouble t → Numbers t n
       → all_hold range_end (model_of bytes).tables cs s ≡ trouble n
   held_numbered cs next e numbers =
